@@ -27,9 +27,9 @@ use Rattle.oram_core.specs.Formatting.{IsNew}
 use Rattle.oram_client.specs.declared.faults.FormattingFault.{FormattingFault}
 use Rattle.oram_client.specs.declared.identity.TheConstants.{IDENTITY_TREE}
 use Rattle.oram_client.specs.declared.refusals.Refusal.{Refusal}
-use Rattle.oram_client.specs.Ahead.{ToHost, ArePut, AreTaken, IsAsked, IsDrained, IsPut, IsStopped, IsUnput, dones}
+use Rattle.oram_client.specs.Ahead.{ToHost, ArePut, AreTaken, HasAnswer, IsDrained, IsPut, IsStopped, IsUnput, dones}
 use Rattle.oram_client.specs.Formatting.{Collects, AreGenuine, AreSeen, AreTreesMade, AreTreesMadeInPart, IsFormattedAhead, IsUnheld, IsUnseen, fetches, paths}
-use Rattle.oram_client.specs.Faults.{format_told, sink_told}
+use Rattle.oram_client.specs.Faults.{trees_fault, formatting_fault}
 use Rattle.oram_client.specs.Identity.{identity_messages}
 use Rattle.oram_client.proofs.Answered.{dones_more, puts_all}
 
@@ -64,7 +64,7 @@ genuine_more v s n answers records d overhead root count before accepted device 
 
 -- A fault of the connection becomes the same fault of the formatting, through whichever layer it
 -- comes.
-told_once : (read : Option Refusal) (why : SinkFault) → format_told read (format_fault why) ≡ sink_told read why
+told_once : (read : Option Refusal) (why : SinkFault) → trees_fault read (format_fault why) ≡ formatting_fault read why
 told_once read sink.Refused = refl
 told_once read sink.Link = refl
 told_once read sink.OutOfMemory = refl
@@ -82,7 +82,7 @@ module _ {R W : Type 0} (remaining : R → Option (List ℕ)) (contents : W → 
 
   -- a genuine path of one more tree
   pub seen_more : (v : Scheme) (s : State) (n : ℕ) (a b c : ToHost R W) (records : List ℕ) (d : Sizes) (overhead : ℕ) (root : List ℕ) → AreSeen remaining contents v s n a b
-      → IsAsked remaining contents b (fetch_body n 0) (128 ∷ records) c → IsAccepted (path_of d n 0 overhead records) root
+      → HasAnswer remaining contents b (fetch_body n 0) (128 ∷ records) c → IsAccepted (path_of d n 0 overhead records) root
       → d ≡ v.device → overhead ≡ v.cipher.overhead → root ≡ (slice_index_or s.trees n no_tree).root → AreSeen remaining contents v s (n + 1) a c
   seen_more v s n a b c records d overhead root seen asked accepted device over stands = record {
     answers = seen.answers ++ records ∷ [];
@@ -149,7 +149,7 @@ module _ {R W : Type 0} (remaining : R → Option (List ℕ)) (contents : W → 
 
   -- The formatting was broken off while messages were put,
   pub unmade : (v : Scheme) (a : ToHost R W) (fault : FormatFault) (b : ToHost R W) → IsBrokenOff (IsPut remaining contents) (IsUnput remaining contents) (IsFormatBegun v) a fault b
-      → AreTreesMadeInPart remaining contents v a (format_told b.refusal fault) b
+      → AreTreesMadeInPart remaining contents v a (trees_fault b.refusal fault) b
   unmade v a fault b h = record {
     messages = h.taken;
     mid = h.mid;
@@ -157,15 +157,15 @@ module _ {R W : Type 0} (remaining : R → Option (List ℕ)) (contents : W → 
     ended = inl (
       h.begun,
       elim h.ended [
-        | inl e ↦ inl (ap (format_told b.refusal) e.0, e.1)
-        | inr r ↦ inr (r.body, r.why, r.begun, r.refused, ap (format_told b.refusal) r.told ∙ told_once b.refusal r.why)
+        | inl e ↦ inl (ap (trees_fault b.refusal) e.0, e.1)
+        | inr r ↦ inr (r.body, r.why, r.begun, r.refused, ap (trees_fault b.refusal) r.told ∙ told_once b.refusal r.why)
       ],
     );
   }
 
   -- or while answers were read,
   pub unsettled : (v : Scheme) (a b c : ToHost R W) (s : State) (why : SinkFault) → IsNew v (IsPut remaining contents) a s b → IsStopped remaining contents b b.due why c
-      → AreTreesMadeInPart remaining contents v a (sink_told c.refusal why) c
+      → AreTreesMadeInPart remaining contents v a (formatting_fault c.refusal why) c
   unsettled v a b c s why new stopped =
       let made = made_ahead v a s b new in
       record { messages = made.0; mid = b; put = made.2; ended = inr (s, made.1, inl (why, stopped, refl)) }
@@ -180,7 +180,7 @@ module _ {R W : Type 0} (remaining : R → Option (List ℕ)) (contents : W → 
 
   -- The identity was put, the trees were made, and the host gave back the identity.
   pub formatted_ahead : (v : Scheme) (identity : List ℕ) (a b c d : ToHost R W) (s : State) → AreTaken remaining contents a (identity_messages identity) b → AreTreesMade remaining contents v b s c
-      → IsAsked remaining contents c (fetch_body IDENTITY_TREE 0) (128 ∷ identity) d → IsFormattedAhead remaining contents v identity a s d
+      → HasAnswer remaining contents c (fetch_body IDENTITY_TREE 0) (128 ∷ identity) d → IsFormattedAhead remaining contents v identity a s d
   formatted_ahead v identity a b c d s named made asked =
       let ids = identity_messages identity in
       let asking = frame (fetch_body IDENTITY_TREE 0) in

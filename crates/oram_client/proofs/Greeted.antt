@@ -4,7 +4,7 @@ use Rattle.std.specs.Global.{Vec}
 use Rattle.oram_session.specs.declared.link.LinkFault.{LinkFault}
 use Rattle.oram_link_laws.specs.Runs.{Exchange}
 use Rattle.oram_rounds.specs.Batches.{BatchOutcome, texts}
-use Rattle.oram_client.specs.Dialer.{Asks, IsUngreeted, IsUngreetedOver, Shows, greeting}
+use Rattle.oram_client.specs.Dialer.{IsUngreeted, IsUngreetedOver, SendsGreeting, Shows, greeting}
 use Rattle.oram_client.specs.StreamBatches.{Connection, StreamBatch, connection}
 use Rattle.oram_client.specs.declared.dialer.Trouble.{Trouble}
 use Rattle.oram_client.specs.declared.dialer.Trouble.TheVariants.{OutOfReach}
@@ -19,7 +19,7 @@ module _ {S : Type 0} (remaining contents : S → Option (List ℕ)) where
   -- The host was asked.
   pub asked : (reader writer : S) (before line : Connection S S) (bodies : List (List ℕ)) (outcome : BatchOutcome) (exchanges : List Exchange)
       → before ≡ connection reader writer → bodies ≡ greeting ∷ [] → StreamBatch remaining contents before bodies outcome exchanges line
-      → Asks remaining contents reader writer outcome exchanges line
+      → SendsGreeting remaining contents reader writer outcome exchanges line
   asked reader writer before line bodies outcome exchanges is greets called =
       subst (λ (b : Connection S S). StreamBatch remaining contents b (greeting ∷ []) outcome exchanges line) is
       (subst (λ (ms : List (List ℕ)). StreamBatch remaining contents before ms outcome exchanges line) greets called)

@@ -1,5 +1,5 @@
 -- The next process reads what was kept.
-use Rattle.std.proofs.Common.{◌≡◌, inl, inr, refl, ℕ, ◌<◌, ◌^◌, arith, Bool, true, false, List, [], ◌∷◌, ◌++◌, length, Option, Some, sym, ◌∙◌, ap, subst, codes, take, drop, slice_index}
+use Rattle.std.proofs.Common.{◌≡◌, inl, inr, refl, ℕ, ◌<◌, ◌^◌, arith, Bool, true, false, List, [], ◌∷◌, ◌++◌, length, Option, None, Some, sym, ◌∙◌, ap, subst, codes, take, drop, slice_index}
 use Rattle.std.specs.Prelude.{◌↔◌}
 use Rattle.std.proofs.lemmas.List.{append_cancel_left, drop_at, take_at}
 use Rattle.oram_link_laws.specs.Examples.{new_core, one_block}
@@ -14,9 +14,9 @@ use Rattle.oram_client.specs.DeedHistory.{PlaceNote, IsPossible, possible_after,
 use Rattle.oram_client.specs.FileKeeper.{FileKeeperState, KeepsFile, MayReadBack}
 use Rattle.oram_client.specs.FilePlace.{FilePlaceState, NotesDeed, NotesFound, PlaceMayBe}
 use Rattle.oram_client.specs.KeptFile.{IsHead, IsOlder, behind_letters, kept_file, sealer_byte}
-use Rattle.oram_client.specs.NextProcess.{FoundBegins, FoundIsReadBack, KeptDisk, KeptIsFound, KeptOutlastsLoss, NextProcessExample, TellsOf, TellsOnlyOf, UnkeptLeavesOne, UnkeptMayBeFound, empty_place, first_keeper, having_kept, new_disk, noting, place_with, some_head}
-use Rattle.oram_client.specs.PowerLoss.{FolderHistory, FoldersAfter, names_now}
-use Rattle.oram_client.specs.Replacement.{FileDeed, Writes, Renames, SyncsFolder, Clears, found}
+use Rattle.oram_client.specs.NextProcess.{FoundBegins, FoundIsReadBack, FoundMayBeLost, KeptDisk, KeptIsFound, KeptOutlastsLoss, NextProcessExample, TellsOf, TellsOnlyOf, UnkeptLeavesOne, UnkeptMayBeFound, empty_place, first_keeper, having_kept, new_disk, noting, place_with, some_head}
+use Rattle.oram_client.specs.PowerLoss.{FolderHistory, FoldersAfter, IsLeftByLoss, names_now}
+use Rattle.oram_client.specs.Replacement.{FileDeed, Names, Writes, Renames, SyncsFolder, Clears, found}
 use Rattle.oram_client.proofs.ReadBack.{either_lasting, found_kept, found_unkept, lasting, only_process}
 
 -- the parts of two equal lists whose first parts are equally long
@@ -35,7 +35,7 @@ same_sealer ChaCha20 ChaCha20 e = refl
 -- a kept file has one head and one process
 one_head : (h g : Head) (p q : List ℕ) → IsHead h → IsHead g → kept_file h p ≡ kept_file g q → (h ≡ g) × (p ≡ q)
 one_head h g p q is are e =
-    let behind : behind_letters h p ≡ behind_letters g q = append_cancel_left (codes "VIDLAQE3") (behind_letters h p) (behind_letters g q) e in
+    let behind : behind_letters h p ≡ behind_letters g q = append_cancel_left (codes "VIDLAQE4") (behind_letters h p) (behind_letters g q) e in
     let salt = cut h.salt.0 g.salt.0 (h.key_check.0 ++ sealer_byte h.sealer ∷ p) (g.key_check.0 ++ sealer_byte g.sealer ∷ q) (is.salt ∙ sym are.salt) behind in
     let check = cut h.key_check.0 g.key_check.0 (sealer_byte h.sealer ∷ p) (sealer_byte g.sealer ∷ q) (is.key_check ∙ sym are.key_check) salt.1 in
     let byte : sealer_byte h.sealer ≡ sealer_byte g.sealer = ap (λ (l : List ℕ). slice_index l 0) check.1 in
@@ -46,8 +46,9 @@ one_head h g p q is are e =
 
 -- its letters are those of the newest format
 not_older : (h : Head) (p : List ℕ) → IsOlder (kept_file h p) → ⊥
-not_older h p (inl (rest, e)) = let letter : 51 ≡ 49 = ap (λ (l : List ℕ). slice_index l 7) e in omega (arith, letter)
-not_older h p (inr (rest, e)) = let letter : 51 ≡ 50 = ap (λ (l : List ℕ). slice_index l 7) e in omega (arith, letter)
+not_older h p (inl (rest, e)) = let letter : 52 ≡ 49 = ap (λ (l : List ℕ). slice_index l 7) e in omega (arith, letter)
+not_older h p (inr (inl (rest, e))) = let letter : 52 ≡ 50 = ap (λ (l : List ℕ). slice_index l 7) e in omega (arith, letter)
+not_older h p (inr (inr (rest, e))) = let letter : 52 ≡ 51 = ap (λ (l : List ℕ). slice_index l 7) e in omega (arith, letter)
 
 one_disk : (disk other : KeptDisk) (file : List ℕ) → TellsOf file disk → other.overhead ≡ disk.overhead → TellsOf file other → other ≡ disk
 one_disk disk other file t overhead u =
@@ -119,6 +120,24 @@ found_begins B p q head sync bytes notes v stores core inner file =
       (λ may_lie host before array k stores_are core_is.
           begun_is_safe B (MayReadBack PlaceMayBe) may_lie v inner stores core (first_keeper q head sync) bytes host before array k stores_are core_is only),
     )
+
+-- a file that isn't known to be synced, and a folder without files, which a loss of power may leave of it
+
+abbrev unsynced : List ℕ → FolderHistory
+unsynced file = record { now = record { kept = Some (record { synced = false; bytes = file }); fresh = None; aside = None }; before = [] }
+
+abbrev no_files : Names
+no_files = record { kept = None; fresh = None; aside = None }
+
+unsynced_lost : (file : List ℕ) → IsLeftByLoss (unsynced file) no_files
+unsynced_lost file = record { kept = inl tt; fresh = inl refl; aside = inl refl }
+
+pub found_may_be_lost : FoundMayBeLost
+found_may_be_lost p q head sync bytes notes lasts =
+    let file : List ℕ = kept_file head bytes in
+    let there : found (names_now (unsynced file)) ≡ Some file = refl in
+    let possible : PlaceMayBe q (unsynced file) = subst (λ (l : List PlaceNote). IsPossible l (unsynced file)) (sym notes.noted) there in
+    absurd (let none : None ≡ Some file = lasts (unsynced file) possible no_files (unsynced_lost file) in cc)
 
 -- the example
 

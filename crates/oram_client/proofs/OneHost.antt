@@ -10,7 +10,7 @@ use Rattle.oram_link_laws.proofs.Exchanged.{folds_join, folds_split}
 use Rattle.oram_rounds.specs.Batches.{BatchOutcome, IsBatch, answered}
 use Rattle.oram_rounds.specs.CatchUp.{IsPlainCall, PlainRun}
 use Rattle.oram_client.specs.OneHost.{AnswersAreTheHosts, AreTries, ExchangesAreOfTheTries, FaultsAreOfMemory, TriesRun}
-use Rattle.oram_client.specs.Reconnect.{Attempt, IsDelayed, IsTried, IsTroubleIn, MakesTries, IsGivenUp, ReconnectState, VainTry, Waiting, link_outcome}
+use Rattle.oram_client.specs.Reconnect.{Attempt, IsDelayed, IsTried, IsTroubleIn, MakesTries, IsGivenUp, ReconnectState, VainTry, NextTry, link_outcome}
 use Rattle.oram_session.specs.declared.link.LinkFault.{LinkFault}
 use Rattle.oram_session.specs.declared.link.LinkFault.TheVariants.{Io, Closed, TooLong, TooLarge, OutOfMemory}
 use Rattle.oram_client.specs.Dialer.{fault_of, lacks_memory}
@@ -82,7 +82,7 @@ module _ {D L : Type 0} (opens : D → Limits → L → D → Type 0) (fails : D
   tries_more bodies [] second one two = two
   tries_more bodies (xs ∷ first) second one two = (one.0, tries_more bodies first second one.1 two)
 
-  vain_tries : (reconnect_timeout : ℕ) (begin : Option ℕ) (bodies : List (List ℕ)) (w x : Waiting D L) (vain : List VainTry)
+  vain_tries : (reconnect_timeout : ℕ) (begin : Option ℕ) (bodies : List (List ℕ)) (w x : NextTry D L) (vain : List VainTry)
       → FoldsTo (IsDelayed opens fails pauses reads batches reconnect_timeout begin bodies) w vain x → AreTries batches bodies (lists_of vain)
   vain_tries reconnect_timeout begin bodies w x [] folds = tt
   vain_tries reconnect_timeout begin bodies w x (v ∷ vain) folds =
@@ -95,7 +95,7 @@ module _ {D L : Type 0} (opens : D → Limits → L → D → Type 0) (fails : D
   Divided bodies exchanges = (tries : List (List Exchange)) × AreTries batches bodies tries × (exchanges ≡ flat_map (λ (xs : List Exchange). xs) tries)
 
   divided : (gave_up : Option Trouble) (l m : ReconnectState D L) (bodies : List (List ℕ)) (o : BatchOutcome) (exchanges : List Exchange)
-      → MatchOption gave_up (MakesTries opens fails pauses reads batches l bodies o exchanges m.dialer m.line m.trouble) (λ why. IsGivenUp opens fails pauses reads batches l o exchanges m.dialer m.line m.trouble)
+      → MatchOption gave_up (MakesTries opens fails pauses reads batches l bodies o exchanges m) (λ why. IsGivenUp opens fails pauses reads batches l o exchanges m)
       → Divided bodies exchanges
   divided None l m bodies o exchanges h = (
     lists_of h.vain ++ h.heard ∷ [],
@@ -124,8 +124,8 @@ module _ {D L : Type 0} (opens : D → Limits → L → D → Type 0) (fails : D
   with_room (Err why) answers trouble says shows none = cc
 
   roomy : (gave_up : Option Trouble) (l m : ReconnectState D L) (bodies answers : List (List ℕ)) (exchanges : List Exchange)
-      → MatchOption gave_up (MakesTries opens fails pauses reads batches l bodies (Ok answers) exchanges m.dialer m.line m.trouble)
-      (λ why. IsGivenUp opens fails pauses reads batches l (Ok answers) exchanges m.dialer m.line m.trouble)
+      → MatchOption gave_up (MakesTries opens fails pauses reads batches l bodies (Ok answers) exchanges m)
+      (λ why. IsGivenUp opens fails pauses reads batches l (Ok answers) exchanges m)
       → m.trouble ≡ None → ¬ IsAmong no_room_answer answers
   roomy None l m bodies answers exchanges h none = with_room h.came answers m.trouble h.says h.shows none
   roomy (Some why) l m bodies answers exchanges h none = let says = h.says in cc
@@ -137,8 +137,8 @@ module _ {D L : Type 0} (opens : D → Limits → L → D → Type 0) (fails : D
       (batch.1, batch.2, folds_split {P = Host} {A = Exchange} (Calls may_lie v) host after batch.1 (answered bodies answers) whole, roomy l.trouble l m bodies answers exchanges h.passed)
 
   faulty : (gave_up : Option Trouble) (l m : ReconnectState D L) (bodies : List (List ℕ)) (fault : LinkFault) (exchanges : List Exchange)
-      → MatchOption gave_up (MakesTries opens fails pauses reads batches l bodies (Err fault) exchanges m.dialer m.line m.trouble)
-      (λ why. IsGivenUp opens fails pauses reads batches l (Err fault) exchanges m.dialer m.line m.trouble)
+      → MatchOption gave_up (MakesTries opens fails pauses reads batches l bodies (Err fault) exchanges m)
+      (λ why. IsGivenUp opens fails pauses reads batches l (Err fault) exchanges m)
       → gave_up ≡ None → m.trouble ≡ None → fault ≡ OutOfMemory
   faulty None l m bodies fault exchanges h begun none = unretried h.came fault m.trouble h.says h.shows none
   faulty (Some why) l m bodies fault exchanges h begun none = cc

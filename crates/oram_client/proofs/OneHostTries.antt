@@ -8,7 +8,7 @@ use Rattle.oram_link_laws.proofs.Exchanged.{folds_join}
 use Rattle.oram_rounds.specs.Batches.{BatchOutcome}
 use Rattle.oram_rounds.specs.CatchUp.{IsPlainCall, PlainRun}
 use Rattle.oram_client.specs.OneHost.{ExchangesAreOfOneHost, LeadToOneHost}
-use Rattle.oram_client.specs.Reconnect.{Attempt, HasLine, IsDelayed, IsGivenUp, IsTimedOut, IsTried, MakesTries, ReconnectState, VainTry, Waiting}
+use Rattle.oram_client.specs.Reconnect.{Attempt, HasLine, IsDelayed, IsGivenUp, IsTimedOut, IsTried, MakesTries, ReconnectState, VainTry, NextTry}
 use Rattle.oram_client.specs.declared.dialer.Limits.{Limits}
 use Rattle.oram_client.specs.declared.dialer.Trouble.{Trouble}
 use Rattle.oram_client.specs.declared.dialer.Trouble.TheVariants.{OutOfReach}
@@ -64,10 +64,10 @@ module _ {D L : Type 0} (opens : D → Limits → L → D → Type 0) (fails : D
   joined : (first second : List Exchange) (host mid after : Host) → PlainRun may_lie v host first mid → PlainRun may_lie v mid second after → PlainRun may_lie v host (first ++ second) after
   joined first second host mid after one two = folds_join {P = Host} {A = Exchange} Calls host mid after first second one two
 
-  tries_before : (reconnect_timeout : ℕ) (begin : Option ℕ) (w x : Waiting D L) (vain : List VainTry) (host : Host) → host_of w.dialer w.line ≡ Some host
+  tries_before : (reconnect_timeout : ℕ) (begin : Option ℕ) (w x : NextTry D L) (vain : List VainTry) (host : Host) → host_of w.dialer w.line ≡ Some host
       → FoldsTo (IsDelayed opens fails pauses reads batches reconnect_timeout begin bodies) w vain x
       → Reached host (flat_map (λ (u : VainTry). u.exchanges) vain) x.dialer x.line
-  tries_before reconnect_timeout begin w x [] host is folds = (host, refl, subst (λ (y : Waiting D L). host_of y.dialer y.line ≡ Some host) folds is)
+  tries_before reconnect_timeout begin w x [] host is folds = (host, refl, subst (λ (y : NextTry D L). host_of y.dialer y.line ≡ Some host) folds is)
   tries_before reconnect_timeout begin w x (u ∷ vain) host is folds =
       let next = folds.0 in
       let one = folds.1 in
@@ -83,7 +83,7 @@ module _ {D L : Type 0} (opens : D → Limits → L → D → Type 0) (fails : D
   ended (Some why) reconnect_timeout left begin mid dialer line host is ends = law.clock_read mid dialer line ends.now host is ends.read
 
   passed : (gave_up : Option Trouble) (l m : ReconnectState D L) (o : BatchOutcome) (exchanges : List Exchange) (host : Host) → host_of l.dialer l.line ≡ Some host
-      → MatchOption gave_up (MakesTries opens fails pauses reads batches l bodies o exchanges m.dialer m.line m.trouble) (λ why. IsGivenUp opens fails pauses reads batches l o exchanges m.dialer m.line m.trouble)
+      → MatchOption gave_up (MakesTries opens fails pauses reads batches l bodies o exchanges m) (λ why. IsGivenUp opens fails pauses reads batches l o exchanges m)
       → Reached host exchanges m.dialer m.line
   passed None l m o exchanges host is h =
       let begun : host_of h.first l.line ≡ Some host = law.clock_read l.dialer h.first l.line h.begin host is h.read in

@@ -7,14 +7,14 @@ use Rattle.oram_link_laws.specs.Runs.{Exchange}
 use Rattle.oram_rounds.specs.Batches.{BatchOutcome}
 use Rattle.oram_client.specs.declared.dialer.Limits.{Limits}
 use Rattle.oram_client.specs.declared.dialer.Trouble.{Trouble}
-use Rattle.oram_client.specs.Reconnect.{Attempt, IsDelayed, IsPaused, IsTimedOut, IsTried, IsTroubleIn, MakesTries, ReconnectState, VainTry, Waiting, first_pause, limits, link_outcome}
+use Rattle.oram_client.specs.Reconnect.{Attempt, IsDelayed, IsPaused, IsTimedOut, IsTried, IsTroubleIn, MakesTries, ReconnectState, VainTry, NextTry, first_pause, limits, link_outcome}
 
 module _ {D L : Type 0} (opens : D → Limits → L → D → Type 0) (fails : D → Limits → Trouble → D → Type 0) (pauses : D → ℕ → D → Type 0)
     (reads : D → Option ℕ → D → Type 0) (batches : L → List (List ℕ) → BatchOutcome → List Exchange → L → Type 0) where
   -- the tries so far
   abbrev pub Delayed : ℕ → Option ℕ → List (List ℕ) → D → Option L → D → Option L → ℕ → ℕ → Type 0
   Delayed reconnect_timeout begin bodies first line now now_line pause left =
-      (vain : List VainTry) × FoldsTo {P = Waiting D L} (IsDelayed opens fails pauses reads batches reconnect_timeout begin bodies)
+      (vain : List VainTry) × FoldsTo {P = NextTry D L} (IsDelayed opens fails pauses reads batches reconnect_timeout begin bodies)
       (record { dialer = first; line = line; pause = first_pause; left = reconnect_timeout }) vain (record { dialer = now; line = now_line; pause = pause; left = left })
 
   -- no tries yet
@@ -63,7 +63,7 @@ module _ {D L : Type 0} (opens : D → Limits → L → D → Type 0) (fails : D
   pub answered_behind : (begin : Option ℕ) (bodies : List (List ℕ)) (first : D) (l a b m : ReconnectState D L) (pause left : ℕ) (came : Attempt) (heard : List Exchange) (outcome : BatchOutcome)
       → reads l.dialer begin first → Delayed l.reconnect_timeout begin bodies first l.line a.dialer a.line pause left → a.reconnect_timeout ≡ l.reconnect_timeout → a.trouble ≡ None
       → IsTried opens fails batches a.dialer a.line (limits a.reconnect_timeout left) bodies came heard b.dialer b.line → b ≡ record a { dialer = b.dialer; line = b.line }
-      → IsTroubleIn came None → m ≡ b → outcome ≡ link_outcome came → (exchanges : List Exchange) × MakesTries opens fails pauses reads batches l bodies outcome exchanges m.dialer m.line m.trouble
+      → IsTroubleIn came None → m ≡ b → outcome ≡ link_outcome came → (exchanges : List Exchange) × MakesTries opens fails pauses reads batches l bodies outcome exchanges m
   answered_behind begin bodies first l a b m pause left came heard outcome read (vain, before) whole none tried after shows told_of says =
       let none_here : m.trouble ≡ None = ap (λ (p : ReconnectState D L). p.trouble) told_of ∙ ap (λ (p : ReconnectState D L). p.trouble) after ∙ none in (
         flat_map (λ (v : VainTry). v.exchanges) vain ++ heard,
@@ -94,7 +94,7 @@ module _ {D L : Type 0} (opens : D → Limits → L → D → Type 0) (fails : D
       → reads l.dialer begin first → Delayed l.reconnect_timeout begin bodies first l.line a.dialer a.line pause left → a.reconnect_timeout ≡ l.reconnect_timeout
       → IsTried opens fails batches a.dialer a.line (limits a.reconnect_timeout left) bodies came heard b.dialer b.line → b ≡ record a { dialer = b.dialer; line = b.line }
       → IsTroubleIn came (Some trouble) → t ≡ b → IsTimedOut pauses reads t.reconnect_timeout begin t.dialer left trouble w.dialer → w ≡ record t { dialer = w.dialer }
-      → m ≡ record w { trouble = Some trouble } → outcome ≡ link_outcome came → (exchanges : List Exchange) × MakesTries opens fails pauses reads batches l bodies outcome exchanges m.dialer m.line m.trouble
+      → m ≡ record w { trouble = Some trouble } → outcome ≡ link_outcome came → (exchanges : List Exchange) × MakesTries opens fails pauses reads batches l bodies outcome exchanges m
   given_up_behind begin bodies first l a b t w m pause left came heard trouble outcome read (vain, before) whole tried after shows told_of used later is says =
       let used_here : IsTimedOut pauses reads l.reconnect_timeout begin b.dialer left trouble m.dialer =
       subst (λ (d : D). IsTimedOut pauses reads l.reconnect_timeout begin b.dialer left trouble d) (ap (λ (p : ReconnectState D L). p.dialer) (sym is))

@@ -48,7 +48,7 @@ pub record GivesOther (old new : Option (List ℕ)) (refusal : Option Refusal) (
   pub meaning : Refusal
   pub means : Means answer meaning
   pub kept : refusal ≡ Some meaning
-  pub told : fault ≡ Refused
+  pub reported : fault ≡ Refused
 
 -- for readers and writers whose bytes `remaining` and `contents` give
 module _ {R W : Type 0} (remaining : R → Option (List ℕ)) (contents : W → Option (List ℕ)) where
@@ -83,7 +83,7 @@ module _ {R W : Type 0} (remaining : R → Option (List ℕ)) (contents : W → 
     pub due : b.due ≡ a.due
     pub wrote : ((LONGEST_BODY < length body) × (b.writer ≡ a.writer)) ⊎ TakesPart (contents a.writer) (contents b.writer) (frame body)
     pub unread : b.reader ≡ a.reader
-    pub told : fault ≡ Link
+    pub reported : fault ≡ Link
 
   -- A message wasn't put. Either the most answers were due, and reading half of them stopped; or the message wasn't
   -- written, perhaps after some answers were read.
@@ -92,7 +92,7 @@ module _ {R W : Type 0} (remaining : R → Option (List ℕ)) (contents : W → 
       ((a.due ≡ most_due) × IsStopped a 128 fault b) ⊎ ((count : ℕ) × (mid : ToHost R W) × IsDrained a count mid × IsUnsent mid body fault b)
 
   -- A message was written, and this answer to it was read.
-  pub record IsAsked (a : ToHost R W) (body answer : List ℕ) (b : ToHost R W) : Type 0 where
+  pub record HasAnswer (a : ToHost R W) (body answer : List ℕ) (b : ToHost R W) : Type 0 where
     pub due : b.due ≡ a.due
     pub wrote : Appends (contents a.writer) (contents b.writer) (frame body)
     pub read : Consumes (remaining a.reader) (remaining b.reader) (frame answer)
@@ -104,8 +104,8 @@ module _ {R W : Type 0} (remaining : R → Option (List ℕ)) (contents : W → 
     pub read : GivesNone (remaining a.reader) (remaining b.reader) fault
 
   -- A message wasn't written, or not answered.
-  abbrev pub IsUnasked : ToHost R W → List ℕ → SinkFault → ToHost R W → Type 0
-  IsUnasked a body fault b = IsUnsent a body fault b ⊎ IsUnanswered a body fault b
+  abbrev pub HasNoAnswer : ToHost R W → List ℕ → SinkFault → ToHost R W → Type 0
+  HasNoAnswer a body fault b = IsUnsent a body fault b ⊎ IsUnanswered a body fault b
 
   -- Messages were written one after another, and meanwhile `count` answers were read, each that the host is done.
   pub record ArePut (a : ToHost R W) (bodies : List (List ℕ)) (b : ToHost R W) : Type 0 where

@@ -12,7 +12,7 @@ use Rattle.oram_client.specs.Dialer.{fault_of}
 use Rattle.oram_client.specs.declared.dialer.Limits.{Limits}
 use Rattle.oram_client.specs.declared.dialer.Trouble.{Trouble}
 use Rattle.oram_client.specs.declared.dialer.Trouble.TheVariants.{OutOfReach}
-use Rattle.oram_client.specs.Reconnect.{Attempt, IsDelayed, IsGivenUp, IsTried, MakesTries, ReconnectBatch, ReconnectState, VainTry, Waiting, link_outcome}
+use Rattle.oram_client.specs.Reconnect.{Attempt, IsDelayed, IsGivenUp, IsTried, MakesTries, ReconnectBatch, ReconnectState, VainTry, NextTry, link_outcome}
 use Rattle.oram_client.specs.StreamBatches.{Carries, Connection, IsClosed, StreamBatch, cut_short}
 
 -- the messages of two lists of exchanges
@@ -68,7 +68,7 @@ module _ {D L : Type 0} (opens : D → Limits → L → D → Type 0) (fails : D
       batch_among bodies called.outcome exchanges (law called.way called.way' bodies called.outcome exchanges called.called)
 
   -- the messages of all tries that failed
-  pub vain_among : (reconnect_timeout : ℕ) (begin : Option ℕ) (bodies : List (List ℕ)) (w x : Waiting D L) (vain : List VainTry)
+  pub vain_among : (reconnect_timeout : ℕ) (begin : Option ℕ) (bodies : List (List ℕ)) (w x : NextTry D L) (vain : List VainTry)
       → FoldsTo (IsDelayed opens fails pauses reads batches reconnect_timeout begin bodies) w vain x → AreAmong (bodies_of (flat_map (λ v. v.exchanges) vain)) bodies
   vain_among reconnect_timeout begin bodies w x [] folds = tt
   vain_among reconnect_timeout begin bodies w x (v ∷ vain) folds =
@@ -94,9 +94,9 @@ module _ {D L : Type 0} (opens : D → Limits → L → D → Type 0) (fails : D
       let fault_is : o ≡ Err fault = says ∙ ap link_outcome after.0 in
       faulty bodies o fault exchanges (before ++ heard) fault_is all (among_both bodies before heard among batch)
 
-  made : (l : ReconnectState D L) (bodies : List (List ℕ)) (o : BatchOutcome) (exchanges : List Exchange) (dialer : D) (line : Option L) (trouble : Option Trouble)
-      → MakesTries opens fails pauses reads batches l bodies o exchanges dialer line trouble → IsBatch bodies o exchanges
-  made l bodies o exchanges dialer line trouble h =
+  made : (l m : ReconnectState D L) (bodies : List (List ℕ)) (o : BatchOutcome) (exchanges : List Exchange)
+      → MakesTries opens fails pauses reads batches l bodies o exchanges m → IsBatch bodies o exchanges
+  made l m bodies o exchanges h =
       let before = flat_map (λ (v : VainTry). v.exchanges) h.vain in
       let among : AreAmong (bodies_of before) bodies = vain_among l.reconnect_timeout h.begin bodies _ h.last h.vain h.delays in
       elim h.tried [
@@ -104,14 +104,14 @@ module _ {D L : Type 0} (opens : D → Limits → L → D → Type 0) (fails : D
             faulty bodies o (fault_of unopened.why) exchanges (before ++ h.heard) (h.says ∙ ap link_outcome unopened.says) h.all
             (among_both bodies before h.heard among (subst (λ (es : List Exchange). AreAmong (bodies_of es) bodies) (sym unopened.unsent) tt))
         | inr called ↦
-            last_try bodies o called.outcome h.came before h.heard exchanges line called.way' among
+            last_try bodies o called.outcome h.came before h.heard exchanges m.line called.way' among
             (law called.way called.way' bodies called.outcome h.heard called.called) called.after h.says h.all
       ]
 
   passed : (gave_up : Option Trouble) (l m : ReconnectState D L) (bodies : List (List ℕ)) (o : BatchOutcome) (exchanges : List Exchange)
-      → MatchOption gave_up (MakesTries opens fails pauses reads batches l bodies o exchanges m.dialer m.line m.trouble) (λ why. IsGivenUp opens fails pauses reads batches l o exchanges m.dialer m.line m.trouble)
+      → MatchOption gave_up (MakesTries opens fails pauses reads batches l bodies o exchanges m) (λ why. IsGivenUp opens fails pauses reads batches l o exchanges m)
       → IsBatch bodies o exchanges
-  passed None l m bodies o exchanges h = made l bodies o exchanges m.dialer m.line m.trouble h
+  passed None l m bodies o exchanges h = made l m bodies o exchanges h
   passed (Some why) l m bodies o exchanges h = faulty bodies o Closed exchanges [] h.says h.unsent tt
 
   -- A batch over a link that tries again has the exchanges of a batch: those of its earlier tries may have come to anything.

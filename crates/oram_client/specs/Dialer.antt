@@ -21,9 +21,9 @@ may_pass AnotherDisk = false
 may_pass NoDisk = false
 
 -- the trouble for a socket that can't be used
-abbrev pub socket_told : SocketFault → Trouble
-socket_told socket.Failed = OutOfReach Io
-socket_told socket.OutOfMemory = OutOfReach OutOfMemory
+abbrev pub socket_trouble : SocketFault → Trouble
+socket_trouble socket.Failed = OutOfReach Io
+socket_trouble socket.OutOfMemory = OutOfReach OutOfMemory
 
 -- whether it is only that this program has no memory for what it sends or receives
 abbrev pub lacks_memory : Trouble → Bool
@@ -70,18 +70,18 @@ Shows identity answer NoDisk = (rest : List ℕ) × (answer ≡ 129 ∷ rest) ×
 -- for streams whose bytes `remaining` and `contents` give
 module _ {S : Type 0} (remaining contents : S → Option (List ℕ)) where
   -- The first batch over a connection is the greeting alone.
-  abbrev pub Asks : S → S → BatchOutcome → List Exchange → Connection S S → Type 0
-  Asks reader writer outcome exchanges line = StreamBatch remaining contents (connection reader writer) (greeting ∷ []) outcome exchanges line
+  abbrev pub SendsGreeting : S → S → BatchOutcome → List Exchange → Connection S S → Type 0
+  SendsGreeting reader writer outcome exchanges line = StreamBatch remaining contents (connection reader writer) (greeting ∷ []) outcome exchanges line
 
   -- The host answered with this identity.
   abbrev pub IsGreetedOver : S → S → List ℕ → Connection S S → Type 0
-  IsGreetedOver reader writer identity line = (exchanges : List Exchange) × Asks reader writer (Ok (payload_answer identity ∷ [])) exchanges line
+  IsGreetedOver reader writer identity line = (exchanges : List Exchange) × SendsGreeting reader writer (Ok (payload_answer identity ∷ [])) exchanges line
 
   -- Memory ran out before the host was asked, or the batch had a fault, or the host gave another
   -- answer.
   abbrev pub IsUngreetedOver : S → S → List ℕ → Trouble → Type 0
   IsUngreetedOver reader writer identity trouble = (trouble ≡ OutOfReach OutOfMemory)
-      ⊎ ((outcome : BatchOutcome) × (exchanges : List Exchange) × (line : Connection S S) × Asks reader writer outcome exchanges line
+      ⊎ ((outcome : BatchOutcome) × (exchanges : List Exchange) × (line : Connection S S) × SendsGreeting reader writer outcome exchanges line
       × MatchResult outcome (λ answers. (answer : List ℕ) × (answers ≡ answer ∷ []) × Shows identity answer trouble) (λ fault. trouble ≡ OutOfReach fault))
 
   -- The host answered with this identity over some connection.

@@ -10,21 +10,21 @@ use Rattle.oram_client.specs.declared.refusals.Refusal.{Refusal}
 use Rattle.oram_client.specs.declared.refusals.Refusal.TheVariants as refusal
 
 -- the formatting's fault for a refusal of the host
-abbrev pub refusal_told : Option Refusal → FormattingFault
-refusal_told (Some refusal.Taken) = Taken
-refusal_told (Some refusal.NoRoom) = NoRoom
-refusal_told (Some refusal.Other) = Refused
-refusal_told None = Refused
+abbrev pub refusal_fault : Option Refusal → FormattingFault
+refusal_fault (Some refusal.Taken) = Taken
+refusal_fault (Some refusal.NoRoom) = NoRoom
+refusal_fault (Some refusal.Other) = Refused
+refusal_fault None = Refused
 
 -- the formatting's fault for a fault of its connection, where `read` is the refusal that was read
 -- last
-abbrev pub sink_told : Option Refusal → SinkFault → FormattingFault
-sink_told read sink.Refused = refusal_told read
-sink_told read sink.Link = Link
-sink_told read sink.OutOfMemory = OutOfMemory
+abbrev pub formatting_fault : Option Refusal → SinkFault → FormattingFault
+formatting_fault read sink.Refused = refusal_fault read
+formatting_fault read sink.Link = Link
+formatting_fault read sink.OutOfMemory = OutOfMemory
 
 -- the formatting's fault for a fault in making trees, where `read` is the refusal that was read
 -- last
-abbrev pub format_told : Option Refusal → FormatFault → FormattingFault
-format_told read (making.Sink why) = sink_told read why
-format_told read making.OutOfMemory = OutOfMemory
+abbrev pub trees_fault : Option Refusal → FormatFault → FormattingFault
+trees_fault read (making.Sink why) = formatting_fault read why
+trees_fault read making.OutOfMemory = OutOfMemory

@@ -15,8 +15,8 @@ use Rattle.oram_core.specs.Formatting.{IsNew}
 use Rattle.oram_client.specs.declared.faults.FormattingFault.{FormattingFault}
 use Rattle.oram_client.specs.declared.faults.FormattingFault.TheVariants.{NotStored, OutOfMemory}
 use Rattle.oram_client.specs.declared.identity.TheConstants.{IDENTITY_TREE}
-use Rattle.oram_client.specs.Ahead.{ToHost, ArePut, AreTaken, IsAsked, IsDrained, IsStopped, IsUnasked, IsUnput, dones}
-use Rattle.oram_client.specs.Faults.{sink_told}
+use Rattle.oram_client.specs.Ahead.{ToHost, ArePut, AreTaken, HasAnswer, HasNoAnswer, IsDrained, IsStopped, IsUnput, dones}
+use Rattle.oram_client.specs.Faults.{formatting_fault}
 use Rattle.oram_client.specs.Identity.{IsUnnamed, IsUnrecognized, identity_messages}
 
 -- one message more
@@ -55,8 +55,8 @@ module _ {R W : Type 0} (remaining : R → Option (List ℕ)) (contents : W → 
   -- The path of a tree was asked for, but there was no answer, or one that isn't genuine.
   abbrev pub IsUnheld : Sizes → ℕ → List ℕ → ℕ → ToHost R W → FormattingFault → ToHost R W → Type 0
   IsUnheld d overhead root tree a fault b =
-      ((why : SinkFault) × IsUnasked remaining contents a (fetch_body tree 0) why b × (fault ≡ sink_told b.refusal why))
-      ⊎ ((answer : List ℕ) × IsAsked remaining contents a (fetch_body tree 0) answer b × IsFalse d overhead root tree answer × (fault ≡ NotStored))
+      ((why : SinkFault) × HasNoAnswer remaining contents a (fetch_body tree 0) why b × (fault ≡ formatting_fault b.refusal why))
+      ⊎ ((answer : List ℕ) × HasAnswer remaining contents a (fetch_body tree 0) answer b × IsFalse d overhead root tree answer × (fault ≡ NotStored))
 
   -- Genuine paths of the first trees were fetched. Then memory ran out elsewhere, or there was no genuine path of the
   -- next tree.
@@ -86,13 +86,13 @@ module _ {R W : Type 0} (remaining : R → Option (List ℕ)) (contents : W → 
       IsFormatBegun v messages
       × (((fault ≡ OutOfMemory) × (b ≡ a))
       ⊎ ((body : List ℕ) × (why : SinkFault) × IsFormatBegun v (messages ++ body ∷ []) × IsUnput remaining contents a body why b
-      × (fault ≡ sink_told b.refusal why)))
+      × (fault ≡ formatting_fault b.refusal why)))
 
   -- All messages that make the trees were written. Then reading the answers that were due stopped; or all were read,
   -- and there was no genuine path of some tree.
   abbrev pub IsUnchecked : Scheme → State → ToHost R W → FormattingFault → ToHost R W → Type 0
   IsUnchecked v s a fault b =
-      ((why : SinkFault) × IsStopped remaining contents a a.due why b × (fault ≡ sink_told b.refusal why))
+      ((why : SinkFault) × IsStopped remaining contents a a.due why b × (fault ≡ formatting_fault b.refusal why))
       ⊎ ((mid : ToHost R W) × IsDrained remaining contents a a.due mid × IsUnseen v s mid fault b)
 
   -- Making the trees was broken off, while their messages were put or afterwards.

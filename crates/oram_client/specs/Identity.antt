@@ -5,8 +5,8 @@ use Rattle.oram_wire.specs.declared.sinks.SinkFault.{SinkFault}
 use Rattle.oram_client.specs.declared.faults.FormattingFault.{FormattingFault}
 use Rattle.oram_client.specs.declared.faults.FormattingFault.TheVariants.{NotStored, OutOfMemory}
 use Rattle.oram_client.specs.declared.identity.TheConstants.{IDENTITY_TREE, IDENTITY_LEN}
-use Rattle.oram_client.specs.Ahead.{ToHost, AreUntaken, IsAsked, IsUnasked}
-use Rattle.oram_client.specs.Faults.{sink_told}
+use Rattle.oram_client.specs.Ahead.{ToHost, AreUntaken, HasAnswer, HasNoAnswer}
+use Rattle.oram_client.specs.Faults.{formatting_fault}
 
 -- the messages that put a disk's identity at its host
 abbrev pub identity_messages : List ℕ → List (List ℕ)
@@ -19,10 +19,10 @@ module _ {R W : Type 0} (remaining : R → Option (List ℕ)) (contents : W → 
   abbrev pub IsUnnamed : List ℕ → ToHost R W → FormattingFault → ToHost R W → Type 0
   IsUnnamed identity a fault b =
       ((fault ≡ OutOfMemory) × (b ≡ a))
-      ⊎ ((why : SinkFault) × AreUntaken remaining contents a (identity_messages identity) why b × (fault ≡ sink_told b.refusal why))
+      ⊎ ((why : SinkFault) × AreUntaken remaining contents a (identity_messages identity) why b × (fault ≡ formatting_fault b.refusal why))
 
   -- The identity was asked for, but there was no answer, or another one.
   abbrev pub IsUnrecognized : List ℕ → ToHost R W → FormattingFault → ToHost R W → Type 0
   IsUnrecognized identity a fault b =
-      ((why : SinkFault) × IsUnasked remaining contents a (fetch_body IDENTITY_TREE 0) why b × (fault ≡ sink_told b.refusal why))
-      ⊎ ((answer : List ℕ) × IsAsked remaining contents a (fetch_body IDENTITY_TREE 0) answer b × (answer ≢ payload_answer identity) × (fault ≡ NotStored))
+      ((why : SinkFault) × HasNoAnswer remaining contents a (fetch_body IDENTITY_TREE 0) why b × (fault ≡ formatting_fault b.refusal why))
+      ⊎ ((answer : List ℕ) × HasAnswer remaining contents a (fetch_body IDENTITY_TREE 0) answer b × (answer ≢ payload_answer identity) × (fault ≡ NotStored))

@@ -91,6 +91,12 @@ FoundBegins B = (p q : FilePlaceState) (head : Head) (sync : Bool) (bytes : List
     → IsSafe may_lie v (MayReadBack PlaceMayBe) (begun inner v stores core (first_keeper q head sync)) host before before
     ⊎ IsSafe may_lie v (MayReadBack PlaceMayBe) (begun inner v stores core (first_keeper q head sync)) host array array)
 
+-- Of a loss of power nothing is known yet: the file may be only in the system's cache, so a loss may leave none. A keeper that has
+-- kept itself with sync knows more (KeptOutlastsLoss).
+abbrev pub FoundMayBeLost : Type 0
+FoundMayBeLost = (p q : FilePlaceState) (head : Head) (sync : Bool) (bytes : List ℕ) → NotesFound p (Some (kept_file head bytes)) q
+    → ¬ IsLasting PlaceMayBe (first_keeper q head sync) bytes
+
 -- An example: the disk of a device of one block, kept for the first time in a place without a file.
 abbrev pub some_head : Head
 some_head = record { salt = record { 0 = replicate 32 7 }; key_check = record { 0 = replicate 32 9 }; sealer = Plain }

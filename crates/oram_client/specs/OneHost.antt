@@ -132,7 +132,7 @@ comes_over zero = done_frame
 comes_over (suc zero) = done_frame ++ path_frame
 comes_over (suc (suc count)) = []
 
--- the host after so many connections
+-- the host after the first `count` connections: the first one brings it the STORE
 abbrev pub host_after : ℕ → Host
 host_after zero = new_host
 host_after (suc count) = ones_host

@@ -117,7 +117,7 @@ module _ {D : Type 0} (pauses : D → ℕ → D → Type 0) (reads : D → Optio
     pub none_left : time_left reconnect_timeout begin left trouble now ≡ 0
 
 -- what the next try starts with
-pub record Waiting (D L : Type 0) : Type 0 where
+pub record NextTry (D L : Type 0) : Type 0 where
   pub dialer : D
   pub line : Option L
   pub pause : ℕ  -- the next one
@@ -132,7 +132,7 @@ pub record VainTry : Type 0 where
 module _ {D L : Type 0} (opens : D → Limits → L → D → Type 0) (fails : D → Limits → Trouble → D → Type 0) (pauses : D → ℕ → D → Type 0)
     (reads : D → Option ℕ → D → Type 0) (batches : L → List (List ℕ) → BatchOutcome → List Exchange → L → Type 0) where
   -- A try fails, and there is a pause.
-  pub record IsDelayed (reconnect_timeout : ℕ) (begin : Option ℕ) (bodies : List (List ℕ)) (w : Waiting D L) (vain : VainTry) (x : Waiting D L) : Type 0 where
+  pub record IsDelayed (reconnect_timeout : ℕ) (begin : Option ℕ) (bodies : List (List ℕ)) (w : NextTry D L) (vain : VainTry) (x : NextTry D L) : Type 0 where
     pub came : Attempt
     pub mid : D
     pub tried : IsTried opens fails batches w.dialer w.line (limits reconnect_timeout w.left) bodies came vain.exchanges mid x.line
@@ -141,33 +141,32 @@ module _ {D L : Type 0} (opens : D → Limits → L → D → Type 0) (fails : D
 
   -- All messages are tried again and again, with a pause after each try but the last. The last one brings answers to give, or
   -- memory ran out in it, or no time is left after it.
-  pub record MakesTries (l : ReconnectState D L) (bodies : List (List ℕ)) (outcome : BatchOutcome) (exchanges : List Exchange) (dialer : D) (line : Option L) (trouble : Option Trouble) : Type 0 where
+  pub record MakesTries (l : ReconnectState D L) (bodies : List (List ℕ)) (outcome : BatchOutcome) (exchanges : List Exchange) (m : ReconnectState D L) : Type 0 where
     pub begin : Option ℕ
     pub first : D
     pub read : reads l.dialer begin first
     pub vain : List VainTry
-    pub last : Waiting D L
+    pub last : NextTry D L
     pub delays : FoldsTo (IsDelayed l.reconnect_timeout begin bodies) (record { dialer = first; line = l.line; pause = first_pause; left = l.reconnect_timeout }) vain last
     pub came : Attempt
     pub heard : List Exchange  -- those of the last try
     pub mid : D
-    pub tried : IsTried opens fails batches last.dialer last.line (limits l.reconnect_timeout last.left) bodies came heard mid line
-    pub shows : IsTroubleIn came trouble
-    pub ends : MatchOption trouble (dialer ≡ mid) (λ why. IsTimedOut pauses reads l.reconnect_timeout begin mid last.left why dialer)
+    pub tried : IsTried opens fails batches last.dialer last.line (limits l.reconnect_timeout last.left) bodies came heard mid m.line
+    pub shows : IsTroubleIn came m.trouble
+    pub ends : MatchOption m.trouble (m.dialer ≡ mid) (λ why. IsTimedOut pauses reads l.reconnect_timeout begin mid last.left why m.dialer)
     pub says : outcome ≡ link_outcome came
     pub all : exchanges ≡ flat_map (λ v. v.exchanges) vain ++ heard
 
   -- A link that has given up tries nothing.
-  pub record IsGivenUp (l : ReconnectState D L) (outcome : BatchOutcome) (exchanges : List Exchange) (dialer : D) (line : Option L) (trouble : Option Trouble) : Type 0 where
+  pub record IsGivenUp (l : ReconnectState D L) (outcome : BatchOutcome) (exchanges : List Exchange) (m : ReconnectState D L) : Type 0 where
     pub says : outcome ≡ Err Closed
     pub unsent : exchanges ≡ []
-    pub same_dialer : dialer ≡ l.dialer
-    pub same_line : line ≡ l.line
-    pub same_trouble : trouble ≡ l.trouble
+    pub same_dialer : m.dialer ≡ l.dialer
+    pub same_line : m.line ≡ l.line
+    pub same_trouble : m.trouble ≡ l.trouble
 
   abbrev pub Passes : ReconnectState D L → List (List ℕ) → BatchOutcome → List Exchange → ReconnectState D L → Type 0
-  Passes l bodies outcome exchanges m = MatchOption l.trouble (MakesTries l bodies outcome exchanges m.dialer m.line m.trouble)
-      (λ why. IsGivenUp l outcome exchanges m.dialer m.line m.trouble)
+  Passes l bodies outcome exchanges m = MatchOption l.trouble (MakesTries l bodies outcome exchanges m) (λ why. IsGivenUp l outcome exchanges m)
 
   pub record ReconnectBatch (l : ReconnectState D L) (bodies : List (List ℕ)) (outcome : BatchOutcome) (exchanges : List Exchange) (m : ReconnectState D L) : Type 0 where
     pub passed : Passes l bodies outcome exchanges m

@@ -3,7 +3,7 @@ ghost use Rattle.std.specs.Prelude.{◌≡◌, ◌+◌, ◌<◌, ◌≤◌, ℕ,
 ghost use Rattle.std.specs.Io.KnownBytes.{Appends, Consumes, Keeps};
 ghost use Rattle.oram_wire.specs.FrameStream.{frame};
 ghost use Rattle.oram_wire.specs.HostMessages.{done_answer, fetch_body};
-ghost use Rattle.oram_client.specs.Ahead.{GivesNone, IsAsked, IsDrained, IsStopped, IsUnasked, IsUndone, IsUnsent, most_due};
+ghost use Rattle.oram_client.specs.Ahead.{GivesNone, HasAnswer, HasNoAnswer, IsDrained, IsStopped, IsUndone, IsUnsent, most_due};
 
 use crate::refusals::Refusal;
 use oram_geometry::Device;
@@ -141,8 +141,8 @@ impl<R: Read, W: Write, P> Ahead<R, W, P> {
 
     /// Fetches the path to leaf 0 of a tree and returns the host's answer. Call only while no other answer is due.
     pub(crate) fn fetch(&mut self, tree: u8) -> Result<Vec<u8>, SinkFault>
-        ensures ok { IfOk result (λ v. IsAsked R.remaining W.contents self.old (fetch_body tree 0) v.items self.new) }
-        ensures err { IfErr result (λ fault. IsUnasked R.remaining W.contents self.old (fetch_body tree 0) fault self.new) }
+        ensures ok { IfOk result (λ v. HasAnswer R.remaining W.contents self.old (fetch_body tree 0) v.items self.new) }
+        ensures err { IfErr result (λ fault. HasNoAnswer R.remaining W.contents self.old (fetch_body tree 0) fault self.new) }
     {
         self.send(&fetch_header(tree, 0))?;
         self.flush()?;

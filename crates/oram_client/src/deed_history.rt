@@ -46,7 +46,7 @@ impl fmt::Debug for DeedHistory {
 }
 
 impl DeedHistory {
-    /// Makes the history of a place in which nothing was done yet, and of which nothing is known.
+    /// Makes an empty list of notes. Nothing was done in the place yet, and nobody has looked which files are there.
     pub fn new() -> DeedHistory
         ensures { result.notes ≡ [] }
     {

@@ -94,9 +94,9 @@ impl From<io::Error> for Trouble {
 
 impl From<SocketFault> for Trouble {
     ghost use Rattle.std.specs.Prelude.{◌≡◌};
-    ghost use Rattle.oram_client.specs.Dialer.{socket_told};
+    ghost use Rattle.oram_client.specs.Dialer.{socket_trouble};
 
-    ghost from_gives = { λ fault trouble. trouble ≡ socket_told fault };
+    ghost from_gives = { λ fault trouble. trouble ≡ socket_trouble fault };
 
     fn from(fault: SocketFault) -> Trouble {
         Trouble::OutOfReach(match fault {

@@ -4,7 +4,7 @@ ghost use Rattle.oram_geometry.specs.Sizes.{trees_of};
 ghost use Rattle.oram_wire.specs.HostMessages.{fetch_body, payload_answer};
 ghost use Rattle.oram_hash.specs.Path.{IsAccepted, path_of};
 ghost use Rattle.oram_core.specs.Core.{scheme_of, scheme_with};
-ghost use Rattle.oram_client.specs.Ahead.{IsAsked};
+ghost use Rattle.oram_client.specs.Ahead.{HasAnswer};
 ghost use Rattle.oram_client.specs.Formatting.{AreSeen, AreTreesMade, AreTreesMadeInPart, IsFormattedAhead, IsFormattedInPart, IsUnheld, IsUnseen};
 
 use crate::ahead::{Ahead, Progress};
@@ -30,7 +30,7 @@ fn check_tree<R: Read, W: Write, P>(
 ) -> Result<(), FormattingFault>
     requires tree { tree < trees_of device.now }
     requires overhead { overhead ≤ 64 }
-    ensures ok { OnOk result ((records : List ℕ) × IsAsked R.remaining W.contents ahead.old (fetch_body tree 0) (payload_answer records) ahead.new
+    ensures ok { OnOk result ((records : List ℕ) × HasAnswer R.remaining W.contents ahead.old (fetch_body tree 0) (payload_answer records) ahead.new
         × IsAccepted (path_of device.now tree 0 overhead records) root.now) }
     ensures err { IfErr result (λ fault. IsUnheld R.remaining W.contents device.now overhead root.now tree ahead.old fault ahead.new) }
 {

@@ -1,6 +1,6 @@
 //! Why a disk wasn't formatted.
 ghost use Rattle.std.specs.Prelude.{◌≡◌};
-ghost use Rattle.oram_client.specs.Faults.{format_told, sink_told};
+ghost use Rattle.oram_client.specs.Faults.{formatting_fault, trees_fault};
 
 use crate::ahead::Ahead;
 use crate::refusals::Refusal;
@@ -43,7 +43,7 @@ impl From<AllocError> for FormattingFault {
 impl<R, W, P> Ahead<R, W, P> {
     /// Returns the formatting's fault for a fault of this connection. The last answer read says which refusal it was.
     pub(crate) fn formatting_fault(&self, fault: SinkFault) -> FormattingFault
-        ensures { result ≡ sink_told self.now.refusal fault }
+        ensures { result ≡ formatting_fault self.now.refusal fault }
     {
         match fault {
             SinkFault::Refused => match self.refusal() {
@@ -58,7 +58,7 @@ impl<R, W, P> Ahead<R, W, P> {
 
     /// Returns the formatting's fault for a fault in making trees over this connection.
     pub(crate) fn trees_fault(&self, fault: FormatFault) -> FormattingFault
-        ensures { result ≡ format_told self.now.refusal fault }
+        ensures { result ≡ trees_fault self.now.refusal fault }
     {
         match fault {
             FormatFault::Sink(fault) => self.formatting_fault(fault),

@@ -76,7 +76,8 @@ impl<R> Model for FilePlace<R> {
 }
 
 impl<R> FilePlace<R> {
-    /// Makes the place of the file `name`, of which nothing is known yet. Creates and opens no file.
+    /// Makes the place of the file `name`. Creates and opens no file, and doesn't look whether there is one: any file may be
+    /// there, or none.
     pub fn new(rt: R, alloc: Global, name: &str) -> Result<FilePlace<R>, AllocError>
     where
         R: Drop,
@@ -96,6 +97,9 @@ impl<R> FilePlace<R> {
 impl<R: Files + AllocGlobal> FilePlace<R> {
     /// Reads the file, as [`kept_bytes`] does, and notes that readers find it. Nobody else may change the file from now
     /// on: a process that keeps itself in the file holds a lock meanwhile.
+    ///
+    /// That the file can be read doesn't say that it is on the disk: the system may have it only in its cache. So nothing is
+    /// known of a loss of power until something is put here with `sync`.
     pub fn read(&mut self) -> Result<Vec<u8>, FileFault>
         ensures ok { IfOk result (λ file. NotesFound self.old (Some file.items) self.new) }
         ensures err { OnErr result (self.new ≡ self.old) }

@@ -1,7 +1,7 @@
 //! The identity of a disk at its host: a record of its own, in a tree that no device has.
 ghost use Rattle.std.specs.Prelude.{◌≡◌, ◌↔◌, [], ◌∷◌, IfErr, IfOk, IsTrue, OnOk};
 ghost use Rattle.oram_wire.specs.HostMessages.{fetch_body, payload_answer, put_body, shape_body};
-ghost use Rattle.oram_client.specs.Ahead.{AreTaken, AreUntaken, IsAsked};
+ghost use Rattle.oram_client.specs.Ahead.{AreTaken, AreUntaken, HasAnswer};
 ghost use Rattle.oram_client.specs.Identity.{IsUnnamed, IsUnrecognized, identity_messages};
 
 use crate::ahead::{Ahead, Progress};
@@ -88,7 +88,7 @@ pub(crate) fn check_identity<R: Read, W: Write, P>(
     identity: &Identity,
     ahead: &mut Ahead<R, W, P>,
 ) -> Result<(), FormattingFault>
-    ensures ok { OnOk result (IsAsked R.remaining W.contents ahead.old (fetch_body IDENTITY_TREE 0) (payload_answer identity.now.0) ahead.new) }
+    ensures ok { OnOk result (HasAnswer R.remaining W.contents ahead.old (fetch_body IDENTITY_TREE 0) (payload_answer identity.now.0) ahead.new) }
     ensures err { IfErr result (λ fault. IsUnrecognized R.remaining W.contents identity.now.0 ahead.old fault ahead.new) }
 {
     let answer = match ahead.fetch(IDENTITY_TREE) {

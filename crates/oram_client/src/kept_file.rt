@@ -12,13 +12,16 @@ use std::io::Write;
 use thiserror::Error;
 
 /// The letters that each file begins with.
-const LETTERS: &[u8; 8] = b"VIDLAQE3";
+const LETTERS: &[u8; 8] = b"VIDLAQE4";
 
 /// The letters that files of the first format begin with.
 const FIRST_LETTERS: &[u8; 8] = b"VIDLAQE1";
 
 /// The letters that files of the second format begin with.
 const SECOND_LETTERS: &[u8; 8] = b"VIDLAQE2";
+
+/// The letters that files of the third format begin with.
+const THIRD_LETTERS: &[u8; 8] = b"VIDLAQE3";
 
 /// How the buckets of a disk are sealed.
 #[derive(Clone, Copy, Debug, PartialEq, Eq)]
@@ -80,8 +83,7 @@ impl Head {
 #[derive(Clone, Copy, Debug)]
 pub struct KeptFile<'a> {
     pub head: Head,
-    /// What is kept of the process: the STOREs that wait and the core's state file, as `oram_rounds::encode_kept` writes
-    /// them.
+    /// What is kept of the process: the STOREs that wait and the core, as `oram_rounds::encode_kept` writes them.
     pub process: &'a [u8],
 }
 
@@ -89,7 +91,7 @@ pub struct KeptFile<'a> {
 #[derive(Clone, Copy, Debug, PartialEq, Eq, Error)]
 pub enum KeptFault {
     /// They have an older format. Files of the first one had no key check and no sealer; files of the second one had no
-    /// STOREs that wait.
+    /// STOREs that wait; files of the third one had a digest of the core.
     #[error("a file of an older disk")]
     Older,
     #[error("no file of a disk")]
@@ -112,7 +114,9 @@ pub fn put_kept_file<W: Write>(writer: &mut W, head: &Head, process: &[u8]) -> i
 fn is_older(file: &[u8]) -> bool
     ensures { IsTrue result ↔ IsOlder file.now }
 {
-    file.starts_with(FIRST_LETTERS) || file.starts_with(SECOND_LETTERS)
+    file.starts_with(FIRST_LETTERS)
+        || file.starts_with(SECOND_LETTERS)
+        || file.starts_with(THIRD_LETTERS)
 }
 
 /// Reads the head and the process that follow the letters.

@@ -1,5 +1,5 @@
 //! Laws about the file that the next process of a disk finds.
-ghost use Rattle.oram_client.specs.NextProcess.{FoundBegins, FoundIsReadBack, KeptIsFound, KeptOutlastsLoss, NextProcessExample, UnkeptLeavesOne, UnkeptMayBeFound};
+ghost use Rattle.oram_client.specs.NextProcess.{FoundBegins, FoundIsReadBack, FoundMayBeLost, KeptIsFound, KeptOutlastsLoss, NextProcessExample, UnkeptLeavesOne, UnkeptMayBeFound};
 
 use crate::place::Place;
 use oram_rounds::BatchLink;
@@ -19,9 +19,13 @@ pub fn next_process_finds_what_was_kept<P: Place>()
 /// A law about definitions: a process has read its file with [`FilePlace::read`](crate::FilePlace::read) and keeps itself
 /// in that place. Then nothing else is read back at its beginning, as `oram_rounds::begun_is_safe` wants it. So that law
 /// and those about the lives of processes hold of `oramdisk`'s own keeper.
+///
+/// That holds while the machine keeps its power. Of a loss of power nothing is known at this beginning, since the file may be only
+/// in the system's cache. It is known once the process has kept itself with `sync` ([`next_process_finds_what_was_kept`]).
 pub fn found_file_is_read_back<B: BatchLink>()
     ensures only { FoundIsReadBack }
     ensures begins { FoundBegins B }
+    ensures lost { FoundMayBeLost }
 {}
 
 /// A disk that is kept for the first time, then isn't kept, and is then found by the next process, meets the premises of

@@ -331,7 +331,7 @@ impl<D: Dial, W: HostWatch> ReconnectLink<D, W> {
     ) -> Result<Vec<Vec<u8>>, LinkFault>
         requires { self.old.trouble ≡ None }
         ensures tried { (exchanges : List Exchange) × MakesTries D.opens D.fails D.pauses D.reads D.Line.batches
-            self.old (texts first.now ++ texts last.now) (batch_outcome_of result) exchanges self.new.dialer self.new.line self.new.trouble }
+            self.old (texts first.now ++ texts last.now) (batch_outcome_of result) exchanges self.new }
         ensures reconnect_timeout { self.new.reconnect_timeout ≡ self.old.reconnect_timeout }
     {
         let begin = self.now();

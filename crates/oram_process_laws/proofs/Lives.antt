@@ -22,8 +22,9 @@ use Rattle.oram_rounds.specs.Batches.{BatchOutcome}
 use Rattle.oram_rounds.specs.Files.{IsFile}
 use Rattle.oram_rounds.specs.Law.{AreBatches}
 use Rattle.oram_rounds.specs.PathMessages.{IsPathFetch}
-use Rattle.oram_process_laws.specs.Lives.{BeginsWith, Deed, Ends, Follows, Goes, GoesAll, Happening, HasSentStores, IsKeptOnRun, IsOfRun, IsRightRun, IsRunBefore, KeepsToRun, Leads, Lives, LivesAreOneRun, MessagesAreOfOneRun, SubmitsNone, happens_at, is_all_kept, is_all_kept_after, is_submission, leaves_at, left_before, left_by, run_of, sends_of}
-use Rattle.oram_process_laws.specs.Lives.Deed.{Acts, Asks}
+use Rattle.oram_rounds.specs.ProcessSteps.{DoesStep, DoesSteps, ProcessStep}
+use Rattle.oram_process_laws.specs.Lives.{BeginsWith, Ends, Follows, Happening, HasSentStores, IsKeptOnRun, IsOfRun, IsRightRun, IsRunBefore, KeepsToRun, Leads, Lives, LivesAreOneRun, MessagesAreOfOneRun, SubmitsNone, happens_at, is_all_kept, is_all_kept_after, is_submission, leaves_at, left_before, left_by, run_of, sends_of}
+use Rattle.oram_rounds.specs.ProcessSteps.ProcessStep.{Acts, Asks}
 use Rattle.oram_rounds.specs.Process.{Act, AreSentAhead, Does, EndsIn, IsSent, Process, exchanges_of, next_bodies}
 use Rattle.oram_rounds.specs.Process.Act.{Calls, GoesAhead, Hears, Keeps, Misses}
 use Rattle.oram_rounds.specs.Rounds.{Round, RoundCall, WentAhead, waiting}
@@ -202,7 +203,7 @@ module _ (v : Setting) (trees : List Tree) (device : IsDevice v.scheme.device) (
     end_leaves run left all p (GoesAhead xs) bytes exchanges is ends b among = gone run left all p exchanges is ends.1 b among
     end_leaves run left all p (Keeps done) bytes exchanges is ends b among = none_leaves run p exchanges ends.1 b among
 
-    -- one deed
+    -- one step
 
     stepped : (run : List Happening) (left : List (List ℕ)) (all later : Bool) (p q : Process B K) (h : Happening) → IsOfOneRun run left all p
         → (later ≡ true → (all ≡ true) × (is_submission h.event ≡ false)) → Steps v.scheme p.core h.event h.shown q.core → q.link ≡ p.link → q.keeper ≡ p.keeper
@@ -292,32 +293,32 @@ module _ (v : Setting) (trees : List Tree) (device : IsDevice v.scheme.device) (
     none_heard : (run : List Happening) (left : List (List ℕ)) (all : Bool) (q : Process B K) → IsOfOneRun run left all q → IsOfOneRun (run ++ []) left all q
     none_heard run left all q is = subst (λ (r : List Happening). IsOfOneRun r left all q) (sym (append-nil run)) is
 
-    deed_done : (run : List Happening) (left : List (List ℕ)) (all : Bool) (deed : Deed) (p q : Process B K) → IsOfOneRun run left all p → Goes v.scheme batches reads_back p deed q
-        → IsOfOneRun (run ++ happens_at deed) (left ++ leaves_at deed) (is_all_kept_after all deed) q
-    deed_done run left all (Asks a) p q is does =
+    step_done : (run : List Happening) (left : List (List ℕ)) (all : Bool) (step : ProcessStep) (p q : Process B K) → IsOfOneRun run left all p → DoesStep v.scheme batches reads_back p step q
+        → IsOfOneRun (run ++ happens_at step) (left ++ leaves_at step) (is_all_kept_after all step) q
+    step_done run left all (Asks a) p q is does =
         let h : Happening = record { event = Submit a.session a.command a.words; shown = a.shown } in
         none_left (run ++ h ∷ []) left false q (stepped run left all false p q h is (λ e. absurd cc) does.0 does.1 does.2)
-    deed_done run left all (Acts (Hears event x)) p q is does =
+    step_done run left all (Acts (Hears event x)) p q is does =
         let h : Happening = record { event = event; shown = x } in
         none_left (run ++ h ∷ []) left all q (stepped run left all all p q h is (λ e. (e, told_is_none event does.0.0)) does.0.1 does.0.2 does.1)
-    deed_done run left all (Acts (Calls o exchanges x)) p q is does =
+    step_done run left all (Acts (Calls o exchanges x)) p q is does =
         let mid : Process B K = record { core = p.core; link = q.link; keeper = p.keeper } in
         stepped run (left ++ bodies_of exchanges) all all mid q (record { event = event_of o; shown = x })
         (called run left all p mid does.0.0 o exchanges is does.0.1 does.0.2 refl refl) (λ e. (e, outcome_is_none o)) does.0.3 refl does.1
-    deed_done run left all (Acts (Misses o exchanges)) p q is does =
+    step_done run left all (Acts (Misses o exchanges)) p q is does =
         none_heard run (left ++ bodies_of exchanges) all q (called run left all p q does.0.0 o exchanges is does.0.1 does.0.2 does.0.3 does.1)
-    deed_done run left all (Acts (GoesAhead exchanges)) p q is does =
+    step_done run left all (Acts (GoesAhead exchanges)) p q is does =
         none_heard run (left ++ bodies_of exchanges) all q (gone_on run left all p q exchanges is does.0.0 does.0.1 does.1)
-    deed_done run left all (Acts (Keeps true)) p q is does = none_heard run (left ++ []) true q (none_left run left true q (kept_anew run left all p q is does))
-    deed_done run left all (Acts (Keeps false)) p q is does = none_heard run (left ++ []) all q (none_left run left all q (unkept run left all p q is does))
+    step_done run left all (Acts (Keeps true)) p q is does = none_heard run (left ++ []) true q (none_left run left true q (kept_anew run left all p q is does))
+    step_done run left all (Acts (Keeps false)) p q is does = none_heard run (left ++ []) all q (none_left run left all q (unkept run left all p q is does))
 
-    all_done : (run : List Happening) (left : List (List ℕ)) (all : Bool) (deeds : List Deed) (p q : Process B K) → IsOfOneRun run left all p
-        → GoesAll v.scheme batches reads_back p deeds q → IsOfOneRun (run ++ run_of deeds) (left ++ left_by deeds) (is_all_kept all deeds) q
+    all_done : (run : List Happening) (left : List (List ℕ)) (all : Bool) (steps : List ProcessStep) (p q : Process B K) → IsOfOneRun run left all p
+        → DoesSteps v.scheme batches reads_back p steps q → IsOfOneRun (run ++ run_of steps) (left ++ left_by steps) (is_all_kept all steps) q
     all_done run left all [] p q is same = none_heard run (left ++ []) all q (none_left run left all q (subst (IsOfOneRun run left all) same is))
-    all_done run left all (deed ∷ deeds) p q is does =
-        subst (λ (r : List Happening). IsOfOneRun r (left ++ left_by (deed ∷ deeds)) (is_all_kept all (deed ∷ deeds)) q) (append_assoc run (happens_at deed) (run_of deeds))
-        (subst (λ (l : List (List ℕ)). IsOfOneRun ((run ++ happens_at deed) ++ run_of deeds) l (is_all_kept all (deed ∷ deeds)) q) (append_assoc left (leaves_at deed) (left_by deeds))
-        (all_done (run ++ happens_at deed) (left ++ leaves_at deed) (is_all_kept_after all deed) deeds does.0 q (deed_done run left all deed p does.0 is does.1) does.2))
+    all_done run left all (step ∷ steps) p q is does =
+        subst (λ (r : List Happening). IsOfOneRun r (left ++ left_by (step ∷ steps)) (is_all_kept all (step ∷ steps)) q) (append_assoc run (happens_at step) (run_of steps))
+        (subst (λ (l : List (List ℕ)). IsOfOneRun ((run ++ happens_at step) ++ run_of steps) l (is_all_kept all (step ∷ steps)) q) (append_assoc left (leaves_at step) (left_by steps))
+        (all_done (run ++ happens_at step) (left ++ leaves_at step) (is_all_kept_after all step) steps does.0 q (step_done run left all step p does.0 is does.1) does.2))
 
     -- a process ends, and another one begins
 
@@ -381,11 +382,11 @@ module _ (v : Setting) (trees : List Tree) (device : IsDevice v.scheme.device) (
     lived (suc n) p lives =
         let first = lived n lives.0 lives.3 in
         let left : List (List ℕ) = left_before v.scheme batches reads_back (new_state v trees) n lives.0 lives.3 in
-        let deeds : List Deed = lives.1 in
-        let next = follows (first.0 ++ run_of deeds) (left ++ left_by deeds) (is_all_kept true deeds) lives.2 p (all_done first.0 left true deeds lives.0 lives.2 first.2 lives.4) lives.5 in (
+        let steps : List ProcessStep = lives.1 in
+        let next = follows (first.0 ++ run_of steps) (left ++ left_by steps) (is_all_kept true steps) lives.2 p (all_done first.0 left true steps lives.0 lives.2 first.2 lives.4) lives.5 in (
           next.0,
           (first.0, next.1, first.1, next.2),
-          subst (λ (l : List (List ℕ)). IsOfOneRun next.0 l true p) (append_assoc left (left_by deeds) (bodies_of lives.5.exchanges)) next.3,
+          subst (λ (l : List (List ℕ)). IsOfOneRun next.0 l true p) (append_assoc left (left_by steps) (bodies_of lives.5.exchanges)) next.3,
         )
 
     keeps_to : (run : List Happening) (left : List (List ℕ)) (all : Bool) (p : Process B K) → IsOfOneRun run left all p → KeepsToRun v trees batches reads_back run left all p
@@ -405,12 +406,12 @@ messages_are_of_one_run batches reads_back are v trees n first device made lives
     let left : List (List ℕ) = left_before v.scheme batches reads_back (new_state v trees) n first lives in (
       all.0,
       all.1,
-      λ deeds p goes.
-          keeps_to v trees device made batches reads_back are (all.0 ++ run_of deeds) (left ++ left_by deeds) (is_all_kept true deeds) p
-          (all_done v trees device made batches reads_back are all.0 left true deeds first p all.2 goes),
+      λ steps p goes.
+          keeps_to v trees device made batches reads_back are (all.0 ++ run_of steps) (left ++ left_by steps) (is_all_kept true steps) p
+          (all_done v trees device made batches reads_back are all.0 left true steps first p all.2 goes),
     )
 
 pub lives_are_one_run : {B K : Type 0} (batches : B → List (List ℕ) → BatchOutcome → List Exchange → B → Type 0) (reads_back : K → List ℕ → Type 0) → LivesAreOneRun batches reads_back
 lives_are_one_run batches reads_back are v trees n first device made lives =
     let all = messages_are_of_one_run batches reads_back are v trees n first device made lives in
-    (all.0, all.1, λ deeds p goes. (all.2 deeds p goes).right)
+    (all.0, all.1, λ steps p goes. (all.2 steps p goes).right)

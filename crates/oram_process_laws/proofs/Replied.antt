@@ -30,8 +30,9 @@ use Rattle.oram_rounds.specs.Process.Act.{Calls, GoesAhead, Hears, Keeps, Misses
 use Rattle.oram_rounds.specs.Rounds.{waiting}
 use Rattle.oram_rounds.proofs.KeptText.{one_process}
 use Rattle.oram_process_laws.specs.KeptCommands.{ShowsNoPair, past_after}
-use Rattle.oram_process_laws.specs.Lives.{BeginsWith, Deed, Ends, Follows, Goes, GoesAll, Happening, IsRunBefore, Leads, Lives, SubmitsNone, happens_at, is_all_kept, is_all_kept_after, is_submission, run_of}
-use Rattle.oram_process_laws.specs.Lives.Deed.{Acts, Asks}
+use Rattle.oram_rounds.specs.ProcessSteps.{DoesStep, DoesSteps, ProcessStep}
+use Rattle.oram_process_laws.specs.Lives.{BeginsWith, Ends, Follows, Happening, IsRunBefore, Leads, Lives, SubmitsNone, happens_at, is_all_kept, is_all_kept_after, is_submission, run_of}
+use Rattle.oram_rounds.specs.ProcessSteps.ProcessStep.{Acts, Asks}
 use Rattle.oram_process_laws.specs.Replied.{AreRepliesIn, IsReplyIn, OneTicketHasOneReply, RepliesAreOfOneRun, ShowedNoPair, given_at, given_before, given_by}
 use Rattle.oram_process_laws.proofs.KeptCommands.{accepted_same, past_join}
 use Rattle.oram_process_laws.proofs.Lives.{leads_on, none_more, outcome_is_none, right_by, told_is_none}
@@ -181,7 +182,7 @@ apart_before : (v : Setting) (past : List Step) (run more : List Happening) → 
 apart_before v past [] more apart = tt
 apart_before v past (h ∷ run) more apart = (apart.0, apart_before v (step_of h.event h.shown ∷ past) run more apart.1)
 
--- nothing is given in a deed without a reply
+-- nothing is given in a step without a reply
 none_given : (b : Bool) → (let none : List Reply = if b then [] else [] in none) ≡ []
 none_given true = refl
 none_given false = refl
@@ -292,7 +293,7 @@ module _ (v : Setting) (trees : List Tree) (device : IsDevice v.scheme.device) (
     kept = λ bytes back. g.kept bytes (subst (λ (j : K). reads_back j bytes) keeper back);
   }
 
-  -- one deed
+  -- one step
 
   none_more_given : (N : Type 0) (run : List Happening) (replies none : List Reply) (all : Bool) (q : Process B K) → none ≡ [] → HasGiven N run replies all q → HasGiven N run (replies ++ none) all q
   none_more_given N run replies none all q is g =
@@ -314,47 +315,47 @@ module _ (v : Setting) (trees : List Tree) (device : IsDevice v.scheme.device) (
       gives_more N (run ++ h ∷ []) replies h.shown.replies q next
       (λ n. replied_on d run h h.shown.replies (right_replies v (past_after [] run) h.event h.shown (right_at v [] run h right (apart n))))
 
-  deed_done : (N : Type 0) (run : List Happening) (replies : List Reply) (all : Bool) (deed : Deed) (p q : Process B K) → (N → ShowsNoPair v [] (run ++ happens_at deed))
-      → HasGiven N run replies all p → Goes v.scheme batches reads_back p deed q
-      → HasGiven N (run ++ happens_at deed) (replies ++ given_at all deed) (is_all_kept_after all deed) q
-  deed_done N run replies all (Asks a) p q apart g does =
+  step_done : (N : Type 0) (run : List Happening) (replies : List Reply) (all : Bool) (step : ProcessStep) (p q : Process B K) → (N → ShowsNoPair v [] (run ++ happens_at step))
+      → HasGiven N run replies all p → DoesStep v.scheme batches reads_back p step q
+      → HasGiven N (run ++ happens_at step) (replies ++ given_at all step) (is_all_kept_after all step) q
+  step_done N run replies all (Asks a) p q apart g does =
       let h : Happening = record { event = Submit a.session a.command a.words; shown = a.shown } in
       none_more_given N (run ++ h ∷ []) replies [] false q refl (stepped N run replies all false p q h g (λ e. absurd cc) does.0 does.2)
-  deed_done N run replies all (Acts (Hears event x)) p q apart g does =
+  step_done N run replies all (Acts (Hears event x)) p q apart g does =
       let h : Happening = record { event = event; shown = x } in
       none_more_given N (run ++ h ∷ []) replies (if all then [] else []) all q (none_given all)
       (stepped N run replies all all p q h g (λ e. (e, told_is_none event does.0.0)) does.0.1 does.1)
-  deed_done N run replies all (Acts (Calls o exchanges x)) p q apart g does =
+  step_done N run replies all (Acts (Calls o exchanges x)) p q apart g does =
       heard N run replies all p q (record { event = event_of o; shown = x }) g (outcome_is_none o) does.0.3 does.1 apart
-  deed_done N run replies all (Acts (Misses o exchanges)) p q apart g does = quiet N run replies all q (rests N run replies all p q g does.0.3 does.1)
-  deed_done N run replies all (Acts (GoesAhead exchanges)) p q apart g does = quiet N run replies all q (rests N run replies all p q g does.0.1 does.1)
-  deed_done N run replies all (Acts (Keeps true)) p q apart g does =
+  step_done N run replies all (Acts (Misses o exchanges)) p q apart g does = quiet N run replies all q (rests N run replies all p q g does.0.3 does.1)
+  step_done N run replies all (Acts (GoesAhead exchanges)) p q apart g does = quiet N run replies all q (rests N run replies all p q g does.0.1 does.1)
+  step_done N run replies all (Acts (Keeps true)) p q apart g does =
       quiet N run replies true q (record {
         leads = subst (Led run) (sym does.1) g.leads;
         now = g.now;
         kept = λ bytes back. kept_now N run replies true bytes (waiting p.link) p.core (does.0 bytes back) g.leads g.now;
       })
-  deed_done N run replies all (Acts (Keeps false)) p q apart g does =
+  step_done N run replies all (Acts (Keeps false)) p q apart g does =
       quiet N run replies all q (record {
         leads = subst (Led run) (sym does.1) g.leads;
         now = g.now;
         kept = λ bytes back. handed N run replies all p g bytes (does.0 bytes back);
       })
 
-  all_done : (N : Type 0) (run : List Happening) (replies : List Reply) (all : Bool) (deeds : List Deed) (p q : Process B K) → (N → ShowsNoPair v [] (run ++ run_of deeds))
-      → HasGiven N run replies all p → GoesAll v.scheme batches reads_back p deeds q
-      → HasGiven N (run ++ run_of deeds) (replies ++ given_by all deeds) (is_all_kept all deeds) q
+  all_done : (N : Type 0) (run : List Happening) (replies : List Reply) (all : Bool) (steps : List ProcessStep) (p q : Process B K) → (N → ShowsNoPair v [] (run ++ run_of steps))
+      → HasGiven N run replies all p → DoesSteps v.scheme batches reads_back p steps q
+      → HasGiven N (run ++ run_of steps) (replies ++ given_by all steps) (is_all_kept all steps) q
   all_done N run replies all [] p q apart g same =
       none_more_given N (run ++ []) replies [] all q refl
       (subst (λ (r : List Happening). HasGiven N r replies all q) (sym (append-nil run)) (subst (HasGiven N run replies all) same g))
-  all_done N run replies all (deed ∷ deeds) p q apart g does =
-      let joined : (run ++ happens_at deed) ++ run_of deeds ≡ run ++ run_of (deed ∷ deeds) = append_assoc run (happens_at deed) (run_of deeds) in
-      let still : N → ShowsNoPair v [] ((run ++ happens_at deed) ++ run_of deeds) = λ n. subst (ShowsNoPair v []) (sym joined) (apart n) in
-      let next = deed_done N run replies all deed p does.0 (λ n. apart_before v [] (run ++ happens_at deed) (run_of deeds) (still n)) g does.1 in
-      subst (λ (r : List Happening). HasGiven N r (replies ++ given_by all (deed ∷ deeds)) (is_all_kept all (deed ∷ deeds)) q) joined
-      (subst (λ (rs : List Reply). HasGiven N ((run ++ happens_at deed) ++ run_of deeds) rs (is_all_kept all (deed ∷ deeds)) q)
-      (append_assoc replies (given_at all deed) (given_by (is_all_kept_after all deed) deeds))
-      (all_done N (run ++ happens_at deed) (replies ++ given_at all deed) (is_all_kept_after all deed) deeds does.0 q still next does.2))
+  all_done N run replies all (step ∷ steps) p q apart g does =
+      let joined : (run ++ happens_at step) ++ run_of steps ≡ run ++ run_of (step ∷ steps) = append_assoc run (happens_at step) (run_of steps) in
+      let still : N → ShowsNoPair v [] ((run ++ happens_at step) ++ run_of steps) = λ n. subst (ShowsNoPair v []) (sym joined) (apart n) in
+      let next = step_done N run replies all step p does.0 (λ n. apart_before v [] (run ++ happens_at step) (run_of steps) (still n)) g does.1 in
+      subst (λ (r : List Happening). HasGiven N r (replies ++ given_by all (step ∷ steps)) (is_all_kept all (step ∷ steps)) q) joined
+      (subst (λ (rs : List Reply). HasGiven N ((run ++ happens_at step) ++ run_of steps) rs (is_all_kept all (step ∷ steps)) q)
+      (append_assoc replies (given_at all step) (given_by (is_all_kept_after all step) steps))
+      (all_done N (run ++ happens_at step) (replies ++ given_at all step) (is_all_kept_after all step) steps does.0 q still next does.2))
 
   -- a process ends, and another one begins
 
@@ -409,11 +410,11 @@ replies_are_of_one_run {B} {K} batches reads_back v trees n first device made li
     let N : Type 0 = ShowedNoPair v batches reads_back (new_state v trees) n first lives all.0 all.1 in (
       all.0,
       all.1,
-      λ deeds p goes.
-          let M : Type 0 = N × ShowsNoPair v [] (all.0 ++ run_of deeds) in
-          let g = all_done v trees device made batches reads_back M all.0 given true deeds first p (λ m. m.1)
+      λ steps p goes.
+          let M : Type 0 = N × ShowsNoPair v [] (all.0 ++ run_of steps) in
+          let g = all_done v trees device made batches reads_back M all.0 given true steps first p (λ m. m.1)
           (weaker v trees device made batches reads_back M N all.0 given true first (λ m. m.0) all.2) goes in
-          (right_by v trees device made (all.0 ++ run_of deeds) p.core g.leads, λ none apart. g.now (none, apart)),
+          (right_by v trees device made (all.0 ++ run_of steps) p.core g.leads, λ none apart. g.now (none, apart)),
     )
 
 -- two replies with one ticket

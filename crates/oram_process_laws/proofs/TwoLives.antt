@@ -9,8 +9,9 @@ use Rattle.oram_link_laws.specs.Examples.{new_core, one_block}
 use Rattle.oram_link_laws.proofs.Device.{new_device_example, session_example}
 use Rattle.oram_link_laws.specs.Repair.{AreAmong}
 use Rattle.oram_rounds.specs.Examples.{DirectBatches, zeros_fetched}
-use Rattle.oram_process_laws.specs.Lives.{Follows, GoesAll, Happening, Leads, Lives, run_of}
-use Rattle.oram_process_laws.specs.LivesExample.{TwoLivesExample, first_deeds, second_deeds}
+use Rattle.oram_rounds.specs.ProcessSteps.{DoesSteps}
+use Rattle.oram_process_laws.specs.Lives.{Follows, Happening, Leads, Lives, run_of}
+use Rattle.oram_process_laws.specs.LivesExample.{TwoLivesExample, first_steps, second_steps}
 use Rattle.oram_rounds.specs.AskedExample.{asked_core, one_read, process_with, reads_kept}
 use Rattle.oram_rounds.proofs.AskedCore.{file_bytes, file_len, is_file}
 use Rattle.oram_rounds.proofs.AskedProcess.{accepts, awaits, called, loses, lost_core, next_is, now, now_ahead, path, sends_again, went}
@@ -20,10 +21,10 @@ use Rattle.oram_process_laws.proofs.Lives.{right_by}
 
 -- what the processes do
 
-first_goes : GoesAll one_block DirectBatches reads_kept (process_with new_core new_core) first_deeds now
+first_goes : DoesSteps one_block DirectBatches reads_kept (process_with new_core new_core) first_steps now
 first_goes = (process_with asked_core new_core, (accepts, refl, refl), (now, (λ bytes back. back, refl, refl), refl))
 
-second_goes : GoesAll one_block DirectBatches reads_kept now second_deeds now
+second_goes : DoesSteps one_block DirectBatches reads_kept now second_steps now
 second_goes = (
   process_with lost_core asked_core,
   ((inl refl, loses, refl), refl),
@@ -45,7 +46,7 @@ follows = record {
 
 -- the run of both
 abbrev run : List Happening
-run = run_of first_deeds ++ run_of second_deeds
+run = run_of first_steps ++ run_of second_steps
 
 leads : Leads one_block new_core run asked_core
 leads = (asked_core, accepts, (lost_core, loses, (asked_core, sends_again, refl)))
@@ -62,7 +63,7 @@ two_lives_example =
         new.formatted,
         first_goes,
         subst (λ (s : State). Lives one_block DirectBatches reads_kept s 1 now) new.state
-            (process_with new_core new_core, first_deeds, now, (refl, λ other back. back), first_goes, follows),
+            (process_with new_core new_core, first_steps, now, (refl, λ other back. back), first_goes, follows),
         second_goes,
         right_by v new.trees session_example.0 new.formatted run asked_core (subst (λ (s : State). Leads one_block s run asked_core) new.state leads),
         (refl, (refl, (refl, tt))),

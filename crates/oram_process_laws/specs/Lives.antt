@@ -24,7 +24,8 @@ use Rattle.oram_rounds.specs.PathMessages.{IsPathFetch}
 use Rattle.oram_rounds.specs.Process.{Act, Does, EndsIn, Process, begun, exchanges_of, next_bodies}
 use Rattle.oram_rounds.specs.Process.Act.{Calls, GoesAhead, Hears, Keeps, Misses}
 use Rattle.oram_rounds.specs.Rounds.{waiting}
-use Rattle.oram_rounds.specs.Start.{Asked, Submits}
+use Rattle.oram_rounds.specs.ProcessSteps.{DoesSteps, ProcessStep, exchanges_in}
+use Rattle.oram_rounds.specs.ProcessSteps.ProcessStep.{Acts, Asks}
 
 -- an event of the core, and what it showed
 pub record Happening : Type 0 where
@@ -50,13 +51,8 @@ SubmitsNone run = AllByRecursion (λ h. is_submission h.event ≡ false) run
 abbrev pub sends_of : List Happening → List (List ℕ)
 sends_of run = flat_map (λ h. h.shown.sends) run
 
--- What happens in a process: a command is submitted, or the process acts.
-pub data Deed : Type 0 where
-  Asks : Asked → Deed
-  Acts : Act → Deed
-
--- what its core hears and shows then
-abbrev pub happens_at : Deed → List Happening
+-- what the core of a process hears and shows in a step
+abbrev pub happens_at : ProcessStep → List Happening
 happens_at (Asks a) = (record { event = Submit a.session a.command a.words; shown = a.shown }) ∷ []
 happens_at (Acts (Hears event x)) = (record { event = event; shown = x }) ∷ []
 happens_at (Acts (Calls o exchanges x)) = (record { event = event_of o; shown = x }) ∷ []
@@ -64,22 +60,21 @@ happens_at (Acts (Misses o exchanges)) = []
 happens_at (Acts (GoesAhead exchanges)) = []
 happens_at (Acts (Keeps done)) = []
 
--- the run of the core in some deeds
-abbrev pub run_of : List Deed → List Happening
-run_of deeds = flat_map happens_at deeds
+-- the run of the core in some steps
+abbrev pub run_of : List ProcessStep → List Happening
+run_of steps = flat_map happens_at steps
 
--- the messages that leave the process then
-abbrev pub leaves_at : Deed → List (List ℕ)
-leaves_at (Asks a) = []
-leaves_at (Acts act) = bodies_of (exchanges_of act)
+-- the messages that leave the process in a step
+abbrev pub leaves_at : ProcessStep → List (List ℕ)
+leaves_at step = bodies_of (exchanges_in step)
 
--- the messages that leave it in some deeds
-abbrev pub left_by : List Deed → List (List ℕ)
-left_by deeds = flat_map leaves_at deeds
+-- the messages that leave it in some steps
+abbrev pub left_by : List ProcessStep → List (List ℕ)
+left_by steps = flat_map leaves_at steps
 
 -- Whether what is kept has all commands: none was submitted since it was kept. A keeping after which the keeper failed
 -- doesn't count.
-abbrev pub is_all_kept_after : Bool → Deed → Bool
+abbrev pub is_all_kept_after : Bool → ProcessStep → Bool
 is_all_kept_after now (Asks a) = false
 is_all_kept_after now (Acts (Hears event x)) = now
 is_all_kept_after now (Acts (Calls o exchanges x)) = now
@@ -88,9 +83,9 @@ is_all_kept_after now (Acts (GoesAhead exchanges)) = now
 is_all_kept_after now (Acts (Keeps true)) = true
 is_all_kept_after now (Acts (Keeps false)) = now
 
-abbrev pub is_all_kept : Bool → List Deed → Bool
+abbrev pub is_all_kept : Bool → List ProcessStep → Bool
 is_all_kept now [] = now
-is_all_kept now (deed ∷ deeds) = is_all_kept (is_all_kept_after now deed) deeds
+is_all_kept now (step ∷ steps) = is_all_kept (is_all_kept_after now step) steps
 
 -- A process begins with these STOREs and this core, and nothing else is read back yet.
 abbrev pub BeginsWith : Scheme → {B K : Type 0} → (K → List ℕ → Type 0) → List (List ℕ) → State → Process B K → Type 0
@@ -99,14 +94,6 @@ BeginsWith v reads_back stores core p =
 
 -- for a device, a link that carries batches, and a keeper that says which bytes may be read back
 module _ (v : Scheme) {B K : Type 0} (batches : B → List (List ℕ) → BatchOutcome → List Exchange → B → Type 0) (reads_back : K → List ℕ → Type 0) where
-  -- what a process does in a deed
-  abbrev pub Goes : Process B K → Deed → Process B K → Type 0
-  Goes p (Asks a) q = Submits v p a q
-  Goes p (Acts act) q = Does v batches reads_back p act q
-
-  abbrev pub GoesAll : Process B K → List Deed → Process B K → Type 0
-  GoesAll p deeds q = FoldsTo {P = Process B K} Goes p deeds q
-
   -- The process ends now, or in an act that it begins now. These bytes are read back, and the host has had these exchanges in
   -- that act.
   abbrev pub Ends : Process B K → List ℕ → List Exchange → Type 0
@@ -126,7 +113,7 @@ module _ (v : Scheme) {B K : Type 0} (batches : B → List (List ℕ) → BatchO
   -- The first process begins with this core and no STOREs, n others follow, and the last of them begins as p.
   abbrev pub Lives : State → ℕ → Process B K → Type 0
   Lives core zero p = BeginsWith v reads_back [] core p
-  Lives core (suc n) p = (first : Process B K) × (deeds : List Deed) × (last : Process B K) × Lives core n first × GoesAll first deeds last × Follows last p
+  Lives core (suc n) p = (first : Process B K) × (steps : List ProcessStep) × (last : Process B K) × Lives core n first × DoesSteps v batches reads_back first steps last × Follows last p
 
   -- The run of the core before the last process begins. Before the first process that is nothing. Before any later one it
   -- is a beginning of the run of the process before, up to the core that is read back.
@@ -153,7 +140,7 @@ LivesAreOneRun {B} {K} batches reads_back = AreBatches batches
     → (v : Setting) (trees : List Tree) (n : ℕ) (first : Process B K) → IsDevice v.scheme.device → IsFormatted v trees
     → (lives : Lives v.scheme batches reads_back (new_state v trees) n first)
     → (before : List Happening) × IsRunBefore v.scheme batches reads_back (new_state v trees) n first lives before
-    × ((deeds : List Deed) (p : Process B K) → GoesAll v.scheme batches reads_back first deeds p → IsRightRun v trees (before ++ run_of deeds) p.core)
+    × ((steps : List ProcessStep) (p : Process B K) → DoesSteps v.scheme batches reads_back first steps p → IsRightRun v trees (before ++ run_of steps) p.core)
 
 -- A message that the run of a core has sent: a STORE that is kept, or the FETCH whose answer the core waits for.
 pub record IsSentInRun {B K : Type 0} (run : List Happening) (p : Process B K) (body : List ℕ) : Type 0 where
@@ -210,6 +197,6 @@ MessagesAreOfOneRun {B} {K} batches reads_back = AreBatches batches
     → (v : Setting) (trees : List Tree) (n : ℕ) (first : Process B K) → IsDevice v.scheme.device → IsFormatted v trees
     → (lives : Lives v.scheme batches reads_back (new_state v trees) n first)
     → (before : List Happening) × IsRunBefore v.scheme batches reads_back (new_state v trees) n first lives before
-    × ((deeds : List Deed) (p : Process B K) → GoesAll v.scheme batches reads_back first deeds p
-    → KeepsToRun v trees batches reads_back (before ++ run_of deeds) (left_before v.scheme batches reads_back (new_state v trees) n first lives ++ left_by deeds)
-    (is_all_kept true deeds) p)
+    × ((steps : List ProcessStep) (p : Process B K) → DoesSteps v.scheme batches reads_back first steps p
+    → KeepsToRun v trees batches reads_back (before ++ run_of steps) (left_before v.scheme batches reads_back (new_state v trees) n first lives ++ left_by steps)
+    (is_all_kept true steps) p)

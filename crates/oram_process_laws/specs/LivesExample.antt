@@ -13,28 +13,29 @@ use Rattle.oram_rounds.specs.Examples.{DirectBatches, zero_array}
 use Rattle.oram_rounds.specs.AskedExample.{asked_acts, asked_core, one_read, process_with, reads, reads_kept}
 use Rattle.oram_rounds.specs.Law.{AreBatches}
 use Rattle.oram_process_laws.specs.KeptCommands.{ShowsNoPair}
-use Rattle.oram_process_laws.specs.Lives.{Deed, GoesAll, IsRightRun, Lives, SubmitsNone, run_of}
-use Rattle.oram_process_laws.specs.Lives.Deed.{Acts, Asks}
+use Rattle.oram_rounds.specs.ProcessSteps.{DoesSteps, ProcessStep}
+use Rattle.oram_process_laws.specs.Lives.{IsRightRun, Lives, SubmitsNone, run_of}
+use Rattle.oram_rounds.specs.ProcessSteps.ProcessStep.{Acts, Asks}
 use Rattle.oram_process_laws.specs.Replied.{IsReplyIn}
 use Rattle.oram_rounds.specs.Process.{Act, next_bodies}
 use Rattle.oram_rounds.specs.Process.Act.{Keeps}
 
 -- The first process is asked to read the block, and keeps itself.
-abbrev pub first_deeds : List Deed
-first_deeds = Asks reads ∷ Acts (Keeps true) ∷ []
+abbrev pub first_steps : List ProcessStep
+first_steps = Asks reads ∷ Acts (Keeps true) ∷ []
 
 -- The second one begins with its file, and acts.
-abbrev pub second_deeds : List Deed
-second_deeds = map (λ (act : Act). Acts act) asked_acts
+abbrev pub second_steps : List ProcessStep
+second_steps = map (λ (act : Act). Acts act) asked_acts
 
 -- The run of both is right, and the array's reply to the command, zeros, is a reply in it.
 abbrev pub TwoLivesExample : Type 0
 TwoLivesExample = (format : List (List ℕ)) × (trees : List Tree) × (let v : Setting = record { scheme = one_block; format = format } in
     AreBatches DirectBatches × IsDevice one_block.device × IsFormatted v trees
-    × GoesAll one_block DirectBatches reads_kept (process_with new_core new_core) first_deeds (process_with asked_core asked_core)
+    × DoesSteps one_block DirectBatches reads_kept (process_with new_core new_core) first_steps (process_with asked_core asked_core)
     × Lives one_block DirectBatches reads_kept (new_state v trees) 1 (process_with asked_core asked_core)
-    × GoesAll one_block DirectBatches reads_kept (process_with asked_core asked_core) second_deeds (process_with asked_core asked_core)
-    × IsRightRun v trees (run_of first_deeds ++ run_of second_deeds) asked_core
-    × ShowsNoPair v [] (run_of first_deeds ++ run_of second_deeds) × SubmitsNone (run_of second_deeds)
+    × DoesSteps one_block DirectBatches reads_kept (process_with asked_core asked_core) second_steps (process_with asked_core asked_core)
+    × IsRightRun v trees (run_of first_steps ++ run_of second_steps) asked_core
+    × ShowsNoPair v [] (run_of first_steps ++ run_of second_steps) × SubmitsNone (run_of second_steps)
     × (next_bodies one_block.device asked_core ≡ fetch_body 0 0 ∷ [])
     × IsReplyIn one_block.device (one_read ∷ []) (reply_by zero_array one_read))

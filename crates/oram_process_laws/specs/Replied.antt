@@ -14,24 +14,19 @@ use Rattle.oram_semantics.specs.declared.events.Submission.{Submission}
 use Rattle.oram_tree.specs.State.{State as Tree}
 use Rattle.oram_link_laws.specs.Runs.{Exchange}
 use Rattle.oram_rounds.specs.Batches.{BatchOutcome}
-use Rattle.oram_rounds.specs.Process.{Process, replies_of}
+use Rattle.oram_rounds.specs.Process.{Process}
 use Rattle.oram_process_laws.specs.KeptCommands.{ShowsNoPair, past_after}
-use Rattle.oram_process_laws.specs.Lives.{Deed, GoesAll, Happening, IsRightRun, IsRunBefore, Lives, is_all_kept_after, run_of}
-use Rattle.oram_process_laws.specs.Lives.Deed.{Acts, Asks}
-
--- the replies of the core in a deed: a submission has none
-abbrev pub replies_in : Deed → List Reply
-replies_in (Asks a) = []
-replies_in (Acts act) = replies_of act
+use Rattle.oram_rounds.specs.ProcessSteps.{DoesSteps, ProcessStep, replies_in}
+use Rattle.oram_process_laws.specs.Lives.{Happening, IsRightRun, IsRunBefore, Lives, is_all_kept_after, run_of}
 
 -- The replies that a process gives: those of its core while what is kept has all commands. `perform` gives no others, since it
 -- keeps the core first.
-abbrev pub given_at : Bool → Deed → List Reply
-given_at all deed = if is_all_kept_after all deed then replies_in deed else []
+abbrev pub given_at : Bool → ProcessStep → List Reply
+given_at all step = if is_all_kept_after all step then replies_in step else []
 
-abbrev pub given_by : Bool → List Deed → List Reply
+abbrev pub given_by : Bool → List ProcessStep → List Reply
 given_by all [] = []
-given_by all (deed ∷ deeds) = given_at all deed ++ given_by (is_all_kept_after all deed) deeds
+given_by all (step ∷ steps) = given_at all step ++ given_by (is_all_kept_after all step) steps
 
 -- A reply to one of these commands, which has the ticket of its place: it is the plain array's after the commands before it, or
 -- says that the device has failed.
@@ -67,11 +62,11 @@ RepliesAreOfOneRun {B} {K} batches reads_back =
     (v : Setting) (trees : List Tree) (n : ℕ) (first : Process B K) → IsDevice v.scheme.device → IsFormatted v trees
     → (lives : Lives v.scheme batches reads_back (new_state v trees) n first)
     → (before : List Happening) × (is : IsRunBefore v.scheme batches reads_back (new_state v trees) n first lives before)
-    × ((deeds : List Deed) (p : Process B K) → GoesAll v.scheme batches reads_back first deeds p
-    → IsRightRun v trees (before ++ run_of deeds) p.core
-    × (ShowedNoPair v batches reads_back (new_state v trees) n first lives before is → ShowsNoPair v [] (before ++ run_of deeds)
-    → AreRepliesIn v.scheme.device (accepted (past_after [] (before ++ run_of deeds)))
-    (given_before v batches reads_back (new_state v trees) n first lives ++ given_by true deeds)))
+    × ((steps : List ProcessStep) (p : Process B K) → DoesSteps v.scheme batches reads_back first steps p
+    → IsRightRun v trees (before ++ run_of steps) p.core
+    × (ShowedNoPair v batches reads_back (new_state v trees) n first lives before is → ShowsNoPair v [] (before ++ run_of steps)
+    → AreRepliesIn v.scheme.device (accepted (past_after [] (before ++ run_of steps)))
+    (given_before v batches reads_back (new_state v trees) n first lives ++ given_by true steps)))
 
 -- So two replies with the same ticket are the same, whichever processes gave them, unless one says that the device has failed.
 abbrev pub OneTicketHasOneReply : Type 0

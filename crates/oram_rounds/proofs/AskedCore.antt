@@ -1,5 +1,5 @@
 -- The core that has been asked to read its block: it is sound, and has a file.
-use Rattle.std.proofs.Common.{◌≡◌, ℕ, zero, suc, ◌+◌, ◌*◌, ◌-◌, ◌^◌, ◌<◌, ◌≤◌, arith, List, [], ◌∷◌, ◌++◌, length, length-append, replicate, slice_index_or, if◌then◌else◌, ◌==◌, refl, sym, ap, subst, inr}
+use Rattle.std.proofs.Common.{◌≡◌, ℕ, zero, suc, ◌+◌, ◌*◌, ◌-◌, ◌^◌, ◌<◌, ◌≤◌, arith, List, [], ◌∷◌, ◌++◌, length, length-append, replicate, slice_index_or, if◌then◌else◌, ◌==◌, refl, sym, ap, subst}
 use Rattle.std.specs.Int.{w64, to_be_bytes}
 use Rattle.std.specs.List.{All, AllByRecursion}
 use Rattle.std.proofs.lemmas.List.Elements.{All-cons, All-nil}
@@ -15,8 +15,8 @@ use Rattle.oram_semantics.specs.Nonces.{buckets_below, formatted_below, next_non
 use Rattle.oram_semantics.specs.State.{no_tree}
 use Rattle.oram_core.specs.Core.{IsAtWork, IsHealthy, IsSound, IsTreeKept}
 use Rattle.oram_core.specs.Parts.{Parts, parts_of}
-use Rattle.oram_state.specs.DecodedCore.{IsSaved}
-use Rattle.oram_state.specs.StateBytes.{body, fields_text, long, short, state_file, work_of, work_text}
+use Rattle.oram_state.specs.DecodedCore.{AreSavedFields}
+use Rattle.oram_state.specs.StateBytes.{fields_text, long, short, work_of, work_text}
 use Rattle.oram_state.specs.WellSized.{IsSizedBlock, IsSizedTree, IsSizedWork, IsWellSized}
 use Rattle.oram_link_laws.specs.Examples.{one_block}
 use Rattle.oram_link_laws.proofs.Device.{one_tree, session_example}
@@ -120,24 +120,23 @@ well_sized = record {
 rising : All (λ (t : TreeParts). IsRising t.stash) parts.trees
 rising = All-cons (λ (t : TreeParts). IsRising t.stash) _ [] (λ i j d lt within. absurd (omega (arith, within))) (All-nil _)
 
-abbrev state : List ℕ
-state = state_file 2 0 parts
+abbrev fields : List ℕ
+fields = fields_text 0 parts
 
-saved : IsSaved state 0 one_block.device asked_core
+saved : AreSavedFields fields 0 one_block.device asked_core
 saved = record {
-  version = 2;
   parts = parts;
-  file = record { version_known = inr refl; overhead_fits = omega arith; sized = well_sized; spelled = refl };
+  fields = record { overhead_fits = omega arith; sized = well_sized; spelled = refl };
   fits = record { sound = sound; rising = rising };
   device = refl;
   state = refl;
 }
 
 abbrev pub file_bytes : List ℕ
-file_bytes = kept_text [] state
+file_bytes = kept_text [] fields
 
 pub is_file : IsFile one_block file_bytes [] asked_core
-is_file = record { counted = (omega arith, tt); state = state; saved = saved; all = refl }
+is_file = record { counted = (omega arith, tt); fields = fields; saved = saved; all = refl }
 
 -- it is short
 
@@ -153,14 +152,12 @@ rest_len root work whole rest =
     omega (arith, whole, rest, length-append (((root ++ zeros) ++ []) ++ []) work, length-append ((root ++ zeros) ++ []) [], length-append (root ++ zeros) [], length-append root zeros)
 
 -- with any digest of the root
-body_len : (root : List ℕ) → length root ≡ 32 → length (body 2 (fields_text 0 (record parts { trees = record { root = root; stash = [] } ∷ [] }))) ≡ 152
+fields_len : (root : List ℕ) → length root ≡ 32 → length (fields_text 0 (record parts { trees = record { root = root; stash = [] } ∷ [] })) ≡ 132
 unfolding short long trees_of blocks_in level_for least_from
-body_len root whole = omega (arith, rest_len root (work_text (work_of parts)) whole work_len)
+fields_len root whole = omega (arith, rest_len root (work_text (work_of parts)) whole work_len)
 
-kept_len : (number : ℕ) (text digest : List ℕ) → length text ≡ 152 → length digest ≡ 32 → length (stores_text [] ++ (to_be_bytes w64 number ++ (text ++ digest))) < 2 ^ 64
-kept_len number text digest whole rest = omega (arith, whole, rest, length-append text digest)
+kept_len : (number : ℕ) (text : List ℕ) → length text ≡ 132 → length ((stores_text [] ++ text) ++ to_be_bytes w64 number) < 2 ^ 64
+kept_len number text whole = omega (arith, whole, length-append (stores_text [] ++ text) (to_be_bytes w64 number), length-append (stores_text []) text)
 
 pub file_len : length file_bytes < 2 ^ 64
-file_len =
-    let text : List ℕ = body 2 (fields_text 0 parts) in
-    kept_len (checksum (stores_text [])) text (sha256 text) (body_len (sha256 (replicate 88 0)) (length-sha256 (replicate 88 0))) (length-sha256 text)
+file_len = kept_len (checksum (stores_text [] ++ fields)) fields (fields_len (sha256 (replicate 88 0)) (length-sha256 (replicate 88 0)))

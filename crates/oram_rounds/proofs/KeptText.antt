@@ -1,15 +1,14 @@
--- A file has one list of STOREs, and one state file behind them.
+-- A file has one list of STOREs, and one core behind them.
 use Rattle.std.proofs.Common.{◌≡◌, ◌≢◌, ℕ, ◌+◌, ◌-◌, ◌<◌, ◌≤◌, ◌^◌, arith, List, [], ◌∷◌, ◌++◌, length, drop, take, refl, sym, ap, ◌∙◌, subst, append_assoc, length-append}
 use Rattle.std.specs.Int.{w64, from_be_bytes, to_be_bytes}
 use Rattle.std.specs.List.{AllByRecursion, flat_map}
-use Rattle.std.proofs.Math.Seq.{take-append_seam}
 use Rattle.std.proofs.lemmas.List.{take-append-drop}
 use Rattle.std.proofs.lemmas.Nat.{be_bytes_8, from_be_bytes-to_be_bytes_8}
 use Rattle.oram_trace.proofs.Leftover.{append_parts}
-use Rattle.oram_state.specs.DecodedCore.{IsSaved}
-use Rattle.oram_state.proofs.Sized.{one_core}
-use Rattle.oram_state.proofs.Tools.{IsBytes, IsBytes-take}
-use Rattle.oram_rounds.specs.Files.{AreCounted, FilesTellOfOneProcess, checksum, kept_text, store_text, stores_text}
+use Rattle.oram_state.specs.DecodedCore.{AreSavedFields}
+use Rattle.oram_state.proofs.Sized.{one_core_bare}
+use Rattle.oram_state.proofs.Tools.{IsBytes, IsBytes-drop, IsBytes-take}
+use Rattle.oram_rounds.specs.Files.{AreCounted, FilesTellOfOneProcess, checksum, kept_text, store_text, stores_text, with_checksum}
 
 -- the first eight bytes are those of the number that they are read as
 pub number_front : (bytes number rest : List ℕ) (n : ℕ) → IsBytes bytes → number ≡ take 8 bytes → rest ≡ drop 8 bytes → length rest + 8 ≡ length bytes → n ≡ from_be_bytes w64 number
@@ -19,6 +18,37 @@ number_front bytes number rest n fit front back len is =
     let eight : length number ≡ 8 = omega (arith, ap length whole, length-append number rest, len) in
     let fits : IsBytes number = subst IsBytes (sym front) (IsBytes-take 8 bytes fit) in
     whole ∙ ap (λ (b : List ℕ). b ++ rest) (sym (be_bytes_8 number n eight fits is))
+
+-- the last eight bytes are those of the number that they are read as
+pub number_end : (bytes rest number : List ℕ) (n : ℕ) → IsBytes bytes → rest ≡ take (length bytes - 8) bytes → number ≡ drop (length bytes - 8) bytes → length rest + 8 ≡ length bytes → n ≡ from_be_bytes w64 number
+    → bytes ≡ rest ++ to_be_bytes w64 n
+number_end bytes rest number n fit front back len is =
+    let at : ℕ = length bytes - 8 in
+    let whole : bytes ≡ rest ++ number = sym (ap (λ (b : List ℕ). b ++ number) front ∙ ap (λ (b : List ℕ). take at bytes ++ b) back ∙ take-append-drop at bytes) in
+    let eight : length number ≡ 8 = omega (arith, ap length whole, length-append rest number, len) in
+    let fits : IsBytes number = subst IsBytes (sym back) (IsBytes-drop at bytes fit) in
+    whole ∙ ap (λ (b : List ℕ). rest ++ b) (sym (be_bytes_8 number n eight fits is))
+
+-- two texts with numbers behind them
+ends_same : (a b : List ℕ) (m n : ℕ) → a ++ to_be_bytes w64 m ≡ b ++ to_be_bytes w64 n → (a ≡ b) × (to_be_bytes w64 m ≡ to_be_bytes w64 n)
+ends_same a b m n e =
+    let eight : (k : ℕ) → length (to_be_bytes w64 k) ≡ 8 = λ k. refl in
+    let long : length a ≡ length b = omega (arith, ap length e, length-append a (to_be_bytes w64 m), length-append b (to_be_bytes w64 n), eight m, eight n) in
+    append_parts a (to_be_bytes w64 m) b (to_be_bytes w64 n) long e
+
+-- a text has one checksum
+pub sums_same : (text other : List ℕ) → with_checksum text ≡ with_checksum other → text ≡ other
+sums_same text other e = (ends_same text other (checksum text) (checksum other) e).0
+
+-- a text with another number behind it is no text with its checksum
+pub other_sum : (file text : List ℕ) (number check : ℕ) → file ≡ text ++ to_be_bytes w64 number → check ≡ checksum text → number < 2 ^ 64 → check < 2 ^ 64 → number ≢ check
+    → (other : List ℕ) → file ≢ with_checksum other
+other_sum file text number check is sum low low_check apart other e =
+    let ends = ends_same text other number (checksum other) (sym is ∙ e) in
+    let same : checksum other ≡ check = ap checksum (sym ends.0) ∙ sym sum in
+    apart (
+    sym (from_be_bytes-to_be_bytes_8 number low) ∙ ap (from_be_bytes w64) (ends.1 ∙ ap (to_be_bytes w64) same) ∙ from_be_bytes-to_be_bytes_8 check low_check
+    )
 
 abbrev pub AreShort : List (List ℕ) → Type 0
 AreShort stores = AllByRecursion (λ store. length store < 2 ^ 64) stores
@@ -122,48 +152,24 @@ short_more [] b short low = (low, tt)
 short_more (x ∷ front) b short low = (short.0, short_more front b short.1 low)
 
 -- what a file is written from
-pub kept_by : (stores : List (List ℕ)) (start text summed file state number : List ℕ) (check : ℕ) → start ≡ [] → text ≡ start ++ stores_text stores → check ≡ checksum text
-    → number ≡ to_be_bytes w64 check → summed ≡ text ++ number → file ≡ summed ++ state → file ≡ kept_text stores state
-kept_by stores start text summed file state number check none pushed sum is adds all =
-    let same : text ≡ stores_text stores = pushed ∙ ap (λ (b : List ℕ). b ++ stores_text stores) none in
-    all ∙ ap (λ (b : List ℕ). b ++ state) (adds ∙ ap (λ (b : List ℕ). text ++ b) is ∙ ap (λ (n : ℕ). text ++ to_be_bytes w64 n) sum) ∙ append_assoc text (to_be_bytes w64 (checksum text)) state
-    ∙ ap (λ (b : List ℕ). b ++ (to_be_bytes w64 (checksum b) ++ state)) same
-
--- what stands before the rest is the text of the STOREs
-pub text_before : (file text rest : List ℕ) → file ≡ text ++ rest → take (length file - length rest) file ≡ text
-text_before file text rest all =
-    let len : length file - length rest ≡ length text = omega (arith, ap length all, length-append text rest) in
-    ap (λ (n : ℕ). take n file) len ∙ ap (λ (f : List ℕ). take (length text) f) all ∙ take-append_seam text rest
-
--- the file of STOREs and a state file has both behind the text that was read
-pub kept_behind : (file rest state : List ℕ) (stores others : List (List ℕ)) → AreCounted stores → AreCounted others → file ≡ stores_text stores ++ rest → file ≡ kept_text others state
-    → rest ≡ to_be_bytes w64 (checksum (stores_text stores)) ++ state
-kept_behind file rest state stores others counted counted_too read is =
-    let same = texts_same stores others rest (to_be_bytes w64 (checksum (stores_text others)) ++ state) counted counted_too (sym read ∙ is) in
-    same.1 ∙ ap (λ (bs : List (List ℕ)). to_be_bytes w64 (checksum (stores_text bs)) ++ state) (sym same.0)
+pub kept_by : (stores : List (List ℕ)) (start text summed file fields number : List ℕ) (check : ℕ) → start ≡ [] → text ≡ start ++ stores_text stores → summed ≡ text ++ fields → check ≡ checksum summed
+    → number ≡ to_be_bytes w64 check → file ≡ summed ++ number → file ≡ kept_text stores fields
+kept_by stores start text summed file fields number check none pushed adds sum is all =
+    let same : summed ≡ stores_text stores ++ fields = adds ∙ ap (λ (b : List ℕ). b ++ fields) (pushed ∙ ap (λ (b : List ℕ). b ++ stores_text stores) none) in
+    all ∙ ap (λ (b : List ℕ). summed ++ b) (is ∙ ap (to_be_bytes w64) sum) ∙ ap with_checksum same
 
 -- two files that are equal
-pub kept_same : (xs ys : List (List ℕ)) (state other : List ℕ) → AreCounted xs → AreCounted ys → kept_text xs state ≡ kept_text ys other → (xs ≡ ys) × (state ≡ other)
-kept_same xs ys state other counted_x counted_y e =
-    let check : List (List ℕ) → List ℕ = λ bs. to_be_bytes w64 (checksum (stores_text bs)) in
-    let same = texts_same xs ys (check xs ++ state) (check ys ++ other) counted_x counted_y e in
-    (same.0, (append_parts (check xs) state (check ys) other refl same.1).1)
+pub kept_same : (xs ys : List (List ℕ)) (fields other : List ℕ) → AreCounted xs → AreCounted ys → kept_text xs fields ≡ kept_text ys other → (xs ≡ ys) × (fields ≡ other)
+kept_same xs ys fields other counted_x counted_y e =
+    texts_same xs ys fields other counted_x counted_y (sums_same (stores_text xs ++ fields) (stores_text ys ++ other) e)
 
-pub other_number : (m n : ℕ) (r t : List ℕ) → m < 2 ^ 64 → n < 2 ^ 64 → m ≢ n → to_be_bytes w64 m ++ r ≢ to_be_bytes w64 n ++ t
-other_number m n r t low_m low_n apart e = apart (number_same m n r t low_m low_n e).0
-
-pub longer : (m n : ℕ) (t : List ℕ) → n ≡ length (to_be_bytes w64 m ++ t) → 8 ≤ n
-longer m n t e = omega (arith, e, length-append (to_be_bytes w64 m) t)
+pub longer : (text : List ℕ) (n : ℕ) → 8 ≤ length (text ++ to_be_bytes w64 n)
+longer text n =
+    let eight : length (to_be_bytes w64 n) ≡ 8 = refl in
+    omega (arith, length-append text (to_be_bytes w64 n), eight)
 
 pub one_process : FilesTellOfOneProcess
 one_process overhead d d' bytes stores stores' core core' fits f g =
-    let same = kept_same stores stores' f.state g.state f.counted g.counted (sym f.all ∙ g.all) in
-    let again : IsSaved f.state overhead d' core' = subst (λ (text : List ℕ). IsSaved text overhead d' core') (sym same.1) g.saved in
-    let short : length f.state < 2 ^ 64 = omega (
-      arith,
-      fits,
-      ap length f.all,
-      length-append (stores_text stores) (to_be_bytes w64 (checksum (stores_text stores)) ++ f.state),
-      length-append (to_be_bytes w64 (checksum (stores_text stores))) f.state,
-    ) in
-    let one = one_core f.state overhead d d' core core' short f.saved again in (same.0, one.0, one.1)
+    let same = kept_same stores stores' f.fields g.fields f.counted g.counted (sym f.all ∙ g.all) in
+    let again : AreSavedFields f.fields overhead d' core' = subst (λ (text : List ℕ). AreSavedFields text overhead d' core') (sym same.1) g.saved in
+    let one = one_core_bare f.fields overhead d d' core core' f.saved again in (same.0, one.0, one.1)

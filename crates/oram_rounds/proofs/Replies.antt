@@ -27,7 +27,7 @@ use Rattle.oram_rounds.specs.Law.{AreAhead, AreBatches}
 use Rattle.oram_rounds.specs.Process.{Act, Does, DoesAll, HaveFailed, HaveReplies, IsGoingOn, Process, RepliesAreTheArrays, exchanges_of, next_bodies, replies_of}
 use Rattle.oram_rounds.specs.Process.Act.{Calls, GoesAhead, Hears, Keeps, Misses}
 use Rattle.oram_rounds.specs.Rounds.{Round, waiting}
-use Rattle.oram_rounds.specs.Service.{AreReplied, IsReplied, IsServed, Waiting as Waits}
+use Rattle.oram_rounds.specs.Service.{AreReplied, ArrayAndQueue, IsReplied, IsServed}
 use Rattle.oram_rounds.proofs.GoneAhead.{ahead_is_of_the_host}
 use Rattle.oram_rounds.proofs.Unchanged.{none_ahead}
 use Rattle.oram_rounds.proofs.Safety.{IsIdleStep, called, lost_idles, reopen_honest, retried_idles, retry_honest, served_on}
@@ -38,7 +38,7 @@ module _ {B K : Type 0} (batches : B → List (List ℕ) → BatchOutcome → Li
   Outcomes p array replies q host = HaveReplies may_lie v p array replies q host ⊎ HaveFailed may_lie v p array replies q
 
   same_queue : (array : ℕ → List ℕ) (p q : List Submission) → q ≡ p → AreReplied v.device (array, p) [] (array, q)
-  same_queue array p q same = ap (λ (queue : List Submission). let w : Waits = (array, queue) in w) (sym same)
+  same_queue array p q same = ap (λ (queue : List Submission). let w : ArrayAndQueue = (array, queue) in w) (sym same)
 
   -- an event without a reply
   idle_event : (p q : Process B K) (host : Host) (array : ℕ → List ℕ) (event : Event) (x : Shown) (d : Did) → Steps v p.core event x q.core → plain_step v p.core event ≡ Some d
@@ -147,8 +147,8 @@ module _ {B K : Type 0} (batches : B → List (List ℕ) → BatchOutcome → Li
   same_device (Keeps true) p q does = (ap (λ (l : Round B). l.device) does.2, ap (λ (l : Round B). l.record_len) does.2)
   same_device (Keeps false) p q does = (ap (λ (l : Round B). l.device) does.2, ap (λ (l : Round B). l.record_len) does.2)
 
-  join : (a b c : Waits) (first second : List Reply) → AreReplied v.device a first b → AreReplied v.device b second c → AreReplied v.device a (first ++ second) c
-  join a b c first second one two = folds_join {P = Waits} {A = Reply} (IsReplied v.device) a b c first second one two
+  join : (a b c : ArrayAndQueue) (first second : List Reply) → AreReplied v.device a first b → AreReplied v.device b second c → AreReplied v.device a (first ++ second) c
+  join a b c first second one two = folds_join {P = ArrayAndQueue} {A = Reply} (IsReplied v.device) a b c first second one two
 
   all_replied : (acts : List Act) (p q : Process B K) (host after : Host) (array : ℕ → List ℕ) → p.link.device ≡ v.device → p.link.record_len ≡ record_len v → IsGoingOn may_lie v p host array
       → DoesAll v batches reads_back p acts q → PlainRun may_lie v host (flat_map exchanges_of acts) after → Outcomes p array (flat_map replies_of acts) q after

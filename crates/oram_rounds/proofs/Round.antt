@@ -25,7 +25,7 @@ use Rattle.oram_rounds.specs.CatchUp.{CatchesUp, IsPlainCall, IsPlainLie, PlainR
 use Rattle.oram_rounds.specs.Law.{AreAhead, AreBatches, CallsAreOfTheHostLater, IsFetchNow, IsStocked}
 use Rattle.oram_rounds.specs.PathMessages.{IsPathFetch, IsPathStore}
 use Rattle.oram_rounds.specs.Overlay.{IsOverlaid, holds_path}
-use Rattle.oram_rounds.specs.Rounds.{Declines, Does, Fetches, Gives, Holds, Round, Takes, is_refusal_body, refused_with, waiting}
+use Rattle.oram_rounds.specs.Rounds.{Declines, Does, Fetches, Gives, HoldsBack, Round, TakesAhead, is_refusal_body, refused_with, waiting}
 use Rattle.oram_rounds.proofs.Calls.{honest_later, lie_later, pathless_lie, refuses_later}
 use Rattle.oram_rounds.proofs.KeptPaths.{leaf_small}
 use Rattle.oram_rounds.proofs.Sent.{all_among, batch_among}
@@ -99,7 +99,7 @@ module _ {B : Type 0} (batches : B → List (List ℕ) → BatchOutcome → List
   unsent : exchanges ≡ [] → after ≡ host
   unsent none = sym (subst (λ (xs : List Exchange). PlainRun may_lie v host xs after) none run)
 
-  held_back : Holds batches v.device (record_len v) l body o exchanges m → Becomes
+  held_back : HoldsBack batches v.device (record_len v) l body o exchanges m → Becomes
   held_back h =
       let put = put_catches v (waiting l) body host later h.path c in
       let same : waiting m ≡ waiting l ++ body ∷ [] =
@@ -109,7 +109,7 @@ module _ {B : Type 0} (batches : B → List (List ℕ) → BatchOutcome → List
         inl (subst (λ (x : Outcome). IsHonestCall later body x put.0) (sym h.answer) (Done, tt, refl, put.2)),
       )
 
-  declined : Declines batches v.device (record_len v) l o exchanges m → Becomes
+  declined : Declines batches v.device (record_len v) l body o exchanges m → Becomes
   declined d =
       let same : waiting m ≡ waiting l = ap (λ (k : List (List ℕ)). k ++ m.held) d.kept ∙ ap (λ (k : List (List ℕ)). l.kept ++ k) d.held in (
         later,
@@ -229,19 +229,19 @@ module _ {B : Type 0} (batches : B → List (List ℕ) → BatchOutcome → List
   module _ (a : AreAhead may_lie v host l) where
     -- the answer that is taken is the host's of now, and no STORE is kept
 
-    unkept : Takes batches v.device (record_len v) l body o exchanges m → l.kept ≡ []
+    unkept : TakesAhead batches v.device (record_len v) l body o exchanges m → l.kept ≡ []
     unkept t = elim a.alone [ inl none ↦ absurd (let both : [] ≡ (body, Ok t.answer) ∷ m.ahead = sym none ∙ t.next in cc) | inr none ↦ none ]
 
-    each_now : (t : Takes batches v.device (record_len v) l body o exchanges m) → AllByRecursion (IsFetchNow may_lie v host) ((body, Ok t.answer) ∷ m.ahead)
+    each_now : (t : TakesAhead batches v.device (record_len v) l body o exchanges m) → AllByRecursion (IsFetchNow may_lie v host) ((body, Ok t.answer) ∷ m.ahead)
     each_now t = subst (AllByRecursion (IsFetchNow may_lie v host)) t.next a.each
 
-    taken_ahead : (IsPathFetch v.device body → IsStocked v later) → Takes batches v.device (record_len v) l body o exchanges m → Becomes
+    taken_ahead : (IsPathFetch v.device body → IsStocked v later) → TakesAhead batches v.device (record_len v) l body o exchanges m → Becomes
     taken_ahead stocked t =
         let now : IsFetchNow may_lie v host (body, Ok t.answer) = (each_now t).0 in
         let caught : CatchesUp v host l.held later = subst (λ (k : List (List ℕ)). CatchesUp v host (k ++ l.held) later) (unkept t) c in (
           later,
           subst (λ (g : Host). CatchesUp v g (waiting m) later) (sym (unsent t.none)) (subst (λ (k : List (List ℕ)). CatchesUp v host k later) (sym (same_waiting t.kept t.held)) c),
-          subst (λ (x : Outcome). IsHeardCall may_lie v later body x later) (sym t.told)
+          subst (λ (x : Outcome). IsHeardCall may_lie v later body x later) (sym t.reported)
               (given_to t.path (stocked t.path) host caught t.answer t.given now.1.0 now.1.1 t.over),
         )
 

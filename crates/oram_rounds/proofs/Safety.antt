@@ -39,7 +39,7 @@ use Rattle.oram_rounds.specs.PathMessages.{IsPathFetch}
 use Rattle.oram_rounds.specs.Process.{Act, ActsAreSafe, AreSentAhead, Does, DoesAll, BegunIsSafe, EndsAreSafe, EndsIn, IsKept, IsSafe, IsSent, Process, begun, earlier, exchanges_of, next_bodies}
 use Rattle.oram_rounds.specs.Process.Act.{Calls, GoesAhead, Hears, Keeps, Misses}
 use Rattle.oram_rounds.specs.Rounds.{Gives, Round, RoundCall, waiting}
-use Rattle.oram_rounds.specs.Service.{AreReplied, IsServed, WillHold, WillHoldAfter, after_all, Waiting as Waits}
+use Rattle.oram_rounds.specs.Service.{AreReplied, ArrayAndQueue, IsServed, WillHold, WillHoldAfter, after_all}
 use Rattle.oram_rounds.proofs.CatchUp.{IsWaitingOrFetch, run_catches}
 use Rattle.oram_rounds.proofs.GoneAhead.{ahead_fewer, ahead_is_of_the_host, ahead_sent, all_sent}
 use Rattle.oram_rounds.proofs.Round.{calls_are_of_the_host_later}
@@ -49,8 +49,8 @@ use Rattle.oram_rounds.proofs.Tries.{among_front}
 use Rattle.oram_rounds.proofs.Steps.{Went, step_call, step_quiet}
 
 -- the array that will be left is the same before the replies and after them
-replied_all : (d : Sizes) (replies : List Reply) (p q : Waits) → AreReplied d p replies q → after_all d p.1 p.0 ≡ after_all d q.1 q.0
-replied_all d [] p q all = ap (λ (w : Waits). after_all d w.1 w.0) all
+replied_all : (d : Sizes) (replies : List Reply) (p q : ArrayAndQueue) → AreReplied d p replies q → after_all d p.1 p.0 ≡ after_all d q.1 q.0
+replied_all d [] p q all = ap (λ (w : ArrayAndQueue). after_all d w.1 w.0) all
 replied_all d (reply ∷ replies) p q all =
     let x : Submission = all.1.0 in
     ap (λ (queue : List Submission). after_all d queue p.0) all.1.1 ∙ ap (λ (array : ℕ → List ℕ). after_all d all.0.1 array) (sym all.1.3) ∙ replied_all d replies all.0 q all.2

@@ -1,17 +1,18 @@
 -- What a FETCH of a link that holds STOREs back does, by what the batch gave.
-use Rattle.std.proofs.Common.{◌≡◌, ◌≢◌, ℕ, List, [], ◌∷◌, ◌++◌, length, Result, Ok, Err, refl, sym, ap, ◌∙◌, subst, inl, inr}
+use Rattle.std.proofs.Common.{◌≡◌, ◌≢◌, ◌⊎◌, ℕ, ◌+◌, true, List, [], ◌∷◌, ◌++◌, length, Result, Ok, Err, refl, sym, ap, ◌∙◌, subst, inl, inr}
 use Rattle.oram_wire.specs.HostMessages.{done_answer}
 use Rattle.std.specs.Global.{Vec}
-use Rattle.std.specs.Prelude.{MatchResult}
+use Rattle.std.specs.Prelude.{MatchResult, is_err, min}
 use Rattle.std.specs.List.{AllByRecursion}
 use Rattle.oram_session.specs.Outcome.{Outcome, outcome_of}
 use Rattle.oram_session.specs.declared.link.LinkFault.{LinkFault}
+use Rattle.oram_session.specs.declared.link.LinkFault.TheVariants.{Closed, OutOfMemory}
 use Rattle.oram_link_laws.specs.Repair.{IsAmong}
 use Rattle.oram_link_laws.specs.Runs.{Exchange}
 use Rattle.oram_rounds.specs.Batches.{BatchOutcome, answered}
 use Rattle.oram_rounds.specs.Overlay.{IsOverlaid}
 use Rattle.oram_rounds.specs.PathMessages.{IsPathFetch, IsPathStore}
-use Rattle.oram_rounds.specs.Rounds.{AreDone, Does, Fetches, IsFirstAhead, Round, WentAhead, refused_with}
+use Rattle.oram_rounds.specs.Rounds.{AreDone, Does, Fetches, Gives, IsCounted, IsFirstAhead, Round, WentAhead, refused_with}
 
 -- of a link before (i, which is l) and after
 module _ {B : Type 0} (batches : B → List (List ℕ) → BatchOutcome → List Exchange → B → Type 0) (i l m : Round B) (is : i ≡ l) (body : List ℕ) (f : IsPathFetch l.device body) (apart : ¬ IsFirstAhead l.ahead body) (exchanges : List Exchange) where
@@ -61,7 +62,7 @@ module _ {B : Type 0} (batches : B → List (List ℕ) → BatchOutcome → List
 -- what a STORE does, and a message that is declined
 module _ {B : Type 0} (batches : B → List (List ℕ) → BatchOutcome → List Exchange → B → Type 0) (l m : Round B) (body : List ℕ) where
   pub hold_does : (r : Result (Vec ℕ) LinkFault) → IsPathStore l.device l.record_len body
-      → MatchResult r (λ answer. (answer.items ≡ done_answer) × (m ≡ record l { held = l.held ++ body ∷ [] })) (λ fault. m ≡ l)
+      → MatchResult r (λ answer. (answer.items ≡ done_answer) × (m ≡ record l { held = l.held ++ body ∷ [] })) (λ fault. (fault ≡ OutOfMemory) × (m ≡ l))
       → (exchanges : List Exchange) × Does batches l.device l.record_len l body (outcome_of r) exchanges m
   hold_does (Ok answer) path a = (
     [],
@@ -75,11 +76,12 @@ module _ {B : Type 0} (batches : B → List (List ℕ) → BatchOutcome → List
       ahead = ap (λ (r : Round B). r.ahead) a.1;
     }),
   )
-  hold_does (Err fault) path same = ([], declined_does fault same)
+  hold_does (Err fault) path a = ([], declined_does fault a.0 a.1)
     where
-      declined_does : (fault : LinkFault) → m ≡ l → Does batches l.device l.record_len l body (Err fault) [] m
-      declined_does fault same = inr (inr (inl (record {
+      declined_does : (fault : LinkFault) → fault ≡ OutOfMemory → m ≡ l → Does batches l.device l.record_len l body (Err fault) [] m
+      declined_does fault memory same = inr (inr (inl (record {
         fault = fault;
+        why = inl memory;
         answer = refl;
         none = refl;
         same = ap (λ (r : Round B). r.inner) same;
@@ -89,8 +91,9 @@ module _ {B : Type 0} (batches : B → List (List ℕ) → BatchOutcome → List
       })))
 
 pub declines : {B : Type 0} (batches : B → List (List ℕ) → BatchOutcome → List Exchange → B → Type 0) (l : Round B) (body : List ℕ) (fault : LinkFault)
+    → (fault ≡ OutOfMemory) ⊎ ((fault ≡ Closed) × (¬ IsPathFetch l.device body) × (¬ IsPathStore l.device l.record_len body))
     → (exchanges : List Exchange) × Does batches l.device l.record_len l body (Err fault) exchanges l
-declines batches l body fault = ([], inr (inr (inl (record { fault = fault; answer = refl; none = refl; same = refl; kept = refl; held = refl; ahead = refl }))))
+declines batches l body fault why = ([], inr (inr (inl (record { fault = fault; why = why; answer = refl; none = refl; same = refl; kept = refl; held = refl; ahead = refl }))))
 
 -- all STOREs are kept now
 pub marked : {B : Type 0} (i l : Round B) (is : i ≡ l) (kept held : List (List ℕ)) (ahead : List Exchange) → kept ≡ i.kept ++ i.held → held ≡ [] → ahead ≡ []
@@ -147,7 +150,7 @@ taken_does {B} batches l m body answer given f next same over = (
     answer = answer;
     next = next;
     given = given;
-    told = refl;
+    reported = refl;
     over = over;
     none = refl;
     same = ap (λ (r : Round B). r.inner) same;
@@ -155,3 +158,64 @@ taken_does {B} batches l m body answer given f next same over = (
     held = ap (λ (r : Round B). r.held) same;
   }))),
 )
+
+-- a call that has a fault, and the number of faults after it
+module _ {B : Type 0} (batches : B → List (List ℕ) → BatchOutcome → List Exchange → B → Type 0) (l p : Round B) (body : List ℕ) where
+  -- what a call has done stays so where only that number changes
+
+  given_still : (faults : ℕ) (o : Outcome) (outcome : BatchOutcome) (path : IsPathFetch l.device body)
+      → MatchResult outcome (λ answers. Gives batches l.device l.record_len l path answers o p) (λ fault. (o ≡ Err fault) × (p.kept ≡ l.kept))
+      → MatchResult outcome (λ answers. Gives batches l.device l.record_len l path answers o (record p { faults = faults })) (λ fault. (o ≡ Err fault) × (p.kept ≡ l.kept))
+  given_still faults o (Ok answers) path g = record { acks = g.acks; answer = g.answer; all = g.all; either = g.either }
+  given_still faults o (Err fault) path g = g
+
+  does_still : (faults : ℕ) (o : Outcome) (exchanges : List Exchange) → Does batches l.device l.record_len l body o exchanges p
+      → Does batches l.device l.record_len l body o exchanges (record p { faults = faults })
+  does_still faults o exchanges (inl h) =
+      inl (record { path = h.path; answer = h.answer; none = h.none; same = h.same; kept = h.kept; held = h.held; ahead = h.ahead })
+  does_still faults o exchanges (inr (inl h)) = inr (inl (record {
+    path = h.path;
+    not_ahead = h.not_ahead;
+    outcome = h.outcome;
+    batch = h.batch;
+    held = h.held;
+    ahead = h.ahead;
+    gives = given_still faults o h.outcome h.path h.gives;
+  }))
+  does_still faults o exchanges (inr (inr (inl h))) = inr (inr (inl (record {
+    fault = h.fault;
+    why = h.why;
+    answer = h.answer;
+    none = h.none;
+    same = h.same;
+    kept = h.kept;
+    held = h.held;
+    ahead = h.ahead;
+  })))
+  does_still faults o exchanges (inr (inr (inr h))) = inr (inr (inr (record {
+    path = h.path;
+    answer = h.answer;
+    next = h.next;
+    given = h.given;
+    reported = h.reported;
+    over = h.over;
+    none = h.none;
+    same = h.same;
+    kept = h.kept;
+    held = h.held;
+  })))
+
+  pub fault_counted : (r : Result (Vec ℕ) LinkFault) (faults : ℕ) → is_err r ≡ true → p ≡ record l { inner = p.inner; kept = p.kept; held = p.held; ahead = p.ahead }
+      → faults ≡ min (p.faults + 1) 18446744073709551615
+      → (exchanges : List Exchange) × Does batches l.device l.record_len l body (outcome_of r) exchanges p
+      → IsCounted batches l body (outcome_of r) (record p { faults = faults })
+  fault_counted (Ok answer) faults err same count did = absurd cc
+  fault_counted (Err fault) faults err same count did = record {
+    exchanges = did.0;
+    call = record {
+      device = ap (λ (r : Round B). r.device) same;
+      record_len = ap (λ (r : Round B). r.record_len) same;
+      does = does_still faults (Err fault) did.0 did.1;
+    };
+    faults = count ∙ ap (λ (r : Round B). min (r.faults + 1) 18446744073709551615) same;
+  }

@@ -25,7 +25,7 @@ use Rattle.oram_session.specs.Exchanges.{event_of, is_stall}
 use Rattle.oram_session.specs.Honesty.{IsHeardCall, IsHonestCall}
 use Rattle.oram_session.specs.Outcome.{Outcome}
 use Rattle.oram_session.proofs.CoreSteps.{heard_is, stalled}
-use Rattle.oram_rounds.specs.Service.{AreReplied, IsServed, Waiting as Waits}
+use Rattle.oram_rounds.specs.Service.{AreReplied, ArrayAndQueue, IsServed}
 
 rests_same : (x y : Submission) (p q : List Submission) → x ∷ p ≡ y ∷ q → (x ≡ y) × (p ≡ q)
 rests_same x y p q e = (cc, cc)
@@ -54,7 +54,7 @@ module _ (v : Scheme) (s t : State) (after : Host) (array : ℕ → List ℕ) (e
     | inl quiet ↦ record {
       now = array;
       served = serves array quiet.1;
-      replied = subst (λ (rs : List Reply). AreReplied v.device (array, s.queue) rs (array, t.queue)) (sym none) (ap (λ (q : List Submission). let p : Waits = (array, q) in p) (sym same));
+      replied = subst (λ (rs : List Reply). AreReplied v.device (array, s.queue) rs (array, t.queue)) (sym none) (ap (λ (q : List Submission). let p : ArrayAndQueue = (array, q) in p) (sym same));
     }
     | inr replied ↦ absurd (let both = sym none ∙ replied.3 in cc)
   ]

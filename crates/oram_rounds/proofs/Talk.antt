@@ -136,26 +136,37 @@ module _ {B : Type 0} (batches : B → List (List ℕ) → BatchOutcome → List
 
   -- a core that was reopened, and has sent its message again or not
 
-  pub reopened_talks : (s t : State) (l : Round B) → Runs v s (Reopen ∷ Retry ∷ []) [] t → HasTalked v batches (s, l) [] (t, l)
+  pub reopened_talks : (s t : State) (l : Round B) → Runs v s (Reopen ∷ Retry ∷ []) [] t
+      → (x y : Shown) × (told : HasTalked v batches (s, l) [] (t, l)) × (told.acts ≡ Hears Reopen x ∷ Hears Retry y ∷ [])
   reopened_talks s t l run =
-      let again = run.4 in
-      record {
-        acts = Hears Reopen run.0 ∷ Hears Retry again.0 ∷ [];
-        talks = ((run.1, l), (inl refl, run.3, refl), ((again.1, l), (inr refl, again.3, refl), ap (λ (k : State). let p : Side = (k, l) in p) again.4.1));
-        replied = refl;
-      }
+      let again = run.4 in (
+        run.0,
+        again.0,
+        record {
+          acts = Hears Reopen run.0 ∷ Hears Retry again.0 ∷ [];
+          talks = ((run.1, l), (inl refl, run.3, refl), ((again.1, l), (inr refl, again.3, refl), ap (λ (k : State). let p : Side = (k, l) in p) again.4.1));
+          replied = refl;
+        },
+        refl,
+      )
 
-  pub lost_talks : (s t : State) (l : Round B) → Runs v s (Reopen ∷ []) [] t → HasTalked v batches (s, l) [] (t, l)
-  lost_talks s t l run = record {
-    acts = Hears Reopen run.0 ∷ [];
-    talks = ((run.1, l), (inl refl, run.3, refl), ap (λ (k : State). let p : Side = (k, l) in p) run.4.1);
-    replied = refl;
-  }
+  pub lost_talks : (s t : State) (l : Round B) → Runs v s (Reopen ∷ []) [] t
+      → (x : Shown) × (told : HasTalked v batches (s, l) [] (t, l)) × (told.acts ≡ Hears Reopen x ∷ [])
+  lost_talks s t l run = (
+    run.0,
+    record {
+      acts = Hears Reopen run.0 ∷ [];
+      talks = ((run.1, l), (inl refl, run.3, refl), ap (λ (k : State). let p : Side = (k, l) in p) run.4.1);
+      replied = refl;
+    },
+    refl,
+  )
 
   -- what a process does after its core and its link have talked without a reply
-  pub done_after : {K : Type 0} (reads_back : K → List ℕ → Type 0) (keeper : K) (u : Scheme) (p q : Side) (r : Process B K) (acts : List Act) → u ≡ v → HasTalked v batches p [] q
+  pub done_after : {K : Type 0} (reads_back : K → List ℕ → Type 0) (keeper : K) (u : Scheme) (p q : Side) (r : Process B K) (acts : List Act) → u ≡ v → (told : HasTalked v batches p [] q)
       → DoesAll u batches reads_back (record { core = q.0; link = q.1; keeper = keeper }) acts r
       → (all : List Act) × (flat_map replies_of all ≡ flat_map replies_of acts) × DoesAll v batches reads_back (record { core = p.0; link = p.1; keeper = keeper }) all r
+      × (all ≡ told.acts ++ acts)
   done_after {K} reads_back keeper u p q r acts same told does =
       let start : Process B K = record { core = p.0; link = p.1; keeper = keeper } in
       let mid : Process B K = record { core = q.0; link = q.1; keeper = keeper } in
@@ -164,6 +175,7 @@ module _ {B : Type 0} (batches : B → List (List ℕ) → BatchOutcome → List
         told.acts ++ acts,
         flat_map-append replies_of told.acts acts ∙ ap (λ (rs : List Reply). rs ++ flat_map replies_of acts) told.replied,
         folds_join {P = Process B K} {A = Act} (Does v batches reads_back) start mid r told.acts acts first second,
+        refl,
       )
 
   -- the keeper fails after that

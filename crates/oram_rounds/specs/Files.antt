@@ -1,4 +1,4 @@
--- What is kept of a process: the STOREs that wait, and the core's state file behind them.
+-- What is kept of a process: the STOREs that wait, the core behind them, and a checksum.
 use Rattle.std.specs.Prelude.{◌≡◌, ℕ, ◌<◌, ◌^◌, List, ◌++◌, length}
 use Rattle.std.specs.Hash.DefaultHasher as sip
 use Rattle.std.specs.Int.{w64, to_be_bytes}
@@ -6,7 +6,7 @@ use Rattle.std.specs.List.{AllByRecursion, flat_map}
 use Rattle.oram_geometry.specs.declared.Sizes.{Sizes}
 use Rattle.oram_semantics.specs.Scheme.{Scheme}
 use Rattle.oram_semantics.specs.State.{State}
-use Rattle.oram_state.specs.DecodedCore.{IsSaved}
+use Rattle.oram_state.specs.DecodedCore.{AreSavedFields}
 
 -- a STORE behind its length in eight bytes
 abbrev pub store_text : List ℕ → List ℕ
@@ -16,13 +16,17 @@ store_text store = to_be_bytes w64 (length store) ++ store
 abbrev pub stores_text : List (List ℕ) → List ℕ
 stores_text stores = to_be_bytes w64 (length stores) ++ flat_map store_text stores
 
--- SipHash-1-3 with keys of zeros. It tells STOREs that were torn or cut short.
+-- SipHash-1-3 with keys of zeros. It detects a text that was torn or cut short.
 unfoldable pub checksum : List ℕ → ℕ
 checksum text = sip.finish (sip.write sip.initial text)
 
--- the STOREs, their checksum in eight bytes, and the core's state file
+-- a text, and its checksum in eight bytes
+abbrev pub with_checksum : List ℕ → List ℕ
+with_checksum text = text ++ to_be_bytes w64 (checksum text)
+
+-- the STOREs and the core's fields, and their checksum
 abbrev pub kept_text : List (List ℕ) → List ℕ → List ℕ
-kept_text stores state = stores_text stores ++ (to_be_bytes w64 (checksum (stores_text stores)) ++ state)
+kept_text stores fields = with_checksum (stores_text stores ++ fields)
 
 -- the number of STOREs and their lengths fit into eight bytes
 abbrev pub AreCounted : List (List ℕ) → Type 0
@@ -31,9 +35,9 @@ AreCounted stores = (length stores < 2 ^ 64) × AllByRecursion (λ store. length
 -- the bytes have these STOREs and this core, of a device whose sealed buckets have this overhead
 pub record IsFileOf (overhead : ℕ) (device : Sizes) (bytes : List ℕ) (stores : List (List ℕ)) (core : State) : Type 0 where
   pub counted : AreCounted stores
-  pub state : List ℕ
-  pub saved : IsSaved state overhead device core
-  pub all : bytes ≡ kept_text stores state
+  pub fields : List ℕ
+  pub saved : AreSavedFields fields overhead device core
+  pub all : bytes ≡ kept_text stores fields
 
 abbrev pub IsFile : Scheme → List ℕ → List (List ℕ) → State → Type 0
 IsFile v bytes stores core = IsFileOf v.cipher.overhead v.device bytes stores core

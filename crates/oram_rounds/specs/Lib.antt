@@ -10,5 +10,6 @@ pub mod Files
 pub mod Process
 pub mod AheadInTurn
 pub mod Start
+pub mod ProcessSteps
 pub mod AskedExample
 pub mod ReplyExample

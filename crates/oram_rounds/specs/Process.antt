@@ -25,7 +25,7 @@ use Rattle.oram_rounds.specs.CatchUp.{CatchesUp, PlainRun}
 use Rattle.oram_rounds.specs.Law.{AreAhead, AreBatches}
 use Rattle.oram_rounds.specs.PathMessages.{IsPathFetch}
 use Rattle.oram_rounds.specs.Rounds.{Round, RoundCall, WentAhead, waiting}
-use Rattle.oram_rounds.specs.Service.{AreReplied, IsServed, WillHoldAfter, Waiting as Waits}
+use Rattle.oram_rounds.specs.Service.{AreReplied, ArrayAndQueue, IsServed, WillHoldAfter}
 
 pub record Process (B K : Type 0) : Type 0 where
   pub core : State
@@ -67,6 +67,23 @@ replies_of (Keeps done) = []
 -- the first act is to send FETCHes ahead
 abbrev pub GoesAheadFirst : List Act → Type 0
 GoesAheadFirst acts = (exchanges : List Exchange) × (rest : List Act) × (acts ≡ GoesAhead exchanges ∷ rest)
+
+-- a round: the process keeps itself, and sends FETCHes ahead before it does anything else
+abbrev pub IsRound : List Act → Type 0
+IsRound acts = (rest : List Act) × (acts ≡ Keeps true ∷ rest) × GoesAheadFirst rest
+
+-- a round that a fault has ended: the keeper has failed; or the process has kept itself and done nothing more; or FETCHes went
+-- ahead then, as in any round
+abbrev pub IsBrokenRound : List Act → Type 0
+IsBrokenRound acts = (acts ≡ Keeps false ∷ []) ⊎ ((acts ≡ Keeps true ∷ []) ⊎ IsRound acts)
+
+-- the core learns that it was reopened, and sends its message again; then the process does such a round
+abbrev pub IsResumption : (List Act → Type 0) → List Act → Type 0
+IsResumption Round acts = (x y : Shown) × (round : List Act) × (acts ≡ Hears Reopen x ∷ Hears Retry y ∷ round) × Round round
+
+-- a resumption that a fault has ended: after the core learned that it was reopened, or in its round
+abbrev pub IsBrokenResumption : List Act → Type 0
+IsBrokenResumption acts = ((x : Shown) × (acts ≡ Hears Reopen x ∷ [])) ⊎ IsResumption IsBrokenRound acts
 
 -- Nothing of the message has gone to the host; or it is a FETCH, and the host has received only it and kept STOREs, each perhaps
 -- several times.
@@ -208,7 +225,7 @@ pub record HaveFailed {B K : Type 0} (may_lie : Bool) (v : Scheme) (p : Process 
   pub lies : may_lie ≡ true
   pub failed : HasFailed q.core
   pub given : List Reply
-  pub left : Waits
+  pub left : ArrayAndQueue
   pub replied : AreReplied v.device (array, p.core.queue) given left
   pub all : replies ≡ given ++ map failed_reply left.1
 

@@ -5,6 +5,7 @@ use Rattle.oram_geometry.specs.declared.Sizes.{Sizes}
 use Rattle.oram_wire.specs.HostMessages.{done_answer}
 use Rattle.oram_session.specs.Outcome.{Outcome, faults_after}
 use Rattle.oram_session.specs.declared.link.LinkFault.{LinkFault}
+use Rattle.oram_session.specs.declared.link.LinkFault.TheVariants.{Closed, OutOfMemory}
 use Rattle.oram_link_laws.specs.Repair.{IsAmong}
 use Rattle.oram_link_laws.specs.Runs.{Exchange}
 use Rattle.oram_rounds.specs.Batches.{BatchOutcome, answered}
@@ -45,7 +46,7 @@ IsFirstAhead (e ∷ rest) body = e.0 ≡ body
 -- with records of this length
 module _ {B : Type 0} (batches : B → List (List ℕ) → BatchOutcome → List Exchange → B → Type 0) (d : Sizes) (record_len : ℕ) where
   -- a STORE is put to those that wait, and answered at once
-  pub record Holds (l : Round B) (body : List ℕ) (o : Outcome) (exchanges : List Exchange) (m : Round B) : Type 0 where
+  pub record HoldsBack (l : Round B) (body : List ℕ) (o : Outcome) (exchanges : List Exchange) (m : Round B) : Type 0 where
     pub path : IsPathStore d record_len body
     pub answer : o ≡ Ok done_answer
     pub none : exchanges ≡ []
@@ -73,9 +74,11 @@ module _ {B : Type 0} (batches : B → List (List ℕ) → BatchOutcome → List
     pub ahead : m.ahead ≡ l.ahead
     pub gives : MatchResult outcome (λ answers. Gives l path answers o m) (λ fault. (o ≡ Err fault) × (m.kept ≡ l.kept))
 
-  -- nothing goes to the host: memory ran out, or a core at work sends no such message
-  pub record Declines (l : Round B) (o : Outcome) (exchanges : List Exchange) (m : Round B) : Type 0 where
+  -- Nothing goes to the host: memory ran out, or this is neither a FETCH nor a STORE of a path of the device. A core at work
+  -- sends nothing else.
+  pub record Declines (l : Round B) (body : List ℕ) (o : Outcome) (exchanges : List Exchange) (m : Round B) : Type 0 where
     pub fault : LinkFault
+    pub why : (fault ≡ OutOfMemory) ⊎ ((fault ≡ Closed) × (¬ IsPathFetch d body) × (¬ IsPathStore d record_len body))
     pub answer : o ≡ Err fault
     pub none : exchanges ≡ []
     pub same : m.inner ≡ l.inner
@@ -84,12 +87,12 @@ module _ {B : Type 0} (batches : B → List (List ℕ) → BatchOutcome → List
     pub ahead : m.ahead ≡ l.ahead
 
   -- the FETCH is the first one ahead: its answer is here
-  pub record Takes (l : Round B) (body : List ℕ) (o : Outcome) (exchanges : List Exchange) (m : Round B) : Type 0 where
+  pub record TakesAhead (l : Round B) (body : List ℕ) (o : Outcome) (exchanges : List Exchange) (m : Round B) : Type 0 where
     pub path : IsPathFetch d body
     pub answer : List ℕ
     pub next : l.ahead ≡ (body, Ok answer) ∷ m.ahead
     pub given : List ℕ
-    pub told : o ≡ Ok given
+    pub reported : o ≡ Ok given
     pub over : IsOverlaid d record_len path.tree path.leaf l.held answer given
     pub none : exchanges ≡ []
     pub same : m.inner ≡ l.inner
@@ -97,7 +100,7 @@ module _ {B : Type 0} (batches : B → List (List ℕ) → BatchOutcome → List
     pub held : m.held ≡ l.held
 
   abbrev pub Does : Round B → List ℕ → Outcome → List Exchange → Round B → Type 0
-  Does l body o exchanges m = Holds l body o exchanges m ⊎ (Fetches l body o exchanges m ⊎ (Declines l o exchanges m ⊎ Takes l body o exchanges m))
+  Does l body o exchanges m = HoldsBack l body o exchanges m ⊎ (Fetches l body o exchanges m ⊎ (Declines l body o exchanges m ⊎ TakesAhead l body o exchanges m))
 
   -- The answers to the STOREs that were kept, and those to the FETCHes behind them. Unless each STORE was carried out, nothing
   -- is ahead.

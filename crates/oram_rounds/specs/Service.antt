@@ -22,16 +22,16 @@ pub record IsServed (v : Scheme) (s : State) (host : Host) (array : ℕ → List
   pub hosts : Hosts v s world host
 
 -- an array and the commands that wait, the oldest first
-abbrev pub Waiting : Type 0
-Waiting = (ℕ → List ℕ) × List Submission
+abbrev pub ArrayAndQueue : Type 0
+ArrayAndQueue = (ℕ → List ℕ) × List Submission
 
 -- the oldest command has the array's reply, and the array is as the command leaves it
-abbrev pub IsReplied : Sizes → Waiting → Reply → Waiting → Type 0
+abbrev pub IsReplied : Sizes → ArrayAndQueue → Reply → ArrayAndQueue → Type 0
 IsReplied d p reply q = (x : Submission) × (p.1 ≡ x ∷ q.1) × (reply ≡ reply_by p.0 x) × (q.0 ≡ array_after d x.command p.0)
 
 -- the commands have these replies, one after the other
-abbrev pub AreReplied : Sizes → Waiting → List Reply → Waiting → Type 0
-AreReplied d p replies q = FoldsTo {P = Waiting} (IsReplied d) p replies q
+abbrev pub AreReplied : Sizes → ArrayAndQueue → List Reply → ArrayAndQueue → Type 0
+AreReplied d p replies q = FoldsTo {P = ArrayAndQueue} (IsReplied d) p replies q
 
 -- the array after all commands of a queue
 abbrev pub after_all : Sizes → List Submission → (ℕ → List ℕ) → ℕ → List ℕ

@@ -1,20 +1,23 @@
 //! What is kept of a process, as bytes.
 //!
-//! A file has the STOREs that wait, the oldest first, and the core's state file behind them: the number of STOREs in eight
-//! bytes, each STORE behind its length in eight bytes, a checksum of all this in eight bytes, and the state file. All
+//! A file has the STOREs that wait, the oldest first, and the core behind them: the number of STOREs in eight bytes, each
+//! STORE behind its length in eight bytes, the fields of the core's state file, and a checksum of all this in eight bytes. All
 //! numbers are big-endian.
+//!
+//! The checksum only tells whether the file is whole. It need not withstand an attacker: what the file holds of paths is
+//! checked against root digests anyway, and the file lies with the client.
 ghost use Rattle.std.specs.Prelude.{◌≡◌, ◌≢◌, ◌⊎◌, ◌++◌, ◌<◌, ◌^◌, ℕ, List, None, length, IfErr, IfOk, IfSome, IsErrOf, OnOk};
 ghost use Rattle.std.specs.Int.{w64, to_be_bytes};
 ghost use Rattle.oram_geometry.specs.declared.Sizes.{Sizes};
 ghost use Rattle.oram_semantics.specs.State.{State};
 ghost use Rattle.oram_core.specs.Core.{scheme_of};
 ghost use Rattle.oram_rounds.specs.Batches.{texts};
-ghost use Rattle.oram_rounds.specs.Files.{AreCounted, IsFile, IsFileOf, checksum, kept_text, store_text, stores_text};
+ghost use Rattle.oram_rounds.specs.Files.{AreCounted, IsFile, IsFileOf, checksum, kept_text, store_text, stores_text, with_checksum};
 
 use crate::lists::push;
 use oram_bucket::Sealer;
 use oram_core::Core;
-use oram_state::{StateFault, decode_state, encode_state};
+use oram_state::{StateFault, decode_fields, encode_fields};
 use std::alloc::{AllocError, Global};
 use std::fmt;
 use std::hash::{DefaultHasher, Hasher};
@@ -22,7 +25,7 @@ use std::hash::{DefaultHasher, Hasher};
 /// The number of bytes of a number in a file.
 const NUMBER_LEN: usize = 8;
 
-/// The parts of a kept file.
+/// The parts of a process's file.
 #[derive(Drop)]
 pub struct KeptCore<S: Sealer> {
     /// The STOREs that the host may not have yet, the oldest first.
@@ -30,13 +33,13 @@ pub struct KeptCore<S: Sealer> {
     pub core: Core<S>,
 }
 
-/// Why bytes can't be read as a kept file.
+/// Why bytes can't be read as a process's file.
 #[derive(Clone, Copy, Debug, PartialEq, Eq)]
 pub enum KeptCoreFault {
-    /// The STOREs were cut short, or aren't those that were written.
+    /// The file was cut short, or isn't the one that was written.
     Torn,
-    /// The core's state file can't be read.
-    State(StateFault),
+    /// The file is whole, but its core is none with this sealer.
+    Core(StateFault),
     /// Memory ran out.
     OutOfMemory,
 }
@@ -45,7 +48,7 @@ impl fmt::Display for KeptCoreFault {
     fn fmt<W: fmt::Write>(&self, f: &mut fmt::Formatter<W>) -> fmt::Result {
         f.write_str(match self {
             KeptCoreFault::Torn => "the file is torn",
-            KeptCoreFault::State(_) => "the state file can't be read",
+            KeptCoreFault::Core(_) => "the file has no core with this sealer",
             KeptCoreFault::OutOfMemory => "out of memory",
         })
     }
@@ -70,12 +73,12 @@ impl From<StateFault> for KeptCoreFault {
     fn from(fault: StateFault) -> KeptCoreFault {
         match fault {
             StateFault::OutOfMemory => KeptCoreFault::OutOfMemory,
-            fault => KeptCoreFault::State(fault),
+            fault => KeptCoreFault::Core(fault),
         }
     }
 }
 
-/// Computes the checksum of STOREs as they stand in a file.
+/// Computes the checksum of a text.
 #[tactic(auto, unfolding(crate::specs::Files::checksum))]
 fn checksum(text: &[u8]) -> u64
     ensures value { result ≡ checksum text.now }
@@ -108,9 +111,9 @@ fn push_stores(file: &mut Vec<u8>, stores: &[Vec<u8>]) -> Result<(), AllocError>
     Ok(())
 }
 
-/// Returns how many bytes the file of these STOREs and of a state file has.
-fn file_len(stores: &[Vec<u8>], state: &[u8]) -> usize {
-    let mut len = (2 * NUMBER_LEN).saturating_add(state.len());
+/// Returns how many bytes the file of these STOREs and fields has.
+fn file_len(stores: &[Vec<u8>], fields: &[u8]) -> usize {
+    let mut len = (2 * NUMBER_LEN).saturating_add(fields.len());
     for store in stores {
         len = len.saturating_add(NUMBER_LEN).saturating_add(store.len());
     }
@@ -125,12 +128,12 @@ pub fn encode_kept<S: Sealer>(
 ) -> Result<Vec<u8>, AllocError>
     ensures { let v = scheme_of S.cipher core.now in IfOk result (λ file. IsFile v file.items (texts stores.now) core.now.state) }
 {
-    let state = encode_state(alloc, core)?;
-    let mut file = Vec::with_capacity(alloc, file_len(stores, &state))?;
+    let fields = encode_fields(alloc, core)?;
+    let mut file = Vec::with_capacity(alloc, file_len(stores, &fields))?;
     push_stores(&mut file, stores)?;
+    file.extend_from_slice(&fields)?;
     let check = checksum(&file);
     file.extend_from_slice(&check.to_be_bytes())?;
-    file.extend_from_slice(&state)?;
     Ok(file)
 }
 
@@ -177,28 +180,46 @@ fn read_stores(alloc: Global, bytes: &[u8]) -> Result<(Vec<Vec<u8>>, &[u8]), Kep
     Ok((stores, rest))
 }
 
-/// Reads the STOREs of a file, and returns the core's state file behind their checksum, unread.
+/// Reads the number at the end of some bytes, and returns the bytes before it.
+fn last_number(bytes: &[u8]) -> Option<(&[u8], u64)>
+    ensures some { IfSome result (λ x. bytes.now ≡ x.0.now ++ to_be_bytes w64 x.1) }
+    ensures small { IfSome result (λ x. x.1 < 2 ^ 64) }
+    ensures none { result ≡ None → length bytes.now < 8 }
+{
+    let (rest, number) = bytes.split_last_chunk::<NUMBER_LEN>()?;
+    Some((rest, u64::from_be_bytes(*number)))
+}
+
+/// Returns what stands before the checksum of a file that is whole.
+fn checked(file: &[u8]) -> Option<&[u8]>
+    ensures some { IfSome result (λ text. file.now ≡ with_checksum text.now) }
+    ensures none { result ≡ None → (text : List ℕ) → file.now ≢ with_checksum text }
+{
+    let (text, number) = last_number(file)?;
+    let check = checksum(text);
+    if number != check {
+        return None;
+    }
+    Some(text)
+}
+
+/// Reads the STOREs of a file, and returns the core's fields behind them, unread.
 fn split_kept(alloc: Global, file: &[u8]) -> Result<(Vec<Vec<u8>>, &[u8]), KeptCoreFault>
     ensures counted { IfOk result (λ x. AreCounted (texts x.0.items)) }
     ensures ok { IfOk result (λ x. file.now ≡ kept_text (texts x.0.items) x.1.now) }
-    ensures torn { IsErrOf result KeptCoreFault.Torn → (stores : List (List ℕ)) (state : List ℕ) → AreCounted stores → file.now ≢ kept_text stores state }
+    ensures torn { IsErrOf result KeptCoreFault.Torn → (stores : List (List ℕ)) (fields : List ℕ) → AreCounted stores → file.now ≢ kept_text stores fields }
     ensures fault { IfErr result (λ e. (e ≡ KeptCoreFault.Torn) ⊎ (e ≡ KeptCoreFault.OutOfMemory)) }
 {
-    let (stores, rest) = read_stores(alloc, file)?;
-    let check = checksum(&file[..file.len() - rest.len()]);
-    let Some((number, state)) = next_number(rest) else {
+    let Some(text) = checked(file) else {
         return Err(KeptCoreFault::Torn);
     };
-    if number != check {
-        return Err(KeptCoreFault::Torn);
-    }
-    Ok((stores, state))
+    read_stores(alloc, text)
 }
 
 /// Reads the file of a process whose core has this sealer.
 ///
-/// Fails with `Torn` if the STOREs aren't whole, with `State` if the state file behind them isn't one of a core with this
-/// sealer, and with `OutOfMemory` if memory runs out.
+/// Fails with `Torn` if the file isn't whole, with `Core` if the core in it is none with this sealer, and with `OutOfMemory` if
+/// memory runs out.
 pub fn decode_kept<S: Sealer>(
     alloc: Global,
     sealer: S,
@@ -212,8 +233,8 @@ pub fn decode_kept<S: Sealer>(
     ensures only { (d : Sizes) (stores : List (List ℕ)) (core : State) → IsFileOf (S.cipher sealer).overhead d file.now stores core
         → IfErr result (λ fault. fault ≡ KeptCoreFault.OutOfMemory) }
 {
-    let (stores, state) = split_kept(alloc, file)?;
-    match decode_state(alloc, sealer, state) {
+    let (stores, fields) = split_kept(alloc, file)?;
+    match decode_fields(alloc, sealer, fields) {
         Ok(core) => Ok(KeptCore { stores, core }),
         Err(fault) => Err(KeptCoreFault::from(fault)),
     }

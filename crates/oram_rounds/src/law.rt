@@ -49,7 +49,7 @@ pub fn one_waits_example()
     ensures { OneWaitsExample }
 {}
 
-/// A law about definitions: a kept file has one list of STOREs and one core. So [`decode_kept`](crate::decode_kept) gives
+/// A law about definitions: a process's file has one list of STOREs and one core. So [`decode_kept`](crate::decode_kept) gives
 /// back the process that was kept, and no other.
 pub fn files_tell_of_one_process()
     ensures { FilesTellOfOneProcess }

@@ -92,14 +92,25 @@ fn are_path_stores(device: &Device, record_len: usize, bodies: &[Vec<u8>]) -> bo
     true
 }
 
+/// Returns the tree and the leaf of a FETCH of a path of the device, or `None` if a message is no such FETCH.
+fn fetched_path(device: &Device, body: &[u8]) -> Option<(u8, u32)>
+    ensures { MatchOption result (¬ IsPathFetch device.now body.now)
+        (λ path. (path.0 < trees_of device.now) × (path.1 < 2 ^ depth_of device.now path.0) × (body.now ≡ fetch_body path.0 path.1)) }
+{
+    let Ok(HostView::Fetch { tree, leaf }) = HostView::read(body) else {
+        return None;
+    };
+    if !has_leaf(device, tree, leaf) {
+        return None;
+    }
+    Some((tree, leaf))
+}
+
 /// Returns whether a message is a FETCH of a path of the device.
 fn is_path_fetch(device: &Device, body: &[u8]) -> bool
     ensures { IsTrue result ↔ IsPathFetch device.now body.now }
 {
-    match HostView::read(body) {
-        Ok(HostView::Fetch { tree, leaf }) => has_leaf(device, tree, leaf),
-        _ => false,
-    }
+    fetched_path(device, body).is_some()
 }
 
 /// Returns whether all messages are FETCHes of paths of the device.
@@ -262,7 +273,7 @@ impl<B> RoundLink<B> {
     /// Puts a STORE to those that wait.
     fn hold(&mut self, alloc: Global, body: &[u8]) -> Result<Vec<u8>, LinkFault>
         requires { IsPathStore self.old.device self.old.record_len body.now }
-        ensures { MatchResult result (λ answer. (answer.items ≡ done_answer) × (self.new ≡ record self.old { held = self.old.held ++ body.now ∷ [] })) (λ fault. self.new ≡ self.old) }
+        ensures { MatchResult result (λ answer. (answer.items ≡ done_answer) × (self.new ≡ record self.old { held = self.old.held ++ body.now ∷ [] })) (λ fault. (fault ≡ LinkFault.OutOfMemory) × (self.new ≡ self.old)) }
     {
         let answer = [GOOD].to_vec(alloc)?;
         push(&mut self.stores, body.to_vec(alloc)?)?;
@@ -347,26 +358,18 @@ impl<B: BatchLink> RoundLink<B> {
         Ok(self.overlaid(tree, leaf, answer))
     }
 
-    /// Passes a message on, without counting faults.
+    /// Passes a message on, without counting faults. Declines with `Closed` what is neither a FETCH nor a STORE of a path of
+    /// the device.
     fn pass(&mut self, alloc: Global, body: &[u8]) -> Result<Vec<u8>, LinkFault>
         ensures same { self.new ≡ record self.old { inner = self.new.inner; kept = self.new.kept; held = self.new.held; ahead = self.new.ahead } }
         ensures call { (exchanges : List Exchange) × Does B.batches self.old.device self.old.record_len self.old body.now (outcome_of result) exchanges self.new }
     {
-        match HostView::read(body) {
-            Ok(HostView::Fetch { tree, leaf }) if has_leaf(&self.device, tree, leaf) => {
-                self.fetch_next(alloc, tree, leaf, body)
-            }
-            Ok(
-                HostView::Store {
-                    tree,
-                    leaf,
-                    records,
-                },
-            ) if has_leaf(&self.device, tree, leaf)
-                && records.len() == path_len(&self.device, self.record_len, tree) => {
-                self.hold(alloc, body)
-            }
-            _ => Err(LinkFault::Closed),
+        if is_path_store(&self.device, self.record_len, body) {
+            return self.hold(alloc, body);
+        }
+        match fetched_path(&self.device, body) {
+            Some((tree, leaf)) => self.fetch_next(alloc, tree, leaf, body),
+            None => Err(LinkFault::Closed),
         }
     }
 }

@@ -9,7 +9,7 @@ ghost use Rattle.oram_core.specs.PlainSteps.{done};
 ghost use Rattle.oram_session.specs.Honesty.{HasFailed};
 ghost use Rattle.oram_session.specs.Settled.{IsBodyOf, IsSettled, IsUnderWay};
 ghost use Rattle.oram_rounds.specs.Files.{IsFile};
-ghost use Rattle.oram_rounds.specs.Process.{Act, DoesAll, GoesAheadFirst, process, replies_of};
+ghost use Rattle.oram_rounds.specs.Process.{Act, DoesAll, GoesAheadFirst, IsBrokenResumption, IsBrokenRound, IsResumption, IsRound, process, replies_of};
 ghost use Rattle.oram_rounds.specs.Process.Act.{Keeps};
 ghost use Rattle.oram_rounds.specs.Rounds.{waiting};
 
@@ -72,9 +72,10 @@ pub fn perform<S: Sealer, B: BatchLink, K: Keeper>(
     ensures settled { OnOk result (IsSettled core.new.state) }
     ensures block { IfOk result (λ replies. All (λ reply. IsBodyOf core.old.device reply.body) replies.items) }
     ensures failed { IfOk result (λ replies. All (λ reply. reply.body ≡ ReplyBody.Failed → HasFailed core.new.state) replies.items) }
-    // After a fault either nothing was kept and nothing sent, or the commands are kept, and messages were exchanged.
+    // After a fault either nothing was kept and nothing sent, or the commands are kept. Then nothing was sent either, or the
+    // FETCHes went ahead first.
     ensures err { let v = scheme_of S.cipher core.old in
-        OnErr result ((acts : List Act) × ((acts ≡ Keeps false ∷ []) ⊎ ((rest : List Act) × (acts ≡ Keeps true ∷ rest)))
+        OnErr result ((acts : List Act) × IsBrokenRound acts
         × DoesAll v B.batches K.reads_back (process core.old.state link.old keeper.old) acts
         (process core.new.state link.new keeper.new)) }
     ensures not_kept { let v = scheme_of S.cipher core.old in
@@ -108,15 +109,18 @@ pub fn resume<S: Sealer, B: BatchLink, K: Keeper>(
         × (core.new ≡ core.old) × (link.new ≡ link.old) × (keeper.new ≡ keeper.old) }
     // In any other each command has its reply.
     ensures count { ¬ IsSettled core.old.state → IfOk result (λ replies. length replies.items ≡ length core.old.state.queue) }
+    // It was done in a round, which began with the FETCHes.
     ensures ok { let v = scheme_of S.cipher core.old in
         IfOk result (λ replies. (acts : List Act) × (flat_map replies_of acts ≡ replies.items)
         × DoesAll v B.batches K.reads_back (process core.old.state link.old keeper.old) acts
-        (process core.new.state link.new keeper.new)) }
+        (process core.new.state link.new keeper.new)
+        × (¬ IsSettled core.old.state → IsResumption IsRound acts)) }
     ensures block { IfOk result (λ replies. All (λ reply. IsBodyOf core.old.device reply.body) replies.items) }
     ensures err { let v = scheme_of S.cipher core.old in
         OnErr result ((acts : List Act)
         × DoesAll v B.batches K.reads_back (process core.old.state link.old keeper.old) acts
-        (process core.new.state link.new keeper.new)) }
+        (process core.new.state link.new keeper.new)
+        × IsBrokenResumption acts) }
     ensures not_kept { let v = scheme_of S.cipher core.old in
         IsErrOf result RoundFault.NotKept → (acts : List Act)
         × DoesAll v B.batches K.reads_back (process core.old.state link.old keeper.old) (acts ++ Keeps false ∷ [])

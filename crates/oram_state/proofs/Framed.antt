@@ -17,7 +17,7 @@ use Rattle.oram_state.specs.declared.fault.StateFault.{StateFault}
 use Rattle.oram_state.specs.declared.fault.StateFault.TheVariants.{Magic, Version, Length, Digest}
 use Rattle.oram_state.specs.declared.saved.Saved.{Saved}
 use Rattle.oram_state.specs.StateBytes.{Work, short, long, body, with_digest, fields_text, mode_by, mode_of, work_of}
-use Rattle.oram_state.specs.WellSized.{IsWellSized, IsWorkBy, HasFile, IsFileOf}
+use Rattle.oram_state.specs.WellSized.{AreFieldsOf, IsWellSized, IsWorkBy, HasFile, IsFileOf}
 use Rattle.oram_state.specs.Parser.{◌>>=◌, Gives, ends_with_digest, fields_in, saved_in, state_in, unless}
 use Rattle.oram_state.proofs.Tools.{IsBytes, IsBytes-take, IsBytes-drop, is_short, is_long, then_ok, goes, unless_ok}
 use Rattle.oram_state.proofs.Devices.{IsModeOf, both_true}
@@ -182,3 +182,19 @@ found text (Err why) h e = tt
 -- both directions
 pub exact : (text : List ℕ) (overhead : ℕ) (p : Parts) → IsBytes text → length text < 2 ^ 64 → (state_in text ≡ Ok (record { overhead = overhead; parts = p })) ↔ ((version : ℕ) × IsFileOf text version overhead p)
 exact text overhead p h fits = (λ e. found text (Ok (record { overhead = overhead; parts = p })) h e, λ x. state_again text x.0 overhead p fits x.1)
+
+-- ---- fields without a frame
+
+-- fields that can be read are those of the parts that they give
+pub fields_found : (text : List ℕ) (r : Result Saved StateFault) → IsBytes text → Gives (λ s. s) r (saved_in 2 text) → IfOk r (λ s. AreFieldsOf text s.overhead s.parts)
+fields_found text (Ok s) h e = spelled_by (subst (λ (x : Result Saved StateFault). IfOk x (λ s. (text ≡ fields_text s.overhead s.parts) × MayTell 2 s)) e (all_takes 2 text h))
+  where
+    spelled_by : (text ≡ fields_text s.overhead s.parts) × MayTell 2 s → AreFieldsOf text s.overhead s.parts
+    spelled_by p = record { overhead_fits = p.1.1; sized = p.1.2; spelled = p.0 }
+fields_found text (Err why) h e = tt
+
+-- and the fields of parts are read as these parts
+pub fields_again_bare : (text : List ℕ) (overhead : ℕ) (p : Parts) → AreFieldsOf text overhead p → saved_in 2 text ≡ Ok (record { overhead = overhead; parts = p })
+fields_again_bare text overhead p h =
+    let s : Saved = record { overhead = overhead; parts = p } in
+    ap (saved_in 2) h.spelled ∙ all_again 2 s (is_mode 2 p.failure p.waiting p.stalled (inr refl), h.overhead_fits, h.sized)

@@ -26,12 +26,12 @@ use Rattle.oram_core.specs.declared.parts.Pending.{Pending}
 use Rattle.oram_core.proofs.Fits.{fits_of, trees_of_parts}
 use Rattle.oram_state.specs.declared.fault.StateFault.{StateFault}
 use Rattle.oram_state.specs.declared.saved.Saved.{Saved}
-use Rattle.oram_state.specs.DecodedCore.{IsSaved}
-use Rattle.oram_state.specs.Parser.{state_in}
-use Rattle.oram_state.specs.StateBytes.{state_file, work_of}
+use Rattle.oram_state.specs.DecodedCore.{AreSavedFields, IsSaved}
+use Rattle.oram_state.specs.Parser.{saved_in, state_in}
+use Rattle.oram_state.specs.StateBytes.{fields_text, state_file, work_of}
 use Rattle.oram_state.specs.WellSized.{CommandFits, FitsFields, IsLong, IsNoWork, IsShort, IsSizedBlock, IsSizedCommand, IsSizedPending, IsSizedTree, IsWellSized, IsWorkBy, table_len, tree_count}
 use Rattle.oram_state.proofs.Counted.{counted}
-use Rattle.oram_state.proofs.Framed.{state_again}
+use Rattle.oram_state.proofs.Framed.{fields_again_bare, state_again}
 
 -- ---- the table and the trees
 
@@ -190,6 +190,26 @@ told_alike read x y h k = cc
 pub one_core : (text : List ℕ) (o : ℕ) (d d' : Sizes) (s s' : State) → length text < 2 ^ 64 → IsSaved text o d s → IsSaved text o d' s' → (d ≡ d') × (s ≡ s')
 one_core text o d d' s s' fits h h' =
     let same : h.parts ≡ h'.parts = ap (λ (x : Saved). x.parts) (told_alike (state_in text) _ _ (read_as text o d s fits h) (read_as text o d' s' fits h')) in (
+      h.device ∙ ap (λ (p : Parts). p.device) same ∙ sym h'.device,
+      h.state ∙ ap state_of same ∙ sym h'.state,
+    )
+
+-- ---- the core that fields belong to
+
+pub fields_as : (text : List ℕ) (o n : ℕ) (p : Parts) (d : Sizes) (s : State) → n ≡ o → p ≡ parts_of d s → state_of p ≡ s → AreParts o p → text ≡ fields_text n p → FitsFields p → AreSavedFields text o d s
+fields_as text o n p d s told same again are spelled fit =
+    let small = are.sound.small in
+    record {
+      parts = p;
+      fields = record { overhead_fits = omega (arith, small); sized = well_sized o p are fit; spelled = spelled ∙ ap (λ (k : ℕ). fields_text k p) told };
+      fits = are;
+      device = ap (λ (q : Parts). q.device) (sym same);
+      state = sym again;
+    }
+
+pub one_core_bare : (text : List ℕ) (o : ℕ) (d d' : Sizes) (s s' : State) → AreSavedFields text o d s → AreSavedFields text o d' s' → (d ≡ d') × (s ≡ s')
+one_core_bare text o d d' s s' h h' =
+    let same : h.parts ≡ h'.parts = ap (λ (x : Saved). x.parts) (told_alike (saved_in 2 text) _ _ (fields_again_bare text o h.parts h.fields) (fields_again_bare text o h'.parts h'.fields)) in (
       h.device ∙ ap (λ (p : Parts). p.device) same ∙ sym h'.device,
       h.state ∙ ap state_of same ∙ sym h'.state,
     )

@@ -39,6 +39,11 @@ pub then_ok : {A B : Type 0} (P : A → Type 0) (Q : B → Type 0) (r : Result A
 then_ok P Q (Ok a) f p q = q a p
 then_ok P Q (Err why) f p q = tt
 
+-- two properties of a result that wasn't an error
+pub if_both : {T E : Type 0} (r : Result T E) (P Q R : T → Type 0) → ((x : T) → P x → Q x → R x) → IfOk r P → IfOk r Q → IfOk r R
+if_both (Ok x) P Q R both p q = both x p q
+if_both (Err e) P Q R both p q = tt
+
 -- a step whose result is known
 pub goes : {A B : Type 0} (r : Result A StateFault) (a : A) (f : A → Result B StateFault) (y : Result B StateFault) → r ≡ Ok a → f a ≡ y → (r >>= f) ≡ y
 goes r a f y p q = rw p q

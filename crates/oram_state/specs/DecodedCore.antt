@@ -1,4 +1,4 @@
--- The core that a file belongs to, and why a text is the file of no core.
+-- The core that a file or its fields belong to, and why a text is the file of no core.
 use Rattle.std.specs.Prelude.{◌≡◌, ◌⊎◌, ℕ, List, Ok, Err}
 use Rattle.oram_geometry.specs.declared.Sizes.{Sizes}
 use Rattle.oram_semantics.specs.State.{State}
@@ -7,13 +7,21 @@ use Rattle.oram_state.specs.declared.fault.StateFault.{StateFault}
 use Rattle.oram_state.specs.declared.fault.StateFault.TheVariants.{Magic, Version, Length, Digest, Content, OutOfMemory}
 use Rattle.oram_state.specs.declared.saved.Saved.{Saved}
 use Rattle.oram_state.specs.Parser.{state_in}
-use Rattle.oram_state.specs.WellSized.{IsFileOf}
+use Rattle.oram_state.specs.WellSized.{AreFieldsOf, IsFileOf}
 
 -- the text is the file of parts that can be a core's under this overhead, and this is the core that they make
 pub record IsSaved (text : List ℕ) (overhead : ℕ) (d : Sizes) (s : State) : Type 0 where
   pub version : ℕ
   pub parts : Parts
   pub file : IsFileOf text version overhead parts
+  pub fits : AreParts overhead parts
+  pub device : d ≡ parts.device
+  pub state : s ≡ state_of parts
+
+-- the text is the fields of parts that can be a core's under this overhead, and this is the core that they make
+pub record AreSavedFields (text : List ℕ) (overhead : ℕ) (d : Sizes) (s : State) : Type 0 where
+  pub parts : Parts
+  pub fields : AreFieldsOf text overhead parts
   pub fits : AreParts overhead parts
   pub device : d ≡ parts.device
   pub state : s ≡ state_of parts

@@ -11,7 +11,7 @@ use Rattle.oram_semantics.specs.declared.events.Command.TheVariants.{Read, Write
 use Rattle.oram_semantics.specs.declared.events.Reason.{Reason}
 use Rattle.oram_core.specs.Parts.{Parts}
 use Rattle.oram_core.specs.declared.parts.Pending.{Pending}
-use Rattle.oram_state.specs.StateBytes.{Work, work_of, state_file}
+use Rattle.oram_state.specs.StateBytes.{Work, fields_text, state_file, work_of}
 
 -- the number fits in four bytes, or in eight
 abbrev pub IsShort : ℕ → Type 0
@@ -114,3 +114,9 @@ pub record IsFileOf (text : List ℕ) (version overhead : ℕ) (p : Parts) : Typ
   pub overhead_fits : IsShort overhead
   pub sized : IsWellSized p
   pub spelled : text ≡ state_file version overhead p
+
+-- the text is the fields of these parts in the second version, under this overhead
+pub record AreFieldsOf (text : List ℕ) (overhead : ℕ) (p : Parts) : Type 0 where
+  pub overhead_fits : IsShort overhead
+  pub sized : IsWellSized p
+  pub spelled : text ≡ fields_text overhead p

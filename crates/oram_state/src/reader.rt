@@ -2,7 +2,7 @@
 
 ghost use Rattle.std.specs.Prelude.{◌≡◌, ℕ, IfOk, Ok};
 ghost use Rattle.oram_core.specs.Parts.{Parts as PartsValue};
-ghost use Rattle.oram_state.specs.WellSized.{IsFileOf};
+ghost use Rattle.oram_state.specs.WellSized.{AreFieldsOf, IsFileOf};
 ghost use Rattle.oram_state.specs.Parser.{Gives, next_head, next_saved, saved_in, state_in};
 
 use crate::fault::StateFault;
@@ -12,6 +12,7 @@ use crate::kept::{read_device, read_failure, read_trees};
 use crate::mode::Mode;
 use crate::saved::{Head, Saved};
 use crate::work::read_work_in;
+use crate::writer::VERSION;
 use oram_core::Parts;
 use std::alloc::Global;
 
@@ -102,4 +103,15 @@ pub(crate) fn read_state(alloc: Global, file: &[u8]) -> Result<Saved, StateFault
     ensures exact { Gives (λ saved. saved) result (state_in file.now) }
 {
     read_file(alloc, file)
+}
+
+/// Reads the fields of a file of the second version, where no frame stands around them.
+pub(crate) fn read_bare_fields(alloc: Global, fields: &[u8]) -> Result<Saved, StateFault>
+    // What it returns is what the fields were written from.
+    ensures found { IfOk result (λ saved. AreFieldsOf fields.now saved.overhead saved.parts) }
+    // It reads all fields, unless memory runs out.
+    ensures only { (overhead : ℕ) (p : PartsValue) → AreFieldsOf fields.now overhead p
+        → Gives (λ saved. saved) result (Ok (record { overhead = overhead; parts = p })) }
+{
+    read_fields(alloc, fields, VERSION)
 }

@@ -18,7 +18,7 @@ use sha2::{Digest, Sha256};
 use std::alloc::{AllocError, Global};
 
 /// The version of the files that this crate writes.
-const VERSION: u32 = 2;
+pub(crate) const VERSION: u32 = 2;
 
 /// The number of bytes of the fields that don't depend on the mode: a device, an overhead, a mode, tickets and a nonce.
 const HEAD_LEN: usize = 24 + 4 + 1 + 8 + 8;
@@ -37,6 +37,22 @@ pub(crate) fn write_state(
     let digest = Sha256::digest(file.as_slice());
     file.extend_from_slice(&digest)?;
     Ok(file)
+}
+
+/// Returns the fields of a core with these parts, whose sealer has this overhead. Allocates once.
+pub(crate) fn write_fields(
+    alloc: Global,
+    overhead: u32,
+    parts: &Parts,
+) -> Result<Vec<u8>, AllocError>
+    requires { HasCounts parts.now }
+    ensures spelled { IfOk result (λ fields. fields.items ≡ fields_text overhead parts.now) }
+    ensures fit { IfOk result (λ fields. FitsFields parts.now) }
+{
+    let mut fields = Vec::with_capacity(alloc, room(parts))?;
+    push_head(&mut fields, overhead, parts)?;
+    push_rest(&mut fields, parts)?;
+    Ok(fields)
 }
 
 /// Writes all of the file except its digest. Fills in the length last, when it is known.

@@ -24,12 +24,12 @@ use Rattle.oram_rounds.specs.CatchUp.{PlainRun}
 use Rattle.oram_rounds.specs.Law.{AreBatches}
 use Rattle.oram_rounds.specs.Process.{Act, DoesAll, IsGoingOn, Process, exchanges_of, process, replies_of}
 use Rattle.oram_rounds.specs.Rounds.{Round}
-use Rattle.oram_rounds.specs.Service.{AreReplied, IsServed, after_all, Waiting as Waits}
+use Rattle.oram_rounds.specs.Service.{AreReplied, ArrayAndQueue, IsServed, after_all}
 use Rattle.oram_rounds.specs.Start.{AreAsked, Asked, array_with}
 use Rattle.oram_rounds.proofs.Replies.{replies_are_the_arrays}
 use Rattle.oram_rounds.proofs.Start.{resting, served_submitted}
 use Rattle.oram_volume.specs.CarriedOut.{bodies_from}
-use Rattle.oram_volume.specs.HeldArrays.{HostBeside, Hears}
+use Rattle.oram_volume.specs.HeldArrays.{HostBeside, HostHears}
 use Rattle.oram_volume.proofs.HeldArrays.{Goes, Holds, acts_hold, asked_hold, had, heard}
 
 -- no command's reply of an array is that the device failed
@@ -54,7 +54,7 @@ none_failed d (c ∷ commands) array (r ∷ replies) same =
     All-cons (λ (r : Reply). r.body ≢ ReplyBody.Failed) r replies (λ e. never_failed (array (address_of c)) c (sym first ∙ e)) (none_failed d commands (array_after d c array) replies rest)
 
 -- as many replies as commands, which are the array's
-answered : (d : Sizes) (ys : List Submission) (replies : List Reply) (p q : Waits) (before : ℕ → List ℕ) → p.0 ≡ before → p.1 ≡ ys → AreReplied d p replies q → length replies ≡ length ys
+answered : (d : Sizes) (ys : List Submission) (replies : List Reply) (p q : ArrayAndQueue) (before : ℕ → List ℕ) → p.0 ≡ before → p.1 ≡ ys → AreReplied d p replies q → length replies ≡ length ys
     → bodies replies ≡ bodies_from d (map (λ (y : Submission). y.command) ys) before
 answered d [] [] p q before here there all many = refl
 answered d [] (r ∷ replies) p q before here there all many = absurd (omega (arith, many))
@@ -93,7 +93,7 @@ module _ {B K : Type 0} (batches : B → List (List ℕ) → BatchOutcome → Li
   -- of a core that is settled and hasn't failed, to which commands were submitted
   module _ (asked : List Asked) (acts : List Act) (session : ℕ) (s t : State) (l : Round B) (k : K) (q : Process B K) (replies : List Reply) (settled : IsSettled s) (alive : s.failure ≡ None)
       (chain : AreAsked v words session s asked t) (does : DoesAll v batches reads_back (process t l k) acts q) (given : flat_map replies_of acts ≡ replies) (many : length replies ≡ length t.queue) where
-    right_by : (may_lie : Bool) (ys : List Submission) → t.queue ≡ ys → (w later : HostBeside) (array : ℕ → List ℕ) → FoldsTo {P = HostBeside} {A = Exchange} (Hears may_lie) w (flat_map exchanges_of acts) later
+    right_by : (may_lie : Bool) (ys : List Submission) → t.queue ≡ ys → (w later : HostBeside) (array : ℕ → List ℕ) → FoldsTo {P = HostBeside} {A = Exchange} (HostHears may_lie) w (flat_map exchanges_of acts) later
         → Holds batches reads_back are v words may_lie (process s l k) w array → AreRight may_lie ys replies array
     right_by may_lie ys queue w later array run h =
         let host : Host = w.host in
@@ -116,7 +116,7 @@ module _ {B K : Type 0} (batches : B → List (List ℕ) → BatchOutcome → Li
           | inr lost ↦ by lost.left.1 lost.given lost.left refl lost.lies before served.2 lost.replied (sym given ∙ lost.all)
         ]
       where
-        by : (rest : List Submission) (gave : List Reply) (left : Waits) → left.1 ≡ rest → may_lie ≡ true → (before : ℕ → List ℕ) → before ≡ array → AreReplied v.device (before, t.queue) gave left
+        by : (rest : List Submission) (gave : List Reply) (left : ArrayAndQueue) → left.1 ≡ rest → may_lie ≡ true → (before : ℕ → List ℕ) → before ≡ array → AreReplied v.device (before, t.queue) gave left
             → replies ≡ gave ++ map failed_reply left.1 → AreRight may_lie ys replies array
         by [] gave left none lies before same replied all =
             let whole : replies ≡ gave = all ∙ ap (λ (xs : List Submission). gave ++ map failed_reply xs) none ∙ append-nil gave in

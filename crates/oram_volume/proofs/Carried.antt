@@ -31,10 +31,11 @@ use Rattle.oram_rounds.specs.Law.{AreBatches}
 use Rattle.oram_rounds.specs.Process.Act.{Keeps}
 use Rattle.oram_rounds.specs.Process.{Act, DoesAll, Process, process, replies_of}
 use Rattle.oram_rounds.specs.Start.{AreAsked, Asked, array_with}
-use Rattle.oram_volume.specs.CarriedOut.{Had, Step, Stops, Takes, TakesAll, after_commands, bodies_from}
-use Rattle.oram_volume.specs.CarriedOut.Step.{Acts, Asks}
-use Rattle.oram_volume.specs.HeldArrays.{Hears, HoldsArray, KeepsArray, Running, running}
-use Rattle.oram_volume.specs.RangeCommands.{Fits}
+use Rattle.oram_rounds.specs.ProcessSteps.{ProcessStep}
+use Rattle.oram_volume.specs.CarriedOut.{Had, Stops, TakesStep, TakesSteps, after_commands, bodies_from}
+use Rattle.oram_rounds.specs.ProcessSteps.ProcessStep.{Acts, Asks}
+use Rattle.oram_volume.specs.HeldArrays.{HostHears, HoldsArray, KeepsArray, Running, running}
+use Rattle.oram_volume.specs.RangeCommands.{FitsDevice}
 use Rattle.oram_volume.specs.declared.volume.Volume.{Volume}
 use Rattle.oram_rounds.specs.Rounds.{Round}
 use Rattle.oram_rounds.proofs.Start.{resting}
@@ -52,11 +53,11 @@ front_all P (x ∷ xs) ys all = All-cons P x xs (All-head P x (xs ++ ys) all) (f
 
 -- the steps of all calls
 pub steps_of : {B K : Type 0} (batches : B → List (List ℕ) → BatchOutcome → List Exchange → B → Type 0) (reads_back : K → List ℕ → Type 0) (calls : List (List Exchange)) (p q : Running B K)
-    → FoldsTo {P = Running B K} {A = List Exchange} (Had batches reads_back) p calls q → (steps : List Step) × TakesAll batches reads_back p steps q
+    → FoldsTo {P = Running B K} {A = List Exchange} (Had batches reads_back) p calls q → (steps : List ProcessStep) × TakesSteps batches reads_back p steps q
 steps_of batches reads_back [] p q same = ([], same)
 steps_of {B} {K} batches reads_back (events ∷ calls) p q all =
     let rest = steps_of batches reads_back calls all.0 q all.2 in
-    (all.1.0 ++ rest.0, folds_join {P = Running B K} {A = Step} (Takes batches reads_back) p all.0 q all.1.0 rest.0 all.1.1 rest.1)
+    (all.1.0 ++ rest.0, folds_join {P = Running B K} {A = ProcessStep} (TakesStep batches reads_back) p all.0 q all.1.0 rest.0 all.1.1 rest.1)
 
 -- a volume whose device and tape are those of another one
 pub same_running : {S B K T : Type 0} (cipher : S → Cipher) (words : T → ℕ → ℕ → List ℕ) (old new : Volume S B K T) → IsSameDevice old.core new.core → words new.tape ≡ words old.tape
@@ -68,7 +69,7 @@ same_running {S} {B} {K} cipher words old new kept tape =
 -- a volume, and what it is once it has carried out what waited
 module _ {S B K T : Type 0} (cipher : S → Cipher) (words : T → ℕ → ℕ → List ℕ) (batches : B → List (List ℕ) → BatchOutcome → List Exchange → B → Type 0) (reads_back : K → List ℕ → Type 0) (are : AreBatches batches)
     (old mid : Volume S B K T) (kept : IsSameDevice old.core mid.core) (tape : words mid.tape ≡ words old.tape)
-    (goes : GoesOn (Had batches reads_back) Hears HoldsArray (running cipher words old) (λ _ array later. later ≡ array) (running cipher words mid)) where
+    (goes : GoesOn (Had batches reads_back) HostHears HoldsArray (running cipher words old) (λ _ array later. later ≡ array) (running cipher words mid)) where
   abbrev v : Scheme
   v = scheme_of cipher old.core
 
@@ -82,10 +83,10 @@ module _ {S B K T : Type 0} (cipher : S → Cipher) (words : T → ℕ → ℕ �
   here = process mid.core.state mid.link mid.keeper
 
   abbrev Goes : (Bool → (ℕ → List ℕ) → (ℕ → List ℕ) → Type 0) → Volume S B K T → Type 0
-  Goes step new = GoesOn (Had batches reads_back) Hears HoldsArray (running cipher words old) step (running cipher words new)
+  Goes step new = GoesOn (Had batches reads_back) HostHears HoldsArray (running cipher words old) step (running cipher words new)
 
-  resumed : GoesOn (Had batches reads_back) Hears HoldsArray (running cipher words old) (λ _ array later. later ≡ array) (at here)
-  resumed = subst (λ (r : Running B K). GoesOn (Had batches reads_back) Hears HoldsArray (running cipher words old) (λ _ array later. later ≡ array) r) (same_running cipher words old mid kept tape) goes
+  resumed : GoesOn (Had batches reads_back) HostHears HoldsArray (running cipher words old) (λ _ array later. later ≡ array) (at here)
+  resumed = subst (λ (r : Running B K). GoesOn (Had batches reads_back) HostHears HoldsArray (running cipher words old) (λ _ array later. later ≡ array) r) (same_running cipher words old mid kept tape) goes
 
   -- the chain of submissions, as that of the old volume
   pub chain_under : (asked : List Asked) (t : State) → AreAsked (scheme_of cipher mid.core) (words mid.tape) 0 mid.core.state asked t → AreAsked v tape_words 0 mid.core.state asked t
@@ -94,10 +95,10 @@ module _ {S B K T : Type 0} (cipher : S → Cipher) (words : T → ℕ → ℕ �
       (subst (λ (u : Scheme). AreAsked u (words mid.tape) 0 mid.core.state asked t) (same_scheme cipher old.core mid.core kept) chain)
 
   -- some of the commands were submitted
-  module _ (commands : List Command) (fits : All (Fits old.core.device) commands) (asked : List Asked) (rest : List Command) (in_order : map (λ (a : Asked). a.command) asked ++ rest ≡ commands)
+  module _ (commands : List Command) (fits : All (FitsDevice old.core.device) commands) (asked : List Asked) (rest : List Command) (in_order : map (λ (a : Asked). a.command) asked ++ rest ≡ commands)
       (t : State) (chain : AreAsked v tape_words 0 mid.core.state asked t) where
     all_fit : AllFit v tape_words 0 asked
-    all_fit = front_all (Fits old.core.device) (map (λ (a : Asked). a.command) asked) rest (subst (λ (cs : List Command). All (Fits old.core.device) cs) (sym in_order) fits)
+    all_fit = front_all (FitsDevice old.core.device) (map (λ (a : Asked). a.command) asked) rest (subst (λ (cs : List Command). All (FitsDevice old.core.device) cs) (sym in_order) fits)
 
     abbrev pub FirstOnes : Bool → (ℕ → List ℕ) → (ℕ → List ℕ) → Type 0
     FirstOnes may_lie array later = (n : ℕ) × (later ≡ after_commands old.core.device (take n commands) array)
@@ -115,8 +116,8 @@ module _ {S B K T : Type 0} (cipher : S → Cipher) (words : T → ℕ → ℕ �
       abbrev there : Process B K
       there = process new.core.state new.link new.keeper
 
-      as_new : {step : Bool → (ℕ → List ℕ) → (ℕ → List ℕ) → Type 0} → GoesOn (Had batches reads_back) Hears HoldsArray (running cipher words old) step (at there) → Goes step new
-      as_new {step} = subst (λ (r : Running B K). GoesOn (Had batches reads_back) Hears HoldsArray (running cipher words old) step r) (sym (same_running cipher words old new kept_new tape_new))
+      as_new : {step : Bool → (ℕ → List ℕ) → (ℕ → List ℕ) → Type 0} → GoesOn (Had batches reads_back) HostHears HoldsArray (running cipher words old) step (at there) → Goes step new
+      as_new {step} = subst (λ (r : Running B K). GoesOn (Had batches reads_back) HostHears HoldsArray (running cipher words old) step r) (sym (same_running cipher words old new kept_new tape_new))
 
       -- the array is the one after the first of them
       pub some_done : Goes FirstOnes new
@@ -148,22 +149,22 @@ module _ {S B K T : Type 0} (cipher : S → Cipher) (words : T → ℕ → ℕ �
         let taken = asked_taken batches reads_back are v tape_words asked 0 mid.core.state t mid.link mid.keeper chain in
         let done = acts_taken batches reads_back are v tape_words acts (process t mid.link mid.keeper) there does in
         let one = one_refused v tape_words 0 asked few in
-        let both = folds_join {P = Running B K} {A = Step} (Takes batches reads_back) (running cipher words old) (at here) (at (process t mid.link mid.keeper)) first.0 (map {B = Step} Asks asked) first.1 taken in
-        let all = folds_join {P = Running B K} {A = Step} (Takes batches reads_back) (running cipher words old) (at (process t mid.link mid.keeper)) (at there) (first.0 ++ map {B = Step} Asks asked) (map {B = Step} Acts acts) both done in
-        let split : map {B = Step} Asks asked ≡ map {B = Step} Asks one.0 ++ Asks one.2 ∷ map {B = Step} Asks one.1 =
-        ap (λ (l : List Asked). map {B = Step} Asks l) one.4 ∙ map-append {B = Step} Asks one.0 (one.2 ∷ one.1) in
-        let where_it_is : (first.0 ++ map {B = Step} Asks asked) ++ map {B = Step} Acts acts ≡ (first.0 ++ map {B = Step} Asks one.0) ++ Asks one.2 ∷ (map {B = Step} Asks one.1 ++ map {B = Step} Acts acts) =
-        ap (λ (l : List Step). (first.0 ++ l) ++ map {B = Step} Acts acts) split
-        ∙ ap (λ (l : List Step). l ++ map {B = Step} Acts acts) (sym (append_assoc first.0 (map {B = Step} Asks one.0) (Asks one.2 ∷ map {B = Step} Asks one.1)))
-        ∙ append_assoc (first.0 ++ map {B = Step} Asks one.0) (Asks one.2 ∷ map {B = Step} Asks one.1) (map {B = Step} Acts acts) in
+        let both = folds_join {P = Running B K} {A = ProcessStep} (TakesStep batches reads_back) (running cipher words old) (at here) (at (process t mid.link mid.keeper)) first.0 (map {B = ProcessStep} Asks asked) first.1 taken in
+        let all = folds_join {P = Running B K} {A = ProcessStep} (TakesStep batches reads_back) (running cipher words old) (at (process t mid.link mid.keeper)) (at there) (first.0 ++ map {B = ProcessStep} Asks asked) (map {B = ProcessStep} Acts acts) both done in
+        let split : map {B = ProcessStep} Asks asked ≡ map {B = ProcessStep} Asks one.0 ++ Asks one.2 ∷ map {B = ProcessStep} Asks one.1 =
+        ap (λ (l : List Asked). map {B = ProcessStep} Asks l) one.4 ∙ map-append {B = ProcessStep} Asks one.0 (one.2 ∷ one.1) in
+        let where_it_is : (first.0 ++ map {B = ProcessStep} Asks asked) ++ map {B = ProcessStep} Acts acts ≡ (first.0 ++ map {B = ProcessStep} Asks one.0) ++ Asks one.2 ∷ (map {B = ProcessStep} Asks one.1 ++ map {B = ProcessStep} Acts acts) =
+        ap (λ (l : List ProcessStep). (first.0 ++ l) ++ map {B = ProcessStep} Acts acts) split
+        ∙ ap (λ (l : List ProcessStep). l ++ map {B = ProcessStep} Acts acts) (sym (append_assoc first.0 (map {B = ProcessStep} Asks one.0) (Asks one.2 ∷ map {B = ProcessStep} Asks one.1)))
+        ∙ append_assoc (first.0 ++ map {B = ProcessStep} Asks one.0) (Asks one.2 ∷ map {B = ProcessStep} Asks one.1) (map {B = ProcessStep} Acts acts) in
         subst (λ (r : Running B K). Stops batches reads_back (running cipher words old) r) (sym (same_running cipher words old new kept_new tape_new))
-        ((first.0 ++ map {B = Step} Asks asked) ++ map {B = Step} Acts acts, all, inr (inr (first.0 ++ map {B = Step} Asks one.0, map {B = Step} Asks one.1 ++ map {B = Step} Acts acts, one.2, one.3, where_it_is)))
+        ((first.0 ++ map {B = ProcessStep} Asks asked) ++ map {B = ProcessStep} Acts acts, all, inr (inr (first.0 ++ map {B = ProcessStep} Asks one.0, map {B = ProcessStep} Asks one.1 ++ map {B = ProcessStep} Acts acts, one.2, one.3, where_it_is)))
 
 -- the same, from what the calls say: those of the core were submitted, and then `perform` was called
 module _ {S B K T : Type 0} (cipher : S → Cipher) (words : T → ℕ → ℕ → List ℕ) (batches : B → List (List ℕ) → BatchOutcome → List Exchange → B → Type 0) (reads_back : K → List ℕ → Type 0) (are : AreBatches batches)
     (old mid : Volume S B K T) (kept : IsSameDevice old.core mid.core) (tape : words mid.tape ≡ words old.tape)
-    (goes : GoesOn (Had batches reads_back) Hears HoldsArray (running cipher words old) (λ _ array later. later ≡ array) (running cipher words mid))
-    (commands : List Command) (fits : All (Fits old.core.device) commands) (core : CoreValue S) (drawn : T) (kept_on : IsSameDevice mid.core core) (same_tape : words drawn ≡ words mid.tape) where
+    (goes : GoesOn (Had batches reads_back) HostHears HoldsArray (running cipher words old) (λ _ array later. later ≡ array) (running cipher words mid))
+    (commands : List Command) (fits : All (FitsDevice old.core.device) commands) (core : CoreValue S) (drawn : T) (kept_on : IsSameDevice mid.core core) (same_tape : words drawn ≡ words mid.tape) where
   abbrev pub SomeDone : Bool → (ℕ → List ℕ) → (ℕ → List ℕ) → Type 0
   SomeDone may_lie array later = (n : ℕ) × (later ≡ after_commands old.core.device (take n commands) array)
 
@@ -183,7 +184,7 @@ module _ {S B K T : Type 0} (cipher : S → Cipher) (words : T → ℕ → ℕ �
   kept_core : IsSameDevice old.core core
   kept_core = same_trans old.core mid.core core kept kept_on
 
-  pub submitted_done : FrontAsked → GoesOn (Had batches reads_back) Hears HoldsArray (running cipher words old) SomeDone (running cipher words (record { core = core; link = mid.link; keeper = mid.keeper; tape = drawn }))
+  pub submitted_done : FrontAsked → GoesOn (Had batches reads_back) HostHears HoldsArray (running cipher words old) SomeDone (running cipher words (record { core = core; link = mid.link; keeper = mid.keeper; tape = drawn }))
   submitted_done k =
       some_done cipher words batches reads_back are old mid kept tape goes commands fits k.0 k.1 k.2 core.state (chain_under cipher words batches reads_back are old mid kept tape goes k.0 core.state k.3)
       (record { core = core; link = mid.link; keeper = mid.keeper; tape = drawn }) kept_core (same_tape ∙ tape) [] refl
@@ -196,7 +197,7 @@ module _ {S B K T : Type 0} (cipher : S → Cipher) (words : T → ℕ → ℕ �
     does_under : DoesAll (scheme_of cipher old.core) batches reads_back (process core.state mid.link mid.keeper) acts (process after.state link keeper)
     does_under = subst (λ (u : Scheme). DoesAll u batches reads_back (process core.state mid.link mid.keeper) acts (process after.state link keeper)) (same_scheme cipher old.core core kept_core) does
 
-    pub performed_done : FrontAsked → GoesOn (Had batches reads_back) Hears HoldsArray (running cipher words old) SomeDone (running cipher words new)
+    pub performed_done : FrontAsked → GoesOn (Had batches reads_back) HostHears HoldsArray (running cipher words old) SomeDone (running cipher words new)
     performed_done k =
         some_done cipher words batches reads_back are old mid kept tape goes commands fits k.0 k.1 k.2 core.state (chain_under cipher words batches reads_back are old mid kept tape goes k.0 core.state k.3)
         new (same_trans old.core core after kept_core kept_then) (same_tape ∙ tape) acts does_under
@@ -219,22 +220,22 @@ module _ {S B K T : Type 0} (cipher : S → Cipher) (words : T → ℕ → ℕ �
         let asked : Running B K = record { scheme = v; words = ws; process = process core.state mid.link mid.keeper } in
         let there : Running B K = record { scheme = v; words = ws; process = process after.state link keeper } in
         let first = steps_of batches reads_back goes.calls (running cipher words old) (running cipher words mid) goes.made in
-        let to_here = subst (λ (r : Running B K). TakesAll batches reads_back (running cipher words old) first.0 r) (same_running cipher words old mid kept tape) first.1 in
+        let to_here = subst (λ (r : Running B K). TakesSteps batches reads_back (running cipher words old) first.0 r) (same_running cipher words old mid kept tape) first.1 in
         let chain = chain_under cipher words batches reads_back are old mid kept tape goes k.0 core.state k.3 in
         let taken = asked_taken batches reads_back are v ws k.0 0 mid.core.state core.state mid.link mid.keeper chain in
         let done = acts_taken batches reads_back are v ws acts (process core.state mid.link mid.keeper) (process after.state link keeper) does_under in
-        let both = folds_join {P = Running B K} {A = Step} (Takes batches reads_back) (running cipher words old) here asked first.0 (map {B = Step} Asks k.0) to_here taken in
-        let all = folds_join {P = Running B K} {A = Step} (Takes batches reads_back) (running cipher words old) asked there (first.0 ++ map {B = Step} Asks k.0) (map {B = Step} Acts acts) both done in
+        let both = folds_join {P = Running B K} {A = ProcessStep} (TakesStep batches reads_back) (running cipher words old) here asked first.0 (map {B = ProcessStep} Asks k.0) to_here taken in
+        let all = folds_join {P = Running B K} {A = ProcessStep} (TakesStep batches reads_back) (running cipher words old) asked there (first.0 ++ map {B = ProcessStep} Asks k.0) (map {B = ProcessStep} Acts acts) both done in
         subst (λ (r : Running B K). Stops batches reads_back (running cipher words old) r) (sym (same_running cipher words old new (same_trans old.core core after kept_core kept_then) (same_tape ∙ tape))) (
-          (first.0 ++ map {B = Step} Asks k.0) ++ map {B = Step} Acts acts,
+          (first.0 ++ map {B = ProcessStep} Asks k.0) ++ map {B = ProcessStep} Acts acts,
           all,
           elim why [
             | inl stalled ↦ inl stalled
             | inr failed ↦ inr (inl (
-              (first.0 ++ map {B = Step} Asks k.0) ++ map {B = Step} Acts failed.0,
-              ap (λ (l : List Act). (first.0 ++ map {B = Step} Asks k.0) ++ map {B = Step} Acts l) failed.1
-                  ∙ ap (λ (l : List Step). (first.0 ++ map {B = Step} Asks k.0) ++ l) (map-append {B = Step} Acts failed.0 (Keeps false ∷ []))
-                  ∙ sym (append_assoc (first.0 ++ map {B = Step} Asks k.0) (map {B = Step} Acts failed.0) (Acts (Keeps false) ∷ [])),
+              (first.0 ++ map {B = ProcessStep} Asks k.0) ++ map {B = ProcessStep} Acts failed.0,
+              ap (λ (l : List Act). (first.0 ++ map {B = ProcessStep} Asks k.0) ++ map {B = ProcessStep} Acts l) failed.1
+                  ∙ ap (λ (l : List ProcessStep). (first.0 ++ map {B = ProcessStep} Asks k.0) ++ l) (map-append {B = ProcessStep} Acts failed.0 (Keeps false ∷ []))
+                  ∙ sym (append_assoc (first.0 ++ map {B = ProcessStep} Asks k.0) (map {B = ProcessStep} Acts failed.0) (Acts (Keeps false) ∷ [])),
             ))
           ],
         )
@@ -242,7 +243,7 @@ module _ {S B K T : Type 0} (cipher : S → Cipher) (words : T → ℕ → ℕ �
     module _ (notes : List Note) (k : AllAsked notes) (settled : IsSettled mid.core.state) (alive : mid.core.state.failure ≡ None) (replies : List Reply) (given : flat_map replies_of acts ≡ replies)
         (many : length replies ≡ length core.state.queue) where
       right : (ys : List Submission) → core.state.queue ≡ ys
-          → GoesOn (Had batches reads_back) Hears HoldsArray (running cipher words old)
+          → GoesOn (Had batches reads_back) HostHears HoldsArray (running cipher words old)
           (λ may_lie array later. SomeDone may_lie array later × (later ≡ array_with old.core.device k.0 array)
           × ((bodies replies ≡ bodies_from old.core.device (map (λ (y : Submission). y.command) ys) array) ⊎ ((may_lie ≡ true) × (NoneFailed replies → ⊥)))) (running cipher words new)
       right ys queue =
@@ -251,13 +252,13 @@ module _ {S B K T : Type 0} (cipher : S → Cipher) (words : T → ℕ → ℕ �
           new (same_trans old.core core after kept_core kept_then) (same_tape ∙ tape) acts does_under settled alive replies given many ys queue
 
       -- a reply says that the device failed: that was a lie
-      pub lied : (NoneFailed replies → ⊥) → GoesOn (Had batches reads_back) Hears HoldsArray (running cipher words old) (λ may_lie array later. SomeDone may_lie array later × (may_lie ≡ true)) (running cipher words new)
+      pub lied : (NoneFailed replies → ⊥) → GoesOn (Had batches reads_back) HostHears HoldsArray (running cipher words old) (λ may_lie array later. SomeDone may_lie array later × (may_lie ≡ true)) (running cipher words new)
       lied some = weaker (right core.state.queue refl) (λ may_lie world array later h step.
           (step.0, elim step.2 [ inl as_told ↦ absurd (some (none_failed old.core.device (map (λ (y : Submission). y.command) core.state.queue) array replies as_told)) | inr lie ↦ lie.0 ]))
 
       -- no reply says so, and each command has one
       pub all_done : NoneFailed replies → length commands ≤ length replies → (count : length core.state.queue ≡ count_by is_accepted notes)
-          → GoesOn (Had batches reads_back) Hears HoldsArray (running cipher words old)
+          → GoesOn (Had batches reads_back) HostHears HoldsArray (running cipher words old)
           (λ may_lie array later. (bodies replies ≡ bodies_from old.core.device commands array) × (later ≡ after_commands old.core.device commands array)) (running cipher words new)
       all_done none enough count =
           let here = chain_under cipher words batches reads_back are old mid kept tape goes k.0 core.state k.3 in
@@ -275,7 +276,7 @@ module _ {S B K T : Type 0} (cipher : S → Cipher) (words : T → ℕ → ℕ �
 
       -- The acts began with a keeping. Then what the volume holds is kept.
       pub all_kept : (rest : List Act) → acts ≡ Keeps true ∷ rest → length commands ≤ length replies → length core.state.queue ≡ count_by is_accepted notes
-          → KeepsOn (Had batches reads_back) Hears HoldsArray (KeepsArray reads_back) (running cipher words old) (Unit {0})
+          → KeepsOn (Had batches reads_back) HostHears HoldsArray (KeepsArray reads_back) (running cipher words old) (Unit {0})
           (λ may_lie array later. later ≡ after_commands old.core.device commands array) (running cipher words new)
       all_kept rest begin enough count =
           let v = scheme_of cipher old.core in
@@ -286,7 +287,7 @@ module _ {S B K T : Type 0} (cipher : S → Cipher) (words : T → ℕ → ℕ �
           let there : Process B K = process after.state link keeper in
           let does_so : DoesAll v batches reads_back (process core.state mid.link mid.keeper) (Keeps true ∷ rest) there =
           subst (λ (done : List Act). DoesAll v batches reads_back (process core.state mid.link mid.keeper) done there) begin does_under in
-          subst (λ (r : Running B K). KeepsOn (Had batches reads_back) Hears HoldsArray (KeepsArray reads_back) (running cipher words old) (Unit {0})
+          subst (λ (r : Running B K). KeepsOn (Had batches reads_back) HostHears HoldsArray (KeepsArray reads_back) (running cipher words old) (Unit {0})
           (λ may_lie array later. later ≡ after_commands old.core.device commands array) r)
           (sym (same_running cipher words old new (same_trans old.core core after kept_core kept_then) (same_tape ∙ tape)))
           (kept_behind (resumed cipher words batches reads_back are old mid kept tape goes)

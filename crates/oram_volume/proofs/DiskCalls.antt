@@ -14,10 +14,11 @@ use Rattle.oram_nbd.proofs.Beside.{one_call, one_kept}
 use Rattle.oram_rounds.specs.Batches.{BatchOutcome}
 use Rattle.oram_rounds.specs.Process.Act.{Keeps}
 use Rattle.oram_volume.specs.Blocks.{IsLaidOut}
-use Rattle.oram_volume.specs.CarriedOut.{Had, Step, Stops, Takes, TakesAll, exchanges_in}
-use Rattle.oram_volume.specs.CarriedOut.Step.{Acts, Asks}
+use Rattle.oram_rounds.specs.ProcessSteps.{ProcessStep, exchanges_in}
+use Rattle.oram_volume.specs.CarriedOut.{Had, Stops, TakesStep, TakesSteps}
+use Rattle.oram_rounds.specs.ProcessSteps.ProcessStep.{Acts, Asks}
 use Rattle.oram_volume.specs.DiskCalls.{VolumeGoesOn, VolumeKeepsOn}
-use Rattle.oram_volume.specs.HeldArrays.{Hears, HoldsArray, KeepsArray, Running, running}
+use Rattle.oram_volume.specs.HeldArrays.{HostHears, HoldsArray, KeepsArray, Running, running}
 use Rattle.oram_volume.specs.declared.volume.Volume.{Volume}
 
 module _ {B K : Type 0} (batches : B → List (List ℕ) → BatchOutcome → List Exchange → B → Type 0) (reads_back : K → List ℕ → Type 0) where
@@ -28,26 +29,26 @@ module _ {B K : Type 0} (batches : B → List (List ℕ) → BatchOutcome → Li
   all_had (exchanges ∷ calls) p q all =
       let rest = all_had calls all.0 q all.2 in (
         all.1.0 ++ rest.0,
-        folds_join {P = Running B K} {A = Step} (Takes batches reads_back) p all.0 q all.1.0 rest.0 all.1.1 rest.1,
+        folds_join {P = Running B K} {A = ProcessStep} (TakesStep batches reads_back) p all.0 q all.1.0 rest.0 all.1.1 rest.1,
         flat_map-append exchanges_in all.1.0 rest.0 ∙ ap (λ (es : List Exchange). es ++ flat_map exchanges_in rest.0) all.1.2
             ∙ ap (λ (es : List Exchange). exchanges ++ es) rest.2,
       )
 
   -- what has stopped a process has stopped it over a longer time
-  stops_behind : (steps : List Step) (p mid q : Running B K) → TakesAll batches reads_back p steps mid → Stops batches reads_back mid q → Stops batches reads_back p q
+  stops_behind : (steps : List ProcessStep) (p mid q : Running B K) → TakesSteps batches reads_back p steps mid → Stops batches reads_back mid q → Stops batches reads_back p q
   stops_behind steps p mid q taken stop = (
     steps ++ stop.0,
-    folds_join {P = Running B K} {A = Step} (Takes batches reads_back) p mid q steps stop.0 taken stop.1,
+    folds_join {P = Running B K} {A = ProcessStep} (TakesStep batches reads_back) p mid q steps stop.0 taken stop.1,
     elim stop.2 [
       | inl stalls ↦ inl stalls
       | inr other ↦ elim other [
-        | inl unkept ↦ inr (inl (steps ++ unkept.0, ap (λ (l : List Step). steps ++ l) unkept.1 ∙ sym (append_assoc steps unkept.0 (Acts (Keeps false) ∷ []))))
+        | inl unkept ↦ inr (inl (steps ++ unkept.0, ap (λ (l : List ProcessStep). steps ++ l) unkept.1 ∙ sym (append_assoc steps unkept.0 (Acts (Keeps false) ∷ []))))
         | inr refused ↦ inr (inr (
           steps ++ refused.0,
           refused.1,
           refused.2,
           refused.3,
-          ap (λ (l : List Step). steps ++ l) refused.4 ∙ sym (append_assoc steps refused.0 (Asks refused.2 ∷ refused.1)),
+          ap (λ (l : List ProcessStep). steps ++ l) refused.4 ∙ sym (append_assoc steps refused.0 (Asks refused.2 ∷ refused.1)),
         ))
       ]
     ],
@@ -65,7 +66,7 @@ stays_by old new kept still = record {
 module _ {S B K T : Type 0} (cipher : S → Cipher) (words : T → ℕ → ℕ → List ℕ) (batches : B → List (List ℕ) → BatchOutcome → List Exchange → B → Type 0) (reads_back : K → List ℕ → Type 0) where
   -- What a volume does to arrays of blocks, it does to their bytes.
   pub as_bytes : (old new : Volume S B K T) → IsSameDevice old.core new.core → {step : Bool → (ℕ → List ℕ) → (ℕ → List ℕ) → Type 0} {step' : Bool → List ℕ → List ℕ → Type 0}
-      → GoesOn (Had batches reads_back) Hears HoldsArray (running cipher words old) step (running cipher words new)
+      → GoesOn (Had batches reads_back) HostHears HoldsArray (running cipher words old) step (running cipher words new)
       → ((may_lie : Bool) (array later : ℕ → List ℕ) (bytes : List ℕ) → IsLaidOut old.core.device array bytes → step may_lie array later
       → (next : List ℕ) × step' may_lie bytes next × IsLaidOut old.core.device later next)
       → VolumeGoesOn cipher words batches reads_back old step' new
@@ -78,7 +79,7 @@ module _ {S B K T : Type 0} (cipher : S → Cipher) (words : T → ℕ → ℕ �
 
   -- The same for what is kept.
   pub kept_as_bytes : (old new : Volume S B K T) → IsSameDevice old.core new.core → {sure : Type 0} {step : Bool → (ℕ → List ℕ) → (ℕ → List ℕ) → Type 0} {step' : Bool → List ℕ → List ℕ → Type 0}
-      → KeepsOn (Had batches reads_back) Hears HoldsArray (KeepsArray reads_back) (running cipher words old) (Unit {0}) step (running cipher words new)
+      → KeepsOn (Had batches reads_back) HostHears HoldsArray (KeepsArray reads_back) (running cipher words old) (Unit {0}) step (running cipher words new)
       → ((may_lie : Bool) (array later : ℕ → List ℕ) (bytes : List ℕ) → IsLaidOut old.core.device array bytes → step may_lie array later
       → (next : List ℕ) × step' may_lie bytes next × IsLaidOut old.core.device later next)
       → VolumeKeepsOn cipher words batches reads_back old sure step' new
@@ -91,7 +92,7 @@ module _ {S B K T : Type 0} (cipher : S → Cipher) (words : T → ℕ → ℕ �
       (r.0, r.1, record { array = j.0; holds = j.2; laid = there }, λ was. record { array = j.0; keeps = j.3 (inl tt); laid = there }))
 
   -- A volume that stops after it has gone on has stopped since then.
-  pub stops_after : (old mid new : Volume S B K T) {step : Bool → (ℕ → List ℕ) → (ℕ → List ℕ) → Type 0} → GoesOn (Had batches reads_back) Hears HoldsArray (running cipher words old) step (running cipher words mid)
+  pub stops_after : (old mid new : Volume S B K T) {step : Bool → (ℕ → List ℕ) → (ℕ → List ℕ) → Type 0} → GoesOn (Had batches reads_back) HostHears HoldsArray (running cipher words old) step (running cipher words mid)
       → Stops batches reads_back (running cipher words mid) (running cipher words new) → Stops batches reads_back (running cipher words old) (running cipher words new)
   stops_after old mid new g stop =
       let was = all_had batches reads_back g.calls (running cipher words old) (running cipher words mid) g.made in

@@ -16,19 +16,20 @@ use Rattle.oram_rounds.specs.Batches.{BatchOutcome}
 use Rattle.oram_rounds.specs.CatchUp.{PlainRun}
 use Rattle.oram_rounds.specs.Law.{AreBatches, IsFetchNow}
 use Rattle.oram_rounds.specs.Process.{Act, Does, DoesAll, IsSafe, Process, earlier, exchanges_of, process}
-use Rattle.oram_rounds.specs.Process.Act.{Calls, GoesAhead, Hears as HearsOf, Keeps, Misses}
+use Rattle.oram_rounds.specs.Process.Act.{Calls, GoesAhead, Hears, Keeps, Misses}
 use Rattle.oram_rounds.specs.Rounds.{Round, waiting}
 use Rattle.oram_rounds.specs.Service.{WillHoldAfter}
 use Rattle.oram_rounds.specs.Start.{AreAsked, Asked, array_with}
 use Rattle.oram_rounds.proofs.Asked.{asked_is_submitted}
 use Rattle.oram_rounds.proofs.Safety.{acts_are_safe}
 use Rattle.oram_rounds.proofs.Start.{held_is_safe, submitted_is_safe}
-use Rattle.oram_volume.specs.CarriedOut.{Had, Step, Stops, Takes, TakesAll, exchanges_in}
-use Rattle.oram_volume.specs.CarriedOut.Step.{Acts, Asks}
-use Rattle.oram_volume.specs.HeldArrays.{Hears, HeldDevicesHold, HoldsArray, HostBeside, KeepsArray, Running}
+use Rattle.oram_rounds.specs.ProcessSteps.{ProcessStep, exchanges_in}
+use Rattle.oram_volume.specs.CarriedOut.{Had, Stops, TakesStep, TakesSteps}
+use Rattle.oram_rounds.specs.ProcessSteps.ProcessStep.{Acts, Asks}
+use Rattle.oram_volume.specs.HeldArrays.{HeldDevicesHold, HoldsArray, HostBeside, HostHears, KeepsArray, Running}
 
 -- the host goes through exchanges
-pub heard : (may_lie : Bool) (exchanges : List Exchange) (w later : HostBeside) → FoldsTo {P = HostBeside} {A = Exchange} (Hears may_lie) w exchanges later
+pub heard : (may_lie : Bool) (exchanges : List Exchange) (w later : HostBeside) → FoldsTo {P = HostBeside} {A = Exchange} (HostHears may_lie) w exchanges later
     → (later.scheme ≡ w.scheme) × PlainRun may_lie w.scheme w.host exchanges later.host
 heard may_lie [] w later same = (ap (λ (b : HostBeside). b.scheme) (sym same), ap (λ (b : HostBeside). b.host) same)
 heard may_lie (e ∷ exchanges) w later all =
@@ -42,7 +43,7 @@ Nothing keeper bytes = ⊥
 -- where the array that may be read back is the present one, it stays so
 earlier_same : (acts : List Act) (array : ℕ → List ℕ) → earlier acts array array ≡ array
 earlier_same [] array = refl
-earlier_same (HearsOf event x ∷ acts) array = earlier_same acts array
+earlier_same (Hears event x ∷ acts) array = earlier_same acts array
 earlier_same (Calls o exchanges x ∷ acts) array = earlier_same acts array
 earlier_same (Misses o exchanges ∷ acts) array = earlier_same acts array
 earlier_same (GoesAhead exchanges ∷ acts) array = earlier_same acts array
@@ -57,7 +58,7 @@ module _ {B K : Type 0} (batches : B → List (List ℕ) → BatchOutcome → Li
   -- a process does the same over any keeper at which less is read back
   forgotten : (acts : List Act) (p q : Process B K) → DoesAll v batches reads_back p acts q → DoesAll v batches Nothing p acts q
   forgotten [] p q does = does
-  forgotten (HearsOf event x ∷ acts) p q does = (does.0, does.1, forgotten acts does.0 q does.2)
+  forgotten (Hears event x ∷ acts) p q does = (does.0, does.1, forgotten acts does.0 q does.2)
   forgotten (Calls o exchanges x ∷ acts) p q does = (does.0, does.1, forgotten acts does.0 q does.2)
   forgotten (Misses o exchanges ∷ acts) p q does = (does.0, does.1, forgotten acts does.0 q does.2)
   forgotten (GoesAhead exchanges ∷ acts) p q does = (does.0, does.1, forgotten acts does.0 q does.2)
@@ -66,21 +67,21 @@ module _ {B K : Type 0} (batches : B → List (List ℕ) → BatchOutcome → Li
 
   -- acts are steps of the process, and so are submissions
 
-  pub acts_taken : (acts : List Act) (p q : Process B K) → DoesAll v batches reads_back p acts q → TakesAll batches reads_back (at p) (map {B = Step} Acts acts) (at q)
+  pub acts_taken : (acts : List Act) (p q : Process B K) → DoesAll v batches reads_back p acts q → TakesSteps batches reads_back (at p) (map {B = ProcessStep} Acts acts) (at q)
   acts_taken [] p q does = ap at does
   acts_taken (act ∷ acts) p q does = (at does.0, (refl, refl, does.1), acts_taken acts does.0 q does.2)
 
   pub asked_taken : (asked : List Asked) (session : ℕ) (s t : State) (l : Round B) (k : K) → AreAsked v words session s asked t
-      → TakesAll batches reads_back (at (process s l k)) (map {B = Step} Asks asked) (at (process t l k))
+      → TakesSteps batches reads_back (at (process s l k)) (map {B = ProcessStep} Asks asked) (at (process t l k))
   asked_taken [] session s t l k same = ap (λ (c : State). at (process c l k)) same
   asked_taken (a ∷ asked) session s t l k all =
       (at (process all.0 l k), (refl, refl, (all.1.2, refl, refl), all.1.1), asked_taken asked session all.0 t l k all.2)
 
-  of_acts : (acts : List Act) → flat_map exchanges_in (map {B = Step} Acts acts) ≡ flat_map exchanges_of acts
+  of_acts : (acts : List Act) → flat_map exchanges_in (map {B = ProcessStep} Acts acts) ≡ flat_map exchanges_of acts
   of_acts [] = refl
   of_acts (act ∷ acts) = ap (λ (es : List Exchange). exchanges_of act ++ es) (of_acts acts)
 
-  of_asked : (asked : List Asked) → flat_map exchanges_in (map {B = Step} Asks asked) ≡ []
+  of_asked : (asked : List Asked) → flat_map exchanges_in (map {B = ProcessStep} Asks asked) ≡ []
   of_asked [] = refl
   of_asked (a ∷ asked) = of_asked asked
 
@@ -88,11 +89,11 @@ module _ {B K : Type 0} (batches : B → List (List ℕ) → BatchOutcome → Li
   pub had : (asked : List Asked) (acts : List Act) (session : ℕ) (s t : State) (l : Round B) (k : K) (q : Process B K) → AreAsked v words session s asked t
       → DoesAll v batches reads_back (process t l k) acts q → Had batches reads_back (at (process s l k)) (flat_map exchanges_of acts) (at q)
   had asked acts session s t l k q chain does = (
-    map {B = Step} Asks asked ++ map {B = Step} Acts acts,
-    folds_join {P = Running B K} (Takes batches reads_back) (at (process s l k)) (at (process t l k)) (at q) (map {B = Step} Asks asked) (map {B = Step} Acts acts)
+    map {B = ProcessStep} Asks asked ++ map {B = ProcessStep} Acts acts,
+    folds_join {P = Running B K} (TakesStep batches reads_back) (at (process s l k)) (at (process t l k)) (at q) (map {B = ProcessStep} Asks asked) (map {B = ProcessStep} Acts acts)
         (asked_taken asked session s t l k chain) (acts_taken acts (process t l k) q does),
-    flat_map-append exchanges_in (map {B = Step} Asks asked) (map {B = Step} Acts acts)
-        ∙ ap (λ (es : List Exchange). es ++ flat_map exchanges_in (map {B = Step} Acts acts)) (of_asked asked) ∙ of_acts acts,
+    flat_map-append exchanges_in (map {B = ProcessStep} Asks asked) (map {B = ProcessStep} Acts acts)
+        ∙ ap (λ (es : List Exchange). es ++ flat_map exchanges_in (map {B = ProcessStep} Acts acts)) (of_asked asked) ∙ of_acts acts,
   )
 
   module _ (may_lie : Bool) where
@@ -114,7 +115,7 @@ module _ {B K : Type 0} (batches : B → List (List ℕ) → BatchOutcome → Li
 
     -- whatever a process does, it still holds the array
     pub acts_hold : (acts : List Act) (p q : Process B K) (w later : HostBeside) (array : ℕ → List ℕ) → DoesAll v batches reads_back p acts q
-        → FoldsTo {P = HostBeside} {A = Exchange} (Hears may_lie) w (flat_map exchanges_of acts) later → Holds p w array → Holds q later array
+        → FoldsTo {P = HostBeside} {A = Exchange} (HostHears may_lie) w (flat_map exchanges_of acts) later → Holds p w array → Holds q later array
     acts_hold acts p q w later array does run h =
         let went = heard may_lie (flat_map exchanges_of acts) w later run in
         let ran : PlainRun may_lie v w.host (flat_map exchanges_of acts) later.host = subst (λ (u : Scheme). PlainRun may_lie u w.host (flat_map exchanges_of acts) later.host) h.same went.1 in
@@ -143,7 +144,7 @@ module _ {B K : Type 0} (batches : B → List (List ℕ) → BatchOutcome → Li
 
     -- and it goes on so, whatever it does then
     keeps_on : (acts : List Act) (p q : Process B K) (w later : HostBeside) (array : ℕ → List ℕ) → DoesAll v batches reads_back p (Keeps true ∷ acts) q
-        → FoldsTo {P = HostBeside} {A = Exchange} (Hears may_lie) w (flat_map exchanges_of acts) later → Holds p w array → KeepsArray reads_back may_lie (at q) later array
+        → FoldsTo {P = HostBeside} {A = Exchange} (HostHears may_lie) w (flat_map exchanges_of acts) later → Holds p w array → KeepsArray reads_back may_lie (at q) later array
     keeps_on acts p q w later array does run h =
         let went = heard may_lie (flat_map exchanges_of acts) w later run in
         let ran : PlainRun may_lie v w.host (flat_map exchanges_of acts) later.host = subst (λ (u : Scheme). PlainRun may_lie u w.host (flat_map exchanges_of acts) later.host) h.same went.1 in
@@ -163,7 +164,7 @@ module _ {B K : Type 0} (batches : B → List (List ℕ) → BatchOutcome → Li
         (asked_is_submitted B K v words session asked s t l k chain))
 
   abbrev pub Goes : Process B K → (Bool → (ℕ → List ℕ) → (ℕ → List ℕ) → Type 0) → Process B K → Type 0
-  Goes p step q = GoesOn (Had batches reads_back) Hears HoldsArray (at p) step (at q)
+  Goes p step q = GoesOn (Had batches reads_back) HostHears HoldsArray (at p) step (at q)
 
   -- acts leave the array as it is
   pub acts_go_on : (acts : List Act) (p q : Process B K) → DoesAll v batches reads_back p acts q → Goes p (λ _ array later. later ≡ array) q
@@ -183,7 +184,7 @@ module _ {B K : Type 0} (batches : B → List (List ℕ) → BatchOutcome → Li
   -- Submissions, and then acts that begin with a keeping: what the process holds then is kept.
   pub kept_go_on : (asked : List Asked) (acts : List Act) (session : ℕ) (s t : State) (l : Round B) (k : K) (q : Process B K) → AreAsked v words session s asked t
       → DoesAll v batches reads_back (process t l k) (Keeps true ∷ acts) q
-      → KeepsOn (Had batches reads_back) Hears HoldsArray (KeepsArray reads_back) (at (process s l k)) (Unit {0}) (λ _ array later. later ≡ array_with v.device asked array) (at q)
+      → KeepsOn (Had batches reads_back) HostHears HoldsArray (KeepsArray reads_back) (at (process s l k)) (Unit {0}) (λ _ array later. later ≡ array_with v.device asked array) (at q)
   kept_go_on asked acts session s t l k q chain does = one_kept (flat_map exchanges_of acts) (had asked (Keeps true ∷ acts) session s t l k q chain does)
       (λ may_lie w later run array h.
       let now = asked_hold may_lie asked session s t l k w array chain h in (
@@ -197,13 +198,13 @@ module _ {B K : Type 0} (batches : B → List (List ℕ) → BatchOutcome → Li
   pub acts_stop : (acts : List Act) (p q : Process B K) → DoesAll v batches reads_back p acts q → (status_in q.core ≡ Stalling) ⊎ ((before : List Act) × (acts ≡ before ++ Keeps false ∷ []))
       → Stops batches reads_back (at p) (at q)
   acts_stop acts p q does why = (
-    map {B = Step} Acts acts,
+    map {B = ProcessStep} Acts acts,
     acts_taken acts p q does,
     elim why [
       | inl stalled ↦ inl stalled
       | inr failed ↦ inr (inl (
-        map {B = Step} Acts failed.0,
-        ap (λ (l : List Act). map {B = Step} Acts l) failed.1 ∙ map-append {B = Step} Acts failed.0 (Keeps false ∷ []),
+        map {B = ProcessStep} Acts failed.0,
+        ap (λ (l : List Act). map {B = ProcessStep} Acts l) failed.1 ∙ map-append {B = ProcessStep} Acts failed.0 (Keeps false ∷ []),
       ))
     ],
   )

@@ -23,7 +23,7 @@ use Rattle.oram_semantics.specs.declared.events.ReplyBody.{ReplyBody}
 use Rattle.oram_volume.specs.Blocks.{IsLaidOut}
 use Rattle.oram_volume.specs.CarriedOut.{after_commands, bodies_from}
 use Rattle.oram_volume.specs.DiskCalls.{data_of}
-use Rattle.oram_volume.specs.RangeCommands.{Fits, all_commands, commands_of, discard_commands, read_commands, write_commands}
+use Rattle.oram_volume.specs.RangeCommands.{FitsDevice, all_commands, commands_of, discard_commands, read_commands, write_commands}
 use Rattle.oram_volume.proofs.RangeCommands.{length_commands}
 use Rattle.oram_volume.proofs.LaidRanges.{begun_discards, begun_reads, begun_writes, blocks_within, data_discards, data_read, data_writes, discards_fit, laid_after_discards, laid_after_reads, laid_after_writes, reads_fit, writes_fit}
 
@@ -100,10 +100,10 @@ module _ (d : Sizes) where
   writes_are : (at : ℕ) (payload : List ℕ) (k : AreBlocks b d.blocks (operation.Write at payload)) → commands_of b (operation.Write at payload) ≡ write_commands b k.first k.count payload
   writes_are at payload k = ap (λ (n : ℕ). write_commands b n (length payload / b) payload) k.at ∙ ap (λ (n : ℕ). write_commands b k.first n payload) k.many
 
-  one_fits : (op : Operation) → AreBlocks b d.blocks op → All (Fits d) (commands_of b op)
-  one_fits (operation.Read at count) k = subst (All (Fits d)) (sym (reads_are at count k)) (reads_fit d k.count k.first k.within)
-  one_fits (operation.Write at payload) k = subst (All (Fits d)) (sym (writes_are at payload k)) (writes_fit d k.count k.first payload k.len k.within)
-  one_fits (operation.Zero at count) k = subst (All (Fits d)) (sym (discards_are at count k)) (discards_fit d k.count k.first k.within)
+  one_fits : (op : Operation) → AreBlocks b d.blocks op → All (FitsDevice d) (commands_of b op)
+  one_fits (operation.Read at count) k = subst (All (FitsDevice d)) (sym (reads_are at count k)) (reads_fit d k.count k.first k.within)
+  one_fits (operation.Write at payload) k = subst (All (FitsDevice d)) (sym (writes_are at payload k)) (writes_fit d k.count k.first payload k.len k.within)
+  one_fits (operation.Zero at count) k = subst (All (FitsDevice d)) (sym (discards_are at count k)) (discards_fit d k.count k.first k.within)
 
   -- after all of them
   one_done : (op : Operation) → AreBlocks b d.blocks op → (array : ℕ → List ℕ) (bytes : List ℕ) → IsLaidOut d array bytes → IsLaidOut d (after_commands d (commands_of b op) array) (done_by op bytes)
@@ -151,10 +151,10 @@ module _ (d : Sizes) where
     blocks_of : (op : Operation) → IsWhole b op → IsWithin (b * d.blocks) op → AreBlocks b d.blocks op
     blocks_of op whole within = are_blocks b d.blocks op some whole within
 
-    pub all_fit : (ops : List Operation) → All (IsWhole b) ops → All (IsWithin (b * d.blocks)) ops → All (Fits d) (all_commands b ops)
-    all_fit [] whole within = All-nil (Fits d)
+    pub all_fit : (ops : List Operation) → All (IsWhole b) ops → All (IsWithin (b * d.blocks)) ops → All (FitsDevice d) (all_commands b ops)
+    all_fit [] whole within = All-nil (FitsDevice d)
     all_fit (op ∷ ops) whole within =
-        All-append (Fits d) (commands_of b op) (all_commands b ops) (one_fits op (blocks_of op (All-head (IsWhole b) op ops whole) (All-head (IsWithin (b * d.blocks)) op ops within)))
+        All-append (FitsDevice d) (commands_of b op) (all_commands b ops) (one_fits op (blocks_of op (All-head (IsWhole b) op ops whole) (All-head (IsWithin (b * d.blocks)) op ops within)))
         (all_fit ops (All-tail (IsWhole b) op ops whole) (All-tail (IsWithin (b * d.blocks)) op ops within))
 
     pub laid_done : (ops : List Operation) → All (IsWhole b) ops → All (IsWithin (b * d.blocks)) ops → (array : ℕ → List ℕ) (bytes : List ℕ) → IsLaidOut d array bytes

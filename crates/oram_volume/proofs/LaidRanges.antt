@@ -12,7 +12,7 @@ use Rattle.oram_nbd.proofs.Splices.{begun_more, begun_none, begun_zeroes, bytes_
 use Rattle.oram_volume.specs.Blocks.{IsLaidOut}
 use Rattle.oram_volume.specs.CarriedOut.{after_commands, bodies_from}
 use Rattle.oram_volume.specs.DiskCalls.{data_of}
-use Rattle.oram_volume.specs.RangeCommands.{Fits, discard_commands, read_commands, write_commands}
+use Rattle.oram_volume.specs.RangeCommands.{FitsDevice, discard_commands, read_commands, write_commands}
 use Rattle.oram_volume.proofs.Layouts.{laid_after_discard, laid_after_read, laid_after_write, length_laid, read_laid}
 
 -- a range of blocks whose bytes lie within the bytes of a device is one of its blocks
@@ -38,12 +38,12 @@ module _ (d : Sizes) where
 
   -- ---- writes
 
-  pub writes_fit : (n first : ℕ) (payload : List ℕ) → length payload ≡ d.block_bytes * n → first + n ≤ d.blocks → All (Fits d) (write_commands d.block_bytes first n payload)
-  writes_fit zero first payload long within = All-nil (Fits d)
+  pub writes_fit : (n first : ℕ) (payload : List ℕ) → length payload ≡ d.block_bytes * n → first + n ≤ d.blocks → All (FitsDevice d) (write_commands d.block_bytes first n payload)
+  writes_fit zero first payload long within = All-nil (FitsDevice d)
   writes_fit (suc n) first payload long within =
       let more : d.block_bytes * suc n ≡ d.block_bytes * n + d.block_bytes = mul-suc d.block_bytes n in
       let rest : length (drop d.block_bytes payload) ≡ length payload - d.block_bytes = length-drop d.block_bytes payload in
-      All-cons (Fits d) (Write first (take d.block_bytes payload)) (write_commands d.block_bytes (suc first) n (drop d.block_bytes payload))
+      All-cons (FitsDevice d) (Write first (take d.block_bytes payload)) (write_commands d.block_bytes (suc first) n (drop d.block_bytes payload))
       (omega arith, length-take-le d.block_bytes payload (omega arith))
       (writes_fit n (suc first) (drop d.block_bytes payload) (omega arith) (omega arith))
 
@@ -104,9 +104,9 @@ module _ (d : Sizes) where
 
   -- ---- discards
 
-  pub discards_fit : (n first : ℕ) → first + n ≤ d.blocks → All (Fits d) (discard_commands first n)
-  discards_fit zero first within = All-nil (Fits d)
-  discards_fit (suc n) first within = All-cons (Fits d) (Discard first) (discard_commands (suc first) n) (omega arith) (discards_fit n (suc first) (omega arith))
+  pub discards_fit : (n first : ℕ) → first + n ≤ d.blocks → All (FitsDevice d) (discard_commands first n)
+  discards_fit zero first within = All-nil (FitsDevice d)
+  discards_fit (suc n) first within = All-cons (FitsDevice d) (Discard first) (discard_commands (suc first) n) (omega arith) (discards_fit n (suc first) (omega arith))
 
   first_zeroed : (n first : ℕ) (array : ℕ → List ℕ) (bytes : List ℕ) → IsLaidOut d array bytes → first + suc n ≤ d.blocks
       → IsLaidOut d (array_after d (Discard first) array) (written bytes (d.block_bytes * first) (zeroes d.block_bytes))
@@ -148,9 +148,9 @@ module _ (d : Sizes) where
 
   -- ---- reads
 
-  pub reads_fit : (n first : ℕ) → first + n ≤ d.blocks → All (Fits d) (read_commands first n)
-  reads_fit zero first within = All-nil (Fits d)
-  reads_fit (suc n) first within = All-cons (Fits d) (Read first) (read_commands (suc first) n) (omega arith) (reads_fit n (suc first) (omega arith))
+  pub reads_fit : (n first : ℕ) → first + n ≤ d.blocks → All (FitsDevice d) (read_commands first n)
+  reads_fit zero first within = All-nil (FitsDevice d)
+  reads_fit (suc n) first within = All-cons (FitsDevice d) (Read first) (read_commands (suc first) n) (omega arith) (reads_fit n (suc first) (omega arith))
 
   pub laid_after_reads : (n first : ℕ) (array : ℕ → List ℕ) (bytes : List ℕ) → IsLaidOut d array bytes → IsLaidOut d (after_commands d (read_commands first n) array) bytes
   laid_after_reads zero first array bytes laid = laid

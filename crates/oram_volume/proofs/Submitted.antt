@@ -26,7 +26,7 @@ use Rattle.oram_session.specs.Honesty.{HasFailed}
 use Rattle.oram_session.specs.Settled.{IsSettled, is_settled_by}
 use Rattle.oram_rounds.specs.Start.{AreAsked, Asked, IsAsked, array_if, array_with}
 use Rattle.oram_volume.specs.CarriedOut.{after_commands}
-use Rattle.oram_volume.specs.RangeCommands.{Fits}
+use Rattle.oram_volume.specs.RangeCommands.{FitsDevice}
 
 -- in a failed core nothing waits
 pub failed_settles : (s : State) → HasFailed s → IsSettled s
@@ -50,17 +50,17 @@ within blocks a low = grind (arith, nat_tests, low)
 same_number : (m n : ℕ) → m ≡ n → not (m == n) ≡ false
 same_number m n same = grind (arith, nat_tests, same)
 
-fit_address : (d : Sizes) (c : Command) → Fits d c → nat_le d.blocks (address_of c) ≡ false
+fit_address : (d : Sizes) (c : Command) → FitsDevice d c → nat_le d.blocks (address_of c) ≡ false
 fit_address d (Read a) fits = within d.blocks a fits
 fit_address d (Write a payload) fits = within d.blocks a fits.0
 fit_address d (Discard a) fits = within d.blocks a fits
 
-fit_length : (d : Sizes) (c : Command) → Fits d c → has_bad_length d c ≡ false
+fit_length : (d : Sizes) (c : Command) → FitsDevice d c → has_bad_length d c ≡ false
 fit_length d (Read a) fits = refl
 fit_length d (Write a payload) fits = same_number (length payload) d.block_bytes fits.1
 fit_length d (Discard a) fits = refl
 
-refusal_fits : (d : Sizes) (failed : Bool) (waiting taken : ℕ) (c : Command) (words : List ℕ) → Fits d c → refusal_of d failed waiting taken c words ≡ rest_of d failed waiting taken words
+refusal_fits : (d : Sizes) (failed : Bool) (waiting taken : ℕ) (c : Command) (words : List ℕ) → FitsDevice d c → refusal_of d failed waiting taken c words ≡ rest_of d failed waiting taken words
 refusal_fits d true waiting taken c words fits = refl
 refusal_fits d false waiting taken c words fits = rw (fit_address d c fits) (rw (fit_length d c fits) refl)
 
@@ -92,7 +92,7 @@ stepped v s t a step =
 
 module _ (v : Scheme) (words : ℕ → ℕ → List ℕ) (session : ℕ) where
   abbrev pub AllFit : List Asked → Type 0
-  AllFit asked = All (Fits v.device) (map (λ (a : Asked). a.command) asked)
+  AllFit asked = All (FitsDevice v.device) (map (λ (a : Asked). a.command) asked)
 
   -- the words of the next ticket
   abbrev next_words : State → List ℕ
@@ -101,7 +101,7 @@ module _ (v : Scheme) (words : ℕ → ℕ → List ℕ) (session : ℕ) where
   abbrev now_refused : State → Option Refusal
   now_refused s = rest_of v.device (is_over (status_in s)) (length s.queue) s.next (next_words s)
 
-  reason_of : (s t : State) (a : Asked) → Fits v.device a.command → IsAsked v words session s a t
+  reason_of : (s t : State) (a : Asked) → FitsDevice v.device a.command → IsAsked v words session s a t
       → refusal_of v.device (is_over (status_in s)) (length s.queue) s.next a.command a.words ≡ now_refused s
   reason_of s t a fits step =
       refusal_fits v.device (is_over (status_in s)) (length s.queue) s.next a.command a.words fits
@@ -113,12 +113,12 @@ module _ (v : Scheme) (words : ℕ → ℕ → List ℕ) (session : ℕ) where
   all_refused e [] s t all fits is array = refl
   all_refused e (a ∷ asked) s t all fits is array =
       let mid : State = all.0 in
-      let reason = reason_of s mid a (All-head (Fits v.device) a.command (map (λ (b : Asked). b.command) asked) fits) all.1 ∙ is in
+      let reason = reason_of s mid a (All-head (FitsDevice v.device) a.command (map (λ (b : Asked). b.command) asked) fits) all.1 ∙ is in
       elim (stepped v s mid a all.1.2) [
         | inl joins ↦ absurd (let both : None ≡ Some e = sym joins.0 ∙ reason in cc)
         | inr stays ↦
             ap (array_with v.device asked) (stays.2.2 v.device array)
-            ∙ all_refused e asked mid t all.2 (All-tail (Fits v.device) a.command (map (λ (b : Asked). b.command) asked) fits) (ap now_refused stays.2.1 ∙ is) array
+            ∙ all_refused e asked mid t all.2 (All-tail (FitsDevice v.device) a.command (map (λ (b : Asked). b.command) asked) fits) (ap now_refused stays.2.1 ∙ is) array
       ]
 
   -- so the first ones are accepted, all or some or none, and the array is the one after these
@@ -129,13 +129,13 @@ module _ (v : Scheme) (words : ℕ → ℕ → List ℕ) (session : ℕ) where
       let mid : State = all.0 in
       elim (stepped v s mid a all.1.2) [
         | inl joins ↦
-            let rest = first_accepted asked mid t all.2 (All-tail (Fits v.device) a.command (map (λ (b : Asked). b.command) asked) fits) in (
+            let rest = first_accepted asked mid t all.2 (All-tail (FitsDevice v.device) a.command (map (λ (b : Asked). b.command) asked) fits) in (
               suc rest.0,
               (let few : rest.0 ≤ length asked = rest.1 in omega arith),
               λ array. ap (array_with v.device asked) (joins.1.4 v.device array) ∙ rest.2 (array_after v.device a.command array),
             )
         | inr stays ↦
-            let reason = sym (reason_of s mid a (All-head (Fits v.device) a.command (map (λ (b : Asked). b.command) asked) fits) all.1) ∙ stays.1 in (
+            let reason = sym (reason_of s mid a (All-head (FitsDevice v.device) a.command (map (λ (b : Asked). b.command) asked) fits) all.1) ∙ stays.1 in (
               0,
               omega arith,
               λ array. all_refused stays.0 (a ∷ asked) s t all fits reason array,

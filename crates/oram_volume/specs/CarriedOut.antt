@@ -13,9 +13,10 @@ use Rattle.oram_semantics.specs.declared.events.Command.{Command}
 use Rattle.oram_semantics.specs.declared.events.ReplyBody.{ReplyBody}
 use Rattle.oram_link_laws.specs.Runs.{Exchange}
 use Rattle.oram_rounds.specs.Batches.{BatchOutcome}
-use Rattle.oram_rounds.specs.Process.{Act, Does, exchanges_of}
 use Rattle.oram_rounds.specs.Process.Act.{Keeps}
-use Rattle.oram_rounds.specs.Start.{Asked, Submits}
+use Rattle.oram_rounds.specs.ProcessSteps.{DoesStep, ProcessStep, exchanges_in}
+use Rattle.oram_rounds.specs.ProcessSteps.ProcessStep.{Acts, Asks}
+use Rattle.oram_rounds.specs.Start.{Asked}
 use Rattle.oram_volume.specs.HeldArrays.{Running}
 
 -- the replies of an array to commands, one after the other
@@ -28,35 +29,26 @@ abbrev pub after_commands : Sizes → List Command → (ℕ → List ℕ) → �
 after_commands d [] array = array
 after_commands d (c ∷ commands) array = after_commands d commands (array_after d c array)
 
--- What a process does for its client: it submits a command, or it does an act.
-pub data Step : Type 0 where
-  Asks : Asked → Step
-  Acts : Act → Step
-
--- the exchanges with the host in a step
-abbrev pub exchanges_in : Step → List Exchange
-exchanges_in (Asks a) = []
-exchanges_in (Acts act) = exchanges_of act
-
 -- of a process with this relation of batches, and this read-back of its keeper
 module _ {B K : Type 0} (batches : B → List (List ℕ) → BatchOutcome → List Exchange → B → Type 0) (reads_back : K → List ℕ → Type 0) where
-  -- A command is submitted with the tape's words of the next ticket.
-  abbrev pub Takes : Running B K → Step → Running B K → Type 0
-  Takes p (Asks a) q =
-      (q.scheme ≡ p.scheme) × (q.words ≡ p.words) × Submits p.scheme p.process a q.process × (a.words ≡ p.words p.process.core.next (2 * trees_of p.scheme.device))
-  Takes p (Acts act) q = (q.scheme ≡ p.scheme) × (q.words ≡ p.words) × Does p.scheme batches reads_back p.process act q.process
+  -- The process does a step. A command is submitted with the tape's words of the next ticket.
+  abbrev pub TakesStep : Running B K → ProcessStep → Running B K → Type 0
+  TakesStep p (Asks a) q =
+      (q.scheme ≡ p.scheme) × (q.words ≡ p.words) × DoesStep p.scheme batches reads_back p.process (Asks a) q.process
+      × (a.words ≡ p.words p.process.core.next (2 * trees_of p.scheme.device))
+  TakesStep p (Acts act) q = (q.scheme ≡ p.scheme) × (q.words ≡ p.words) × DoesStep p.scheme batches reads_back p.process (Acts act) q.process
 
   -- it takes some steps, one after the other
-  abbrev pub TakesAll : Running B K → List Step → Running B K → Type 0
-  TakesAll p steps q = FoldsTo {P = Running B K} Takes p steps q
+  abbrev pub TakesSteps : Running B K → List ProcessStep → Running B K → Type 0
+  TakesSteps p steps q = FoldsTo {P = Running B K} TakesStep p steps q
 
   -- the process takes some steps, and has these exchanges
   abbrev pub Had : Running B K → List Exchange → Running B K → Type 0
-  Had p exchanges q = (steps : List Step) × TakesAll p steps q × (flat_map exchanges_in steps ≡ exchanges)
+  Had p exchanges q = (steps : List ProcessStep) × TakesSteps p steps q × (flat_map exchanges_in steps ≡ exchanges)
 
   -- It takes some steps, and then a message has stalled, or the keeper has failed, or the core hasn't accepted a command.
   abbrev pub Stops : Running B K → Running B K → Type 0
-  Stops p q = (steps : List Step) × TakesAll p steps q
+  Stops p q = (steps : List ProcessStep) × TakesSteps p steps q
       × ((status_in q.process.core ≡ Stalling)
-      ⊎ (((before : List Step) × (steps ≡ before ++ Acts (Keeps false) ∷ []))
-      ⊎ ((before after : List Step) × (a : Asked) × (is_accepted a.shown.note ≡ false) × (steps ≡ before ++ Asks a ∷ after))))
+      ⊎ (((before : List ProcessStep) × (steps ≡ before ++ Acts (Keeps false) ∷ []))
+      ⊎ ((before after : List ProcessStep) × (a : Asked) × (is_accepted a.shown.note ≡ false) × (steps ≡ before ++ Asks a ∷ after))))

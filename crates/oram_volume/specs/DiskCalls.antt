@@ -7,7 +7,7 @@ use Rattle.oram_link_laws.specs.Runs.{Exchange}
 use Rattle.oram_nbd.specs.Beside.{GoesOn, KeepsOn}
 use Rattle.oram_rounds.specs.Batches.{BatchOutcome}
 use Rattle.oram_volume.specs.CarriedOut.{Had}
-use Rattle.oram_volume.specs.HeldArrays.{Hears, HoldsBytes, KeepsBytes, running}
+use Rattle.oram_volume.specs.HeldArrays.{HostHears, HoldsBytes, KeepsBytes, running}
 use Rattle.oram_volume.specs.declared.volume.Volume.{Volume}
 
 -- the bytes of a reply
@@ -21,12 +21,12 @@ data_of Failed = []
 abbrev pub VolumeGoesOn : {S B K T : Type 0} → (S → Cipher) → (T → ℕ → ℕ → List ℕ) → (B → List (List ℕ) → BatchOutcome → List Exchange → B → Type 0)
     → (K → List ℕ → Type 0) → Volume S B K T → (Bool → List ℕ → List ℕ → Type 0) → Volume S B K T → Type 0
 VolumeGoesOn cipher words batches reads_back old step new =
-    GoesOn (λ d events e. Had batches reads_back (running cipher words d) events (running cipher words e)) Hears
+    GoesOn (λ d events e. Had batches reads_back (running cipher words d) events (running cipher words e)) HostHears
     (λ may_lie d w bytes. HoldsBytes may_lie (running cipher words d) w bytes) old step new
 
 -- The same, and what outlasts its process: where `sure` holds, the next process holds that one too.
 abbrev pub VolumeKeepsOn : {S B K T : Type 0} → (S → Cipher) → (T → ℕ → ℕ → List ℕ) → (B → List (List ℕ) → BatchOutcome → List Exchange → B → Type 0)
     → (K → List ℕ → Type 0) → Volume S B K T → Type 0 → (Bool → List ℕ → List ℕ → Type 0) → Volume S B K T → Type 0
 VolumeKeepsOn cipher words batches reads_back old sure step new =
-    KeepsOn (λ d events e. Had batches reads_back (running cipher words d) events (running cipher words e)) Hears
+    KeepsOn (λ d events e. Had batches reads_back (running cipher words d) events (running cipher words e)) HostHears
     (λ may_lie d w bytes. HoldsBytes may_lie (running cipher words d) w bytes) (λ may_lie d w bytes. KeepsBytes reads_back may_lie (running cipher words d) w bytes) old sure step new

@@ -21,8 +21,8 @@ pub record HostBeside : Type 0 where
   pub host : Host
 
 -- an exchange leads the host from one state to another
-abbrev pub Hears : Bool → HostBeside → Exchange → HostBeside → Type 0
-Hears may_lie w e later = (later.scheme ≡ w.scheme) × IsPlainCall may_lie w.scheme w.host e.0 e.1 later.host
+abbrev pub HostHears : Bool → HostBeside → Exchange → HostBeside → Type 0
+HostHears may_lie w e later = (later.scheme ≡ w.scheme) × IsPlainCall may_lie w.scheme w.host e.0 e.1 later.host
 
 -- a process, the scheme of its device, and the words of its tape
 pub record Running (B K : Type 0) : Type 0 where

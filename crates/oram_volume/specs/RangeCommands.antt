@@ -40,7 +40,7 @@ abbrev pub rest_of : ℕ → List Operation → ℕ → ℕ → List Command
 rest_of block ops number done = rest_in block (drop number ops) done
 
 -- the command is on a block of the device, and what it writes is as long as a block is
-abbrev pub Fits : Sizes → Command → Type 0
-Fits d (Read a) = a < d.blocks
-Fits d (Write a payload) = (a < d.blocks) × (length payload ≡ d.block_bytes)
-Fits d (Discard a) = a < d.blocks
+abbrev pub FitsDevice : Sizes → Command → Type 0
+FitsDevice d (Read a) = a < d.blocks
+FitsDevice d (Write a payload) = (a < d.blocks) × (length payload ≡ d.block_bytes)
+FitsDevice d (Discard a) = a < d.blocks

@@ -10,7 +10,7 @@ ghost use Rattle.oram_nbd.specs.Operations.{IsWhole, IsWithin, read_len};
 ghost use Rattle.oram_semantics.specs.declared.events.Command.{Command};
 ghost use Rattle.oram_volume.specs.CarriedOut.{Had, Stops, after_commands, bodies_from};
 ghost use Rattle.oram_volume.specs.DiskCalls.{data_of};
-ghost use Rattle.oram_volume.specs.HeldArrays.{Hears, HoldsArray, KeepsArray, running};
+ghost use Rattle.oram_volume.specs.HeldArrays.{HostHears, HoldsArray, KeepsArray, running};
 ghost use Rattle.oram_volume.specs.RangeCommands.{all_commands};
 
 use crate::commands::{Cursor, next_round};
@@ -76,14 +76,14 @@ impl<S: Sealer, B: BatchLink, K: Keeper, T: Tape> Volume<S, B, K, T> {
         requires within { All (IsWithin (self.old.core.device.block_bytes * self.old.core.device.blocks)) operations.now }
         ensures kept { IsSameDevice self.old.core self.new.core }
         ensures goes { let d = self.old.core.device in let all = all_commands d.block_bytes operations.now in
-            GoesOn (Had B.batches K.reads_back) Hears HoldsArray (running S.cipher T.words self.old)
+            GoesOn (Had B.batches K.reads_back) HostHears HoldsArray (running S.cipher T.words self.old)
             (λ may_lie array later. MatchResult result
             (λ found. (found.items ≡ flat_map data_of (bodies_from d all array)) × (later ≡ after_commands d all array))
             (λ _. (done rest : List Command) × (all ≡ done ++ rest) × (later ≡ after_commands d done array)) × FailsByLies result may_lie)
             (running S.cipher T.words self.new) }
         // What was done is kept, or nothing was asked for.
         ensures keeps { let d = self.old.core.device in let all = all_commands d.block_bytes operations.now in
-            OnOk result (((all ≡ []) × (self.new ≡ self.old)) ⊎ KeepsOn (Had B.batches K.reads_back) Hears HoldsArray (KeepsArray K.reads_back)
+            OnOk result (((all ≡ []) × (self.new ≡ self.old)) ⊎ KeepsOn (Had B.batches K.reads_back) HostHears HoldsArray (KeepsArray K.reads_back)
             (running S.cipher T.words self.old) (Unit {0}) (λ may_lie array later. later ≡ after_commands d all array) (running S.cipher T.words self.new)) }
         ensures failing { IsErrOf result DiskFault.Failed → HasFailed self.new.core.state }
         ensures still { HasFailed self.old.core.state → HasFailed self.new.core.state }
@@ -124,7 +124,7 @@ impl<S: Sealer, B: BatchLink, K: Keeper, T: Tape> Volume<S, B, K, T> {
 impl<S: Sealer, B: BatchLink, K: Keeper, T: Tape> BlockDevice for Volume<S, B, K, T> {
     ghost use Rattle.oram_link_laws.specs.Runs.{Exchange};
     ghost use Rattle.oram_volume.specs.CarriedOut.{Had};
-    ghost use Rattle.oram_volume.specs.HeldArrays.{HostBeside, Hears, HoldsBytes, KeepsBytes};
+    ghost use Rattle.oram_volume.specs.HeldArrays.{HostBeside, HostHears, HoldsBytes, KeepsBytes};
 
     ghost block_len = { λ d. d.core.device.block_bytes };
 
@@ -134,7 +134,7 @@ impl<S: Sealer, B: BatchLink, K: Keeper, T: Tape> BlockDevice for Volume<S, B, K
 
     ghost Event = { Exchange };
 
-    ghost hears = { λ may_lie w e later. Hears may_lie w e later };
+    ghost hears = { λ may_lie w e later. HostHears may_lie w e later };
 
     ghost had = { λ d events e. Had B.batches K.reads_back (running S.cipher T.words d) events (running S.cipher T.words e) };
 

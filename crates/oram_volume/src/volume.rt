@@ -7,8 +7,8 @@ ghost use Rattle.oram_session.specs.Settled.{IsSettled};
 ghost use Rattle.oram_nbd.specs.Beside.{GoesOn, KeepsOn};
 ghost use Rattle.oram_nbd.specs.Calls.{FailsByLies};
 ghost use Rattle.oram_volume.specs.CarriedOut.{Had, Stops, after_commands, bodies_from};
-ghost use Rattle.oram_volume.specs.RangeCommands.{Fits};
-ghost use Rattle.oram_volume.specs.HeldArrays.{Hears, HoldsArray, KeepsArray, running};
+ghost use Rattle.oram_volume.specs.RangeCommands.{FitsDevice};
+ghost use Rattle.oram_volume.specs.HeldArrays.{HostHears, HoldsArray, KeepsArray, running};
 
 use oram_bucket::Sealer;
 use oram_core::{Command, Core, Reply, ReplyBody};
@@ -78,7 +78,7 @@ impl<S: Sealer, B: BatchLink, K: Keeper, T: Tape> Volume<S, B, K, T> {
         ensures tape { T.words self.new.tape ≡ T.words self.old.tape }
         ensures settled { OnOk result (IsSettled self.new.core.state) }
         ensures calm { IsSettled self.old.core.state → IsOk result × (self.new.core ≡ self.old.core) }
-        ensures goes { GoesOn (Had B.batches K.reads_back) Hears HoldsArray (running S.cipher T.words self.old)
+        ensures goes { GoesOn (Had B.batches K.reads_back) HostHears HoldsArray (running S.cipher T.words self.old)
             (λ _ array later. later ≡ array) (running S.cipher T.words self.new) }
         ensures fault { IfErr result (λ e. e ≢ DiskFault.Failed) }
         // It stops where a message stalls or the process can't be kept, and nowhere else.
@@ -97,15 +97,15 @@ impl<S: Sealer, B: BatchLink, K: Keeper, T: Tape> Volume<S, B, K, T> {
         alloc: Global,
         commands: Vec<Command>,
     ) -> Result<Vec<Reply>, DiskFault>
-        requires { All (Fits self.old.core.device) commands.items }
+        requires { All (FitsDevice self.old.core.device) commands.items }
         ensures kept { IsSameDevice self.old.core self.new.core }
         ensures tape { T.words self.new.tape ≡ T.words self.old.tape }
-        ensures goes { GoesOn (Had B.batches K.reads_back) Hears HoldsArray (running S.cipher T.words self.old)
+        ensures goes { GoesOn (Had B.batches K.reads_back) HostHears HoldsArray (running S.cipher T.words self.old)
             (λ may_lie array later. let d = self.old.core.device in MatchResult result
             (λ replies. (map (λ reply. reply.body) replies.items ≡ bodies_from d commands.items array) × (later ≡ after_commands d commands.items array))
             (λ _. (n : ℕ) × (later ≡ after_commands d (take n commands.items) array)) × FailsByLies result may_lie)
             (running S.cipher T.words self.new) }
-        ensures keeps { OnOk result (0 < length commands.items → KeepsOn (Had B.batches K.reads_back) Hears HoldsArray (KeepsArray K.reads_back)
+        ensures keeps { OnOk result (0 < length commands.items → KeepsOn (Had B.batches K.reads_back) HostHears HoldsArray (KeepsArray K.reads_back)
             (running S.cipher T.words self.old) (Unit {0}) (λ may_lie array later. later ≡ after_commands self.old.core.device commands.items array)
             (running S.cipher T.words self.new)) }
         ensures refused { OnOk result (HasFailed self.old.core.state → ⊥) }

@@ -1,4 +1,7 @@
 //! Devices that are formatted on a host in memory.
+//!
+//! `rows_sessions` has [`device_of`] and [`standing`] too. The crate `rows` can't have them for both, since it knows no device
+//! and no core: otherwise each row program would be proved only after the core.
 
 use oram_bucket::PlainSeal;
 use oram_core::Core;

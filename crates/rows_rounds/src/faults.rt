@@ -28,7 +28,7 @@ fn tell_round_faults(page: &mut Page) {
 fn tell_file_faults(page: &mut Page) {
     for fault in [
         KeptCoreFault::Torn,
-        KeptCoreFault::State(StateFault::Digest),
+        KeptCoreFault::Core(StateFault::Content),
         KeptCoreFault::OutOfMemory,
     ] {
         page.fault(fault);

@@ -1,7 +1,8 @@
 //! Rows of files of a process that aren't whole.
 
-use oram_bucket::PlainSeal;
+use oram_bucket::{ChaChaSeal, PlainSeal};
 use oram_rounds::{KeptCoreFault, decode_kept};
+use oram_state::{StateFault, decode_fields};
 use rows::{Page, RowFault};
 use std::alloc::Global;
 
@@ -9,14 +10,14 @@ use std::alloc::Global;
 #[derive(Clone, Copy, Drop)]
 struct Tally {
     torn: u64,
-    state: u64,
+    core: u64,
     taken: u64,
 }
 
 impl Tally {
     const EMPTY: Tally = Tally {
         torn: 0,
-        state: 0,
+        core: 0,
         taken: 0,
     };
 
@@ -25,18 +26,18 @@ impl Tally {
         match decode_kept(alloc, PlainSeal, file) {
             Ok(_) => self.taken = self.taken.saturating_add(1),
             Err(KeptCoreFault::Torn) => self.torn = self.torn.saturating_add(1),
-            Err(KeptCoreFault::State(_)) => self.state = self.state.saturating_add(1),
+            Err(KeptCoreFault::Core(_)) => self.core = self.core.saturating_add(1),
             Err(KeptCoreFault::OutOfMemory) => return Err(RowFault::OutOfMemory),
         }
         Ok(())
     }
 
-    /// Writes how many files were refused because of their STOREs or because of the core, and how many were not refused.
+    /// Writes how many files were refused since they aren't whole, and how many because of the core, and how many were read.
     fn tell(self, page: &mut Page) {
         page.word("torn");
         page.number(self.torn);
-        page.word("state");
-        page.number(self.state);
+        page.word("core");
+        page.number(self.core);
         page.word("taken");
         page.number(self.taken);
     }
@@ -65,5 +66,33 @@ pub(crate) fn tell_flipped_files(
         file[i] ^= 1;
     }
     tally.tell(page);
+    Ok(())
+}
+
+/// Reads the fields of the core cut short at each length.
+pub(crate) fn tell_cut_fields(
+    alloc: Global,
+    fields: &[u8],
+    page: &mut Page,
+) -> Result<(), RowFault> {
+    let mut tally = Tally::EMPTY;
+    for len in 0..fields.len() {
+        match decode_fields(alloc, PlainSeal, &fields[..len]) {
+            Ok(_) => tally.taken = tally.taken.saturating_add(1),
+            Err(StateFault::OutOfMemory) => return Err(RowFault::OutOfMemory),
+            Err(_) => tally.core = tally.core.saturating_add(1),
+        }
+    }
+    tally.tell(page);
+    Ok(())
+}
+
+/// Reads the file with another sealer than the one that it was written with.
+pub(crate) fn tell_other_sealer(alloc: Global, file: &[u8], page: &mut Page) -> Result<(), RowFault> {
+    match decode_kept(alloc, ChaChaSeal { key: [0; 32] }, file) {
+        Ok(_) => page.word("taken"),
+        Err(KeptCoreFault::OutOfMemory) => return Err(RowFault::OutOfMemory),
+        Err(fault) => page.fault(fault),
+    }
     Ok(())
 }

@@ -3,7 +3,7 @@
 use crate::devices::{new_device, standing};
 use crate::hosts::{HostPlace, Sent, Way};
 use crate::keepers::{MemoryKeeper, Room};
-use crate::kept_files::{tell_cut_files, tell_flipped_files};
+use crate::kept_files::{tell_cut_fields, tell_cut_files, tell_flipped_files, tell_other_sealer};
 use crate::lives::{Life, link_for};
 use crate::plain_arrays::{PlainArray, many_commands};
 use oram_bytes::Bytes;
@@ -11,7 +11,7 @@ use oram_core::{Command, Note, Reply, ReplyBody};
 use oram_host::Server;
 use oram_rounds::{RoundFault, encode_kept};
 use oram_session::Link;
-use oram_state::encode_state;
+use oram_state::encode_fields;
 use rows::{Page, RowFault, RowWords};
 use std::alloc::Global;
 
@@ -257,16 +257,19 @@ impl<'a> Rounds<'a> {
         Ok(())
     }
 
-    /// `file`: writes the file of the process as it is now. `state`: writes the state file of its core alone. `cut_files` and
-    /// `flipped_files`: writes how many files are refused that lack bytes, or have a wrong one.
+    /// `file`: writes the file of the process as it is now. `fields`: writes the fields of its core alone. `cut_files`,
+    /// `cut_fields` and `flipped_files`: writes how many of them are refused that lack bytes, or have a wrong one.
+    /// `other_sealer`: writes why the file isn't read with another sealer.
     fn file_row(&mut self, alloc: Global, call: &str, page: &mut Page) -> Result<(), RowFault> {
         let life = self.life()?;
         let file = encode_kept(alloc, life.link.waiting(), &life.core)?;
         match call {
             "file" => page.bytes(&file),
-            "state" => page.bytes(&encode_state(alloc, &life.core)?),
+            "fields" => page.bytes(&encode_fields(alloc, &life.core)?),
+            "cut_fields" => tell_cut_fields(alloc, &encode_fields(alloc, &life.core)?, page)?,
             "cut_files" => tell_cut_files(alloc, &file, page)?,
             "flipped_files" => tell_flipped_files(alloc, file, page)?,
+            "other_sealer" => tell_other_sealer(alloc, &file, page)?,
             _ => return Err(RowFault::NoRow),
         }
         Ok(())

@@ -1,5 +1,5 @@
 use Rattle.std.proofs.Common.{List, ℕ, sym, ◌∙◌, subst}
-use Rattle.oram_state.specs.DecodedCore.{IsSaved}
+use Rattle.oram_state.specs.DecodedCore.{AreSavedFields}
 use Rattle.oram_rounds.specs.Batches.{texts}
 use Rattle.oram_rounds.proofs.KeptText.{kept_same}
 use Rattle.oram_rounds.proofs.kept_file.decode_kept.Goals as goal
@@ -7,16 +7,16 @@ use Rattle.oram_rounds.proofs.kept_file.decode_kept.Goals as goal
 pub returns-in-Ok-clause-same : goal.returns-in-Ok-clause-same
 returns-in-Ok-clause-same g c = λ d stores core f.
     let read = c.in_ok-stores.ensures in
-    let same = kept_same (texts c.in_ok-stores.stores.items) stores c.in_ok-stores.state.now f.state read.counted f.counted (sym read.ok ∙ f.all) in
-    let again : IsSaved c.in_ok-stores.state.now (g.S.Sealer.cipher c.args.sealer).overhead d core =
-    subst (λ (text : List ℕ). IsSaved text (g.S.Sealer.cipher c.args.sealer).overhead d core) (sym same.1) f.saved in
+    let same = kept_same (texts c.in_ok-stores.stores.items) stores c.in_ok-stores.fields.now f.fields read.counted f.counted (sym read.ok ∙ f.all) in
+    let again : AreSavedFields c.in_ok-stores.fields.now (g.S.Sealer.cipher c.args.sealer).overhead d core =
+    subst (λ (text : List ℕ). AreSavedFields text (g.S.Sealer.cipher c.args.sealer).overhead d core) (sym same.1) f.saved in
     let one = c.in-Ok.ensures.same d core again in
     (same.0, one.0, one.1)
 
 pub returns-in-Err-clause-only : goal.returns-in-Err-clause-only
 returns-in-Err-clause-only g c = λ d stores core f.
     let read = c.in_ok-stores.ensures in
-    let same = kept_same (texts c.in_ok-stores.stores.items) stores c.in_ok-stores.state.now f.state read.counted f.counted (sym read.ok ∙ f.all) in
-    let again : IsSaved c.in_ok-stores.state.now (g.S.Sealer.cipher c.args.sealer).overhead d core =
-    subst (λ (text : List ℕ). IsSaved text (g.S.Sealer.cipher c.args.sealer).overhead d core) (sym same.1) f.saved in
+    let same = kept_same (texts c.in_ok-stores.stores.items) stores c.in_ok-stores.fields.now f.fields read.counted f.counted (sym read.ok ∙ f.all) in
+    let again : AreSavedFields c.in_ok-stores.fields.now (g.S.Sealer.cipher c.args.sealer).overhead d core =
+    subst (λ (text : List ℕ). AreSavedFields text (g.S.Sealer.cipher c.args.sealer).overhead d core) (sym same.1) f.saved in
     c.from.ensures (c.in-Err.ensures.only d core again)

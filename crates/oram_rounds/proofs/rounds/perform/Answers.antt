@@ -30,7 +30,7 @@ returns-in_err-fetches-clause-err g c =
     let kept = c.in_ok-keep.ensures.ok in
     rw p.1 (
       Keeps true ∷ [],
-      inr ([], refl),
+      inr (inl refl),
       (record { core = c.args.core.now.state; link = c.keep.new.link; keeper = c.keep.new.keeper }, (kept.0, refl, kept.1), refl),
     )
 
@@ -63,7 +63,7 @@ returns-in-Err-Stalled-clause-err g c =
     let went = subst (λ (bodies : List (List ℕ)). WentAhead g.B.BatchLink.batches c.keep.new.link bodies sent.0 c.go_ahead.new.self) c.in_ok-fetches.ensures sent.1 in
     let talked = c.in-Err-Stalled.ensures.err.1 in (
       Keeps true ∷ GoesAhead sent.0 ∷ talked.acts,
-      inr (GoesAhead sent.0 ∷ talked.acts, refl),
+      inr (inr (GoesAhead sent.0 ∷ talked.acts, refl, (sent.0, talked.acts, refl))),
       (
         record { core = c.args.core.now.state; link = c.keep.new.link; keeper = c.keep.new.keeper },
         (kept.0, refl, kept.1),
@@ -91,7 +91,7 @@ returns-in-Err g c =
       failed = tt;
       err = (
         Keeps true ∷ GoesAhead sent.0 ∷ talked.acts,
-        inr (GoesAhead sent.0 ∷ talked.acts, refl),
+        inr (inr (GoesAhead sent.0 ∷ talked.acts, refl, (sent.0, talked.acts, refl))),
         (
           record { core = c.args.core.now.state; link = c.keep.new.link; keeper = c.keep.new.keeper },
           (kept.0, refl, kept.1),

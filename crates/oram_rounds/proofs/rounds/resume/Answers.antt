@@ -1,7 +1,8 @@
-use Rattle.std.proofs.Common.{◌∷◌, ◌∙◌, true}
+use Rattle.std.proofs.Common.{List, ◌∷◌, ◌++◌, ◌∙◌, true, refl, ap, inl, inr}
 use Rattle.std.proofs.lemmas.Result.{err_from_is_err_and}
 use Rattle.oram_core.specs.Core.{scheme_of}
 use Rattle.oram_session.proofs.CoreSteps.{same_scheme}
+use Rattle.oram_rounds.specs.Process.{Act}
 use Rattle.oram_rounds.specs.Process.Act.{Keeps}
 use Rattle.oram_rounds.proofs.Results.{if_ok, on_err}
 use Rattle.oram_rounds.proofs.Talk.{done_after, kept_not, lost_talks, reopened_talks, talks_beside}
@@ -12,7 +13,7 @@ returns-in_err-reaction-clause-err g c =
     let p = err_from_is_err_and c.from_residual.result c.from_residual.ensures.1 in
     let v = scheme_of g.S.Sealer.cipher c.args.core.now in
     let lost = lost_talks g.B.BatchLink.batches v c.args.core.now.state c.reopen.new.core.state c.args.link.now c.in_err-reaction.ensures.err in
-    rw p.1 (lost.acts, talks_beside g.B.BatchLink.batches v g.K.Keeper.reads_back c.args.keeper.now lost.acts _ _ lost.talks)
+    rw p.1 (lost.1.acts, talks_beside g.B.BatchLink.batches v g.K.Keeper.reads_back c.args.keeper.now lost.1.acts _ _ lost.1.talks, inl (lost.0, lost.2))
 
 pub returns-clause-ok : goal.returns-clause-ok
 returns-clause-ok g c =
@@ -22,8 +23,9 @@ returns-clause-ok g c =
     let same = same_scheme g.S.Sealer.cipher c.args.core.now c.reopen.new.core c.reopen.ensures.kept in
     let told = reopened_talks batches v c.args.core.now.state c.reopen.new.core.state c.args.link.now c.in_ok-reaction.ensures.ok in
     if_ok _ _ c.perform.result (λ replies done.
-    let all = done_after batches v g.K.Keeper.reads_back c.args.keeper.now u _ _ _ (Keeps true ∷ done.0) same told done.2 in
-    (all.0, all.1 ∙ done.1, all.2)) c.perform.ensures.ok
+    let round : List Act = Keeps true ∷ done.0 in
+    let all = done_after batches v g.K.Keeper.reads_back c.args.keeper.now u _ _ _ round same told.2 done.2 in
+    (all.0, all.1 ∙ done.1, all.2, λ _. (told.0, told.1, round, all.3 ∙ ap (λ (first : List Act). first ++ round) told.3, (done.0, refl, done.3)))) c.perform.ensures.ok
 
 pub returns-clause-err : goal.returns-clause-err
 returns-clause-err g c =
@@ -33,8 +35,8 @@ returns-clause-err g c =
     let same = same_scheme g.S.Sealer.cipher c.args.core.now c.reopen.new.core c.reopen.ensures.kept in
     let told = reopened_talks batches v c.args.core.now.state c.reopen.new.core.state c.args.link.now c.in_ok-reaction.ensures.ok in
     on_err c.perform.result (λ done.
-    let all = done_after batches v g.K.Keeper.reads_back c.args.keeper.now u _ _ _ done.0 same told done.2 in
-    (all.0, all.2)) c.perform.ensures.err
+    let all = done_after batches v g.K.Keeper.reads_back c.args.keeper.now u _ _ _ done.0 same told.2 done.2 in
+    (all.0, all.2, inr (told.0, told.1, done.0, all.3 ∙ ap (λ (first : List Act). first ++ done.0) told.3, done.1))) c.perform.ensures.err
 
 pub returns-clause-not_kept : goal.returns-clause-not_kept
 returns-clause-not_kept g c = λ e.
@@ -43,4 +45,4 @@ returns-clause-not_kept g c = λ e.
     let u = scheme_of g.S.Sealer.cipher c.reopen.new.core in
     let same = same_scheme g.S.Sealer.cipher c.args.core.now c.reopen.new.core c.reopen.ensures.kept in
     let told = reopened_talks batches v c.args.core.now.state c.reopen.new.core.state c.args.link.now c.in_ok-reaction.ensures.ok in
-    kept_not batches v g.K.Keeper.reads_back c.args.keeper.now u _ _ _ same told (c.perform.ensures.not_kept e).2
+    kept_not batches v g.K.Keeper.reads_back c.args.keeper.now u _ _ _ same told.2 (c.perform.ensures.not_kept e).2

@@ -1,11 +1,7 @@
-use Rattle.std.proofs.Common.{IfOk, Result, Ok, Err}
 use Rattle.oram_state.proofs.Counted.{counted}
 use Rattle.oram_state.proofs.Sized.{saved_as}
+use Rattle.oram_state.proofs.Tools.{if_both}
 use Rattle.oram_state.proofs.encoder.encode_state.Goals as goal
-
-if_both : {T E : Type 0} (r : Result T E) (P Q R : T → Type 0) → ((x : T) → P x → Q x → R x) → IfOk r P → IfOk r Q → IfOk r R
-if_both (Ok x) P Q R both p q = both x p q
-if_both (Err e) P Q R both p q = tt
 
 pub write_state-requires : goal.write_state-requires
 write_state-requires g c = counted (g.S.Sealer.cipher c.args.core.now.sealer).overhead _ c.in_ok-parts.ensures.right

@@ -14,7 +14,7 @@ use Rattle.oram_rounds.proofs.round_link.RoundLink.fetch.Goals as goal
 pub returns-in_err-to_vec-clause-call : goal.returns-in_err-to_vec-clause-call
 returns-in_err-to_vec-clause-call g c =
     let p = err_from_is_err_and c.from_residual.result c.from_residual.ensures.1 in
-    rw (p.1, p.2) (declines g.B.BatchLink.batches c.args.self.now c.args.body.now OutOfMemory)
+    rw (p.1, p.2) (declines g.B.BatchLink.batches c.args.self.now c.args.body.now OutOfMemory (inl refl))
 
 pub returns-in_err-answers-clause-call : goal.returns-in_err-answers-clause-call
 returns-in_err-answers-clause-call g c =

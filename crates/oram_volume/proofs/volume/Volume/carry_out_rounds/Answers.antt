@@ -12,7 +12,7 @@ use Rattle.oram_semantics.specs.declared.events.Reply.{Reply}
 use Rattle.oram_session.proofs.CoreSteps.{same_trans}
 use Rattle.oram_volume.specs.CarriedOut.{after_commands, bodies_from}
 use Rattle.oram_volume.specs.DiskCalls.{data_of}
-use Rattle.oram_volume.specs.RangeCommands.{Fits, all_commands, rest_of}
+use Rattle.oram_volume.specs.RangeCommands.{FitsDevice, all_commands, rest_of}
 use Rattle.oram_volume.proofs.DiskCalls.{stops_after}
 use Rattle.oram_volume.proofs.LaidOperations.{after_append, bodies_on_device, front_split, on_device, all_bound, all_fit, all_numbers, data_append, middle_all, of_bodies}
 use Rattle.oram_volume.proofs.RangeCommands.{rest_all}
@@ -78,8 +78,8 @@ carry_out_all-requires g c =
     subst (λ (n : ℕ). rest_of n ops c.loop-round_number.cursor.operation c.loop-round_number.cursor.block ≡ commands ++ rest_of n ops c.next_round.new.cursor.operation c.next_round.new.cursor.block) same
     c.in_ok-commands.ensures.next in
     let split : all_commands b ops ≡ inv.done ++ (commands ++ rest) = inv.split ∙ ap (λ (l : List Command). inv.done ++ l) next in
-    subst (λ (e : Sizes). All (Fits e) commands) (sym inv.kept.0)
-    (middle_all (Fits d) inv.done commands rest (subst (All (Fits d)) split (all_fit d some ops c.requires.whole c.requires.within)))
+    subst (λ (e : Sizes). All (FitsDevice e) commands) (sym inv.kept.0)
+    (middle_all (FitsDevice d) inv.done commands rest (subst (All (FitsDevice d)) split (all_fit d some ops c.requires.whole c.requires.within)))
 
 pub returns-then-is_empty-clause-goes : goal.returns-then-is_empty-clause-goes
 returns-then-is_empty-clause-goes g c =

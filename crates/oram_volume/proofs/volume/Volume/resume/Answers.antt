@@ -7,7 +7,7 @@ use Rattle.oram_rounds.specs.Process.{process}
 use Rattle.oram_rounds.specs.Process.Act.{Keeps}
 use Rattle.oram_nbd.specs.declared.faults.DiskFault.TheVariants.{Stopped}
 use Rattle.oram_volume.specs.CarriedOut.{Had, Stops}
-use Rattle.oram_volume.specs.HeldArrays.{Hears, HoldsArray, running}
+use Rattle.oram_volume.specs.HeldArrays.{HostHears, HoldsArray, running}
 use Rattle.oram_volume.proofs.HeldArrays.{acts_go_on, acts_stop}
 use Rattle.oram_volume.proofs.volume.Volume.resume.Goals as goal
 use Rattle.oram_volume.proofs.volume.Volume.resume.Goals.{in-Ok, in-Err}
@@ -21,7 +21,7 @@ returns-clause-goes g c =
     let v = scheme_of g.S.Sealer.cipher old.core in
     let p = process old.core.state old.link old.keeper in
     let q = process c.resume.new.core.state c.resume.new.link c.resume.new.keeper in
-    subst (λ (u : Scheme). GoesOn (Had batches back) Hears HoldsArray (running g.S.Sealer.cipher g.T.Tape.words old) (λ _ array later. later ≡ array) (record { scheme = u; words = words; process = q }))
+    subst (λ (u : Scheme). GoesOn (Had batches back) HostHears HoldsArray (running g.S.Sealer.cipher g.T.Tape.words old) (λ _ array later. later ≡ array) (record { scheme = u; words = words; process = q }))
     (sym (same_scheme g.S.Sealer.cipher old.core c.resume.new.core c.resume.ensures.kept))
     (elim c.match-resume.branch [
       | in-Ok w ↦ let k = w.in-Ok.ensures.ok in acts_go_on batches back g.met.B.BatchLink.are_batches v words k.0 p q k.2

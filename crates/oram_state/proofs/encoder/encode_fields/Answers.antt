@@ -1,0 +1,15 @@
+use Rattle.oram_state.proofs.Counted.{counted}
+use Rattle.oram_state.proofs.Sized.{fields_as}
+use Rattle.oram_state.proofs.Tools.{if_both}
+use Rattle.oram_state.proofs.encoder.encode_fields.Goals as goal
+
+pub write_fields-requires : goal.write_fields-requires
+write_fields-requires g c = counted (g.S.Sealer.cipher c.args.core.now.sealer).overhead _ c.in_ok-parts.ensures.right
+
+pub returns-clause-saved : goal.returns-clause-saved
+returns-clause-saved g c =
+    let same = c.in_ok-parts.ensures.same in
+    let right = c.in_ok-parts.ensures.right in
+    let again = c.in_ok-parts.ensures.again in
+    if_both c.write_fields.result _ _ _ (λ fields spelled fit. fields_as fields.items (g.S.Sealer.cipher c.args.core.now.sealer).overhead c.overhead.result _ c.args.core.now.device c.args.core.now.state c.overhead.ensures same again right spelled fit)
+    c.write_fields.ensures.spelled c.write_fields.ensures.fit
