@@ -1,3 +1,3 @@
-pub mod Files
+pub mod FileFaults
 pub mod CommandLine
 pub mod Tables

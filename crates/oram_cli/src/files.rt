@@ -1,60 +1,17 @@
 //! Files that a program reads as a whole, and files that it replaces as a whole.
 
-ghost use Rattle.std.specs.IoError.{error_kind};
 ghost use Rattle.std.specs.Prelude.{◌≡◌, ◌++◌, codes, string_bytes, IfOk};
-ghost use Rattle.oram_cli.specs.Files.{IsFaultOf};
-ghost use Rattle.oram_cli.specs.declared.files.FileFault.TheVariants.{OutOfMemory};
 
+use crate::file_faults::{FileFault, call_fault};
 use std::alloc::{AllocError, Global};
 use std::fs::{OpenFile, OpenOptions};
 use std::io::{ErrorKind, Write};
 use std::os::unix::fs::OpenOptionsExt;
 use std::rt::Files;
 use std::{fs, io};
-use thiserror::Error;
 
 /// The mode of a file that only its owner may read and write, since a state says where each block lies.
-const OWNERS_ALONE: u32 = 0o600;
-
-/// Why a file could not be read or written.
-#[derive(Debug, PartialEq, Eq, Drop, Error)]
-pub enum FileFault {
-    /// The file of this name can't be read or written, is missing, or exists although it must not.
-    #[error("file {0}")]
-    File(String),
-    #[error("out of memory")]
-    OutOfMemory,
-}
-
-impl From<AllocError> for FileFault {
-    ghost from_gives = { λ _ fault. fault ≡ OutOfMemory };
-
-    fn from(_error: AllocError) -> FileFault {
-        FileFault::OutOfMemory
-    }
-}
-
-/// Returns the fault for the file `name`, or `OutOfMemory` if there is no memory for the name.
-fn file_fault(alloc: Global, name: &str) -> FileFault
-    ensures { IsFaultOf name.now result }
-{
-    match String::from_str(alloc, name) {
-        Ok(name) => FileFault::File(name),
-        Err(_) => FileFault::OutOfMemory,
-    }
-}
-
-/// Returns the fault to report for a call on the file `name` that failed with `error`.
-pub fn call_fault(alloc: Global, name: &str, error: &io::Error) -> FileFault
-    ensures name { IsFaultOf name.now result }
-    ensures memory { error_kind error.now ≡ ErrorKind.OutOfMemory → result ≡ FileFault.OutOfMemory }
-{
-    if error.kind() == ErrorKind::OutOfMemory {
-        FileFault::OutOfMemory
-    } else {
-        file_fault(alloc, name)
-    }
-}
+pub(crate) const OWNERS_ALONE: u32 = 0o600;
 
 /// Reads a whole file.
 pub fn bytes_in<R: Files + AllocGlobal>(rt: &R, name: &str) -> Result<Vec<u8>, FileFault> {
@@ -62,6 +19,11 @@ pub fn bytes_in<R: Files + AllocGlobal>(rt: &R, name: &str) -> Result<Vec<u8>, F
         Ok(bytes) => Ok(bytes),
         Err(error) => Err(call_fault(rt.alloc(), name, &error)),
     }
+}
+
+/// Reads a whole file as text. Returns `None` if it isn't UTF-8.
+pub fn text_in<R: Files + AllocGlobal>(rt: &R, name: &str) -> Result<Option<String>, FileFault> {
+    Ok(String::from_utf8(bytes_in(rt, name)?).ok())
 }
 
 /// Returns the name under which a file is written before it is renamed.
@@ -86,6 +48,9 @@ pub fn create_for_owner<R: Files>(rt: &R, name: &str) -> io::Result<R::File> {
 
 /// A file that is replaced as a whole: written under another name first, then renamed. It allocates both names at the
 /// start, so that a save doesn't fail because there is no memory for a name.
+///
+/// Two other files get their names in the same way, each by steps of its own. `FilePlace` of `oram_client` notes each step
+/// for the contracts, and may leave out the syncs. `oram_store` renames two files together, and holds them open and locked.
 #[derive(Debug, Drop)]
 pub struct AtomicFile {
     name: String,
@@ -107,24 +72,28 @@ impl AtomicFile {
         call_fault(alloc, self.name.as_str(), error)
     }
 
-    /// Fails with [`FileFault::File`] if the file exists, or if that can't be found out.
+    /// Fails with [`FileReason::Exists`](crate::FileReason::Exists) if the file exists, or with the system's reason if that
+    /// can't be found out.
     pub fn check_absent<R: Files + AllocGlobal>(&self, rt: &R) -> Result<(), FileFault> {
-        self.check_presence(rt, false)
+        self.check_presence(rt, false, ErrorKind::AlreadyExists)
     }
 
-    /// Fails with [`FileFault::File`] if the file doesn't exist, or if that can't be found out.
+    /// Fails with [`FileReason::Missing`](crate::FileReason::Missing) if the file doesn't exist, or with the system's reason
+    /// if that can't be found out.
     pub fn check_present<R: Files + AllocGlobal>(&self, rt: &R) -> Result<(), FileFault> {
-        self.check_presence(rt, true)
+        self.check_presence(rt, true, ErrorKind::NotFound)
     }
 
+    /// Fails with an error of the kind `otherwise` unless the file exists exactly if that is `wanted`.
     fn check_presence<R: Files + AllocGlobal>(
         &self,
         rt: &R,
         wanted: bool,
+        otherwise: ErrorKind,
     ) -> Result<(), FileFault> {
         match fs::exists(rt, self.name.as_str()) {
             Ok(found) if found == wanted => Ok(()),
-            Ok(_) => Err(file_fault(rt.alloc(), self.name.as_str())),
+            Ok(_) => Err(self.fault(rt.alloc(), &io::Error::from(otherwise))),
             Err(error) => Err(self.fault(rt.alloc(), &error)),
         }
     }

@@ -9,6 +9,7 @@
 #![tactic(auto)]
 
 mod command_line;
+mod file_faults;
 mod files;
 mod hosts;
 mod input;
@@ -18,7 +19,8 @@ mod tables;
 mod writer;
 
 pub use command_line::{arguments, read_named, texts_of, word_taker};
-pub use files::{AtomicFile, FileFault, bytes_in, call_fault, create_for_owner, new_name};
+pub use file_faults::{FileFault, FileReason, call_fault, file_fault};
+pub use files::{AtomicFile, bytes_in, create_for_owner, new_name, text_in};
 pub use hosts::HostFault;
 pub use input::InputFault;
 pub use locks::{LockFault, StateLock, lock_state};

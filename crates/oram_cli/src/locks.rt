@@ -3,7 +3,8 @@
 ghost use Rattle.std.specs.Prelude.{◌≡◌, ◌++◌, codes, string_bytes, IfOk};
 ghost use Rattle.oram_cli.specs.declared.locks.LockFault.TheVariants as lock;
 
-use crate::files::{FileFault, call_fault};
+use crate::file_faults::{FileFault, call_fault};
+use crate::files::OWNERS_ALONE;
 use std::alloc::Global;
 use std::fs::{File, OpenOptions, TryLockError};
 use std::io;
@@ -49,7 +50,7 @@ fn lock_name(alloc: Global, state: &str) -> Result<String, FileFault>
 /// lock is released.
 fn open_lock(rt: &HostRuntime, name: &str) -> io::Result<File> {
     let mut options = OpenOptions::new();
-    options.write(true).create(true).mode(0o600);
+    options.write(true).create(true).mode(OWNERS_ALONE);
     options.open(rt, name)
 }
 

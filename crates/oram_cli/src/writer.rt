@@ -4,30 +4,15 @@ ghost use Rattle.std.specs.Prelude.{◌++◌, decimal, OnOk};
 ghost use Rattle.std.specs.Io.KnownBytes.{Appends};
 ghost use Rattle.oram_host.specs.Transfers.{Begins};
 
-use oram_wire::WriteFault;
-use std::io::{ErrorKind, Write};
+use oram_wire::{WriteFault, write};
+use std::io::Write;
 
 /// Writes a text. If the writer fails, it has taken a beginning of the text.
 pub fn put<W: Write>(writer: &mut W, text: &[u8]) -> Result<(), WriteFault>
     ensures ok { OnOk result (Appends (W.contents writer.old) (W.contents writer.new) text.now) }
     ensures begun { Begins (W.contents writer.old) (W.contents writer.new) text.now }
 {
-    let mut written = 0;
-    for _ in 0..u64::MAX {
-        if written >= text.len() {
-            return Ok(());
-        }
-        match writer.write(&text[written..]) {
-            Ok(0) => return Err(WriteFault),
-            Ok(count) => written += count,
-            Err(error) => {
-                if error.kind() != ErrorKind::Interrupted {
-                    return Err(WriteFault);
-                }
-            }
-        }
-    }
-    Err(WriteFault)
+    write(writer, text)
 }
 
 /// Writes two texts, one after the other.

@@ -1,12 +1,12 @@
 //! The files of a disk at its client.
 
 use oram_bucket::Sealer;
-use oram_cli::{FileFault, InputFault, LockFault, StateLock, lock_state};
+use oram_cli::{FileFault, FileReason, InputFault, LockFault, StateLock, lock_state};
 use oram_client::{
     DiskKey, Head, KeptFault, KeptFile, Keys, SealerKind, WrongKey, kept_name, keys_for,
     read_kept_file,
 };
-use oram_disk_host::{Fault, FaultKind, FileReason, file_fault, settings_bytes, text_of};
+use oram_disk_host::{Fault, FaultKind, settings_text};
 use oram_geometry::Device;
 use oram_rounds::{KeptCore, KeptCoreFault, decode_kept};
 use oram_settings::{
@@ -14,8 +14,6 @@ use oram_settings::{
     read_disk_settings, relative_to,
 };
 use std::alloc::Global;
-use std::fs::{File, OpenOptions};
-use std::os::unix::fs::OpenOptionsExt;
 use std::rt::Files;
 
 /// Reads a disk's settings from the text of the file `name`.
@@ -37,8 +35,8 @@ pub fn disk_in<R: Files + AllocGlobal>(
     name: &str,
 ) -> Result<(DiskSettings, Device), Fault> {
     let alloc = rt.alloc();
-    let bytes = settings_bytes(rt, name)?;
-    let text = text_of(alloc, bytes.as_slice(), name)?;
+    let text = settings_text(rt, name)?;
+    let text = text.as_str();
     let mut settings = settings_of(alloc, name, text)?;
     settings.state = relative_to(alloc, name, settings.state.as_str())?;
     match device_of(
@@ -55,14 +53,6 @@ pub fn disk_in<R: Files + AllocGlobal>(
     }
 }
 
-/// Returns the fault for a file that can't be read, with the reason that the system gives when it is opened once more.
-fn unreadable<R: Files>(rt: &R, name: String) -> Fault {
-    match File::open(rt, name.as_str()) {
-        Ok(_) => Fault::About(FaultKind::File(FileReason::Other), name),
-        Err(error) => file_fault(name, &error),
-    }
-}
-
 /// Returns the bytes that were read of the kept file `state` of the disk whose settings are in the file `settings`. Fails
 /// with [`FaultKind::Unformatted`] if there is no kept file.
 pub fn state_bytes<R: Files + AllocGlobal>(
@@ -71,25 +61,17 @@ pub fn state_bytes<R: Files + AllocGlobal>(
     state: &str,
     settings: &str,
 ) -> Result<Vec<u8>, Fault> {
+    let fault = match read {
+        Ok(bytes) => return Ok(bytes),
+        Err(fault) => fault,
+    };
     let alloc = rt.alloc();
-    match read {
-        Ok(bytes) => Ok(bytes),
-        Err(FileFault::File(name)) => match kept_name(rt, alloc, state)? {
-            Some(_) => Err(unreadable(rt, name)),
-            None => Err(named(alloc, FaultKind::Unformatted, settings)),
-        },
-        Err(FileFault::OutOfMemory) => Err(Fault::OutOfMemory),
-    }
-}
-
-/// Returns the fault for a lock file that can't be made or locked, with the reason that the system gives when it is opened
-/// once more.
-fn unlockable(rt: &HostRuntime, name: String) -> Fault {
-    let mut options = OpenOptions::new();
-    options.write(true).create(true).mode(0o600);
-    match options.open(rt, name.as_str()) {
-        Ok(_) => Fault::About(FaultKind::File(FileReason::Other), name),
-        Err(error) => file_fault(name, &error),
+    let is_missing = matches!(&fault, FileFault::File(_, FileReason::Missing));
+    // A link has the file's name even if what it leads to is missing, as on a disk that isn't mounted.
+    if is_missing && kept_name(rt, alloc, state)?.is_none() {
+        Err(named(alloc, FaultKind::Unformatted, settings))
+    } else {
+        Err(fault.into())
     }
 }
 
@@ -98,8 +80,7 @@ pub fn take_lock(rt: &HostRuntime, state: &str) -> Result<StateLock, Fault> {
     match lock_state(rt, state) {
         Ok(lock) => Ok(lock),
         Err(LockFault::InUse) => Err(named(rt.alloc(), FaultKind::InUse, state)),
-        Err(LockFault::File(FileFault::File(name))) => Err(unlockable(rt, name)),
-        Err(LockFault::File(FileFault::OutOfMemory)) => Err(Fault::OutOfMemory),
+        Err(LockFault::File(fault)) => Err(fault.into()),
     }
 }
 
@@ -121,7 +102,7 @@ pub fn process_in<S: Sealer>(
     match decode_kept(alloc, sealer, process) {
         Ok(kept) => Ok(kept),
         Err(KeptCoreFault::OutOfMemory) => Err(Fault::OutOfMemory),
-        Err(KeptCoreFault::Torn | KeptCoreFault::State(_)) => {
+        Err(KeptCoreFault::Torn | KeptCoreFault::Core(_)) => {
             Err(named(alloc, FaultKind::NotADisk, name))
         }
     }

@@ -1,9 +1,9 @@
 //! Keeps why a disk failed, in a file beside its state. The state itself stays as it was kept, so that the disk can be
 //! tried again.
 
-use oram_cli::{AtomicFile, FileFault, bytes_in};
+use oram_cli::{AtomicFile, FileFault, FileReason, bytes_in, file_fault};
 use oram_core::Reason;
-use oram_disk_host::{Fault, file_fault, time};
+use oram_disk_host::time;
 use oram_settings::failure_text;
 use std::alloc::{AllocError, Global};
 use std::fs;
@@ -29,17 +29,23 @@ pub fn keep_failure<R: Files + Clock + AllocGlobal>(
 }
 
 /// Returns the line that says why and when the disk of a state failed; `None` if it hasn't.
-pub fn kept_failure<R: Files + AllocGlobal>(rt: &R, state: &str) -> Result<Option<Vec<u8>>, Fault> {
+pub fn kept_failure<R: Files + AllocGlobal>(
+    rt: &R,
+    state: &str,
+) -> Result<Option<Vec<u8>>, FileFault> {
     let name = failure_name(rt.alloc(), state)?;
-    match fs::exists(rt, name.as_str()) {
-        Ok(false) => Ok(None),
-        Ok(true) => Ok(Some(bytes_in(rt, name.as_str())?)),
-        Err(error) => Err(file_fault(name, &error)),
+    match bytes_in(rt, name.as_str()) {
+        Ok(line) => Ok(Some(line)),
+        Err(FileFault::File(_, FileReason::Missing)) => Ok(None),
+        Err(fault) => Err(fault),
     }
 }
 
 /// Removes what is kept of a failure. Returns whether there was any.
-pub(crate) fn forget_failure<R: Files + AllocGlobal>(rt: &R, state: &str) -> Result<bool, Fault> {
+pub(crate) fn forget_failure<R: Files + AllocGlobal>(
+    rt: &R,
+    state: &str,
+) -> Result<bool, FileFault> {
     let name = failure_name(rt.alloc(), state)?;
     match fs::remove_file(rt, name.as_str()) {
         Ok(()) => Ok(true),

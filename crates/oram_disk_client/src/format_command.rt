@@ -49,7 +49,7 @@ impl<'a, R: Clock + Eprint + AllocGlobal> ProgressPrinter<'a, R> {
         self.rt.eprint(text.as_str())
     }
 
-    fn tell(&self, messages: u64, of: u64) -> io::Result<()> {
+    fn print(&self, messages: u64, of: u64) -> io::Result<()> {
         let alloc = self.rt.alloc();
         let elapsed = self.begun.elapsed(self.rt)?.as_millis();
         let milliseconds = u64::try_from(elapsed).unwrap_or(u64::MAX);
@@ -70,7 +70,7 @@ impl<'a, R: Clock + Eprint + AllocGlobal> ProgressPrinter<'a, R> {
 impl<'a, R: Clock + Eprint + AllocGlobal> Progress for ProgressPrinter<'a, R> {
     fn answered(&mut self, messages: u64, of: u64) {
         if self.meter.is_due(percent(messages, of)) {
-            let _passed_over = self.tell(messages, of);
+            let _passed_over = self.print(messages, of);
         }
     }
 }
@@ -113,12 +113,12 @@ fn formatted<S: Sealer>(
         Ok(halves) => halves,
         Err(error) => return Err(unreached(&error, host)),
     };
-    let teller = match ProgressPrinter::new(rt, rt.stderr().is_terminal()) {
-        Ok(teller) => teller,
+    let printer = match ProgressPrinter::new(rt, rt.stderr().is_terminal()) {
+        Ok(printer) => printer,
         Err(error) => return Err(unreached(&error, host)),
     };
-    let _passed_over = teller.begin(stored, host.as_str());
-    let mut ahead = Ahead::new(alloc, &device, reader, writer, teller);
+    let _passed_over = printer.begin(stored, host.as_str());
+    let mut ahead = Ahead::new(alloc, &device, reader, writer, printer);
     match format_ahead(alloc, device, sealer, identity, &mut ahead) {
         Ok(core) => Ok(core),
         Err(fault) => Err(formatting_fault(fault, host)),

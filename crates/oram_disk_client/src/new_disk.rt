@@ -1,6 +1,7 @@
 //! Makes a new folder with the first settings of a disk.
 
-use oram_disk_host::{FIRST_SETTINGS, Fault, FaultKind, file_fault};
+use oram_cli::{FileFault, call_fault, file_fault};
+use oram_disk_host::{FIRST_SETTINGS, Fault, FaultKind};
 use oram_settings::{
     DEFAULT_BLOCK, DEFAULT_SLOTS, DEFAULT_TABLE, Sealing, device_of, disk_text, made_text,
     read_size, stored_bytes,
@@ -20,8 +21,8 @@ fn create_folder<R: Files>(rt: &R, folder: &str) -> io::Result<()> {
     builder.create(rt, folder)
 }
 
-/// Writes a new settings file for its owner alone.
-fn write_settings<R: Files>(rt: &R, name: &str, text: &str) -> io::Result<()> {
+/// Creates a file for its owner alone, and writes a text to it. Fails if there is something of this name.
+fn write_new<R: Files>(rt: &R, name: &str, text: &str) -> io::Result<()> {
     let mut options = OpenOptions::new();
     options.write(true).create_new(true).mode(0o600);
     let mut file = options.open(rt, name)?;
@@ -36,15 +37,27 @@ fn remove_folder<R: Files>(rt: &R, folder: &str, host: &str, disk: &str) {
     let _passed_over = fs::remove_dir(rt, folder);
 }
 
-/// Writes a settings file, and returns the fault if that fails.
-fn write_or_fault<R: Files + AllocGlobal>(rt: &R, name: &str, text: &str) -> Option<Fault> {
-    match write_settings(rt, name, text) {
-        Ok(()) => None,
-        Err(error) => Some(match String::from_str(rt.alloc(), name) {
-            Ok(name) => file_fault(name, &error),
-            Err(_) => Fault::OutOfMemory,
-        }),
+/// Writes a new settings file.
+fn write_settings<R: Files + AllocGlobal>(
+    rt: &R,
+    name: &str,
+    text: &str,
+) -> Result<(), FileFault> {
+    match write_new(rt, name, text) {
+        Ok(()) => Ok(()),
+        Err(error) => Err(call_fault(rt.alloc(), name, &error)),
     }
+}
+
+/// Writes the settings of a new folder: those of its host to the file `host`, and `text` to the file `disk`.
+fn fill_folder<R: Files + AllocGlobal>(
+    rt: &R,
+    host: &str,
+    disk: &str,
+    text: &str,
+) -> Result<(), FileFault> {
+    write_settings(rt, host, FIRST_SETTINGS)?;
+    write_settings(rt, disk, text)
 }
 
 /// Rounds the size of a new disk up to whole blocks.
@@ -83,7 +96,11 @@ fn first_disk<R: RandomSource + AllocGlobal>(rt: &R, size: &str) -> Result<First
 }
 
 /// Prints what was made, and what comes next.
-fn tell<R: Eprint + AllocGlobal>(rt: &R, folder: &str, disk: &FirstDisk) -> Result<(), AllocError> {
+fn print_made<R: Eprint + AllocGlobal>(
+    rt: &R,
+    folder: &str,
+    disk: &FirstDisk,
+) -> Result<(), AllocError> {
     let text = made_text(rt.alloc(), folder, disk.size, disk.stored)?;
     let _passed_over = rt.eprint(text.as_str());
     Ok(())
@@ -104,19 +121,13 @@ pub fn make_folder<R: Files + RandomSource + Eprint + AllocGlobal>(
         return Err(if error.kind() == ErrorKind::AlreadyExists {
             Fault::About(FaultKind::Exists, folder)
         } else {
-            file_fault(folder, &error)
+            file_fault(folder, &error).into()
         });
     }
-    let fault = write_or_fault(rt, host.as_str(), FIRST_SETTINGS).or_else(|| write_or_fault(
-        rt,
-        disk.as_str(),
-        first.text.as_str(),
-    ));
-    match fault {
-        None => Ok(tell(rt, folder.as_str(), &first)?),
-        Some(fault) => {
-            remove_folder(rt, folder.as_str(), host.as_str(), disk.as_str());
-            Err(fault)
-        }
+    let filled = fill_folder(rt, host.as_str(), disk.as_str(), first.text.as_str());
+    if let Err(fault) = filled {
+        remove_folder(rt, folder.as_str(), host.as_str(), disk.as_str());
+        return Err(fault.into());
     }
+    Ok(print_made(rt, folder.as_str(), &first)?)
 }

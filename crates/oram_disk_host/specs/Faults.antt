@@ -1,16 +1,13 @@
 -- How the program ends if it can't go on: a line, and its exit status.
 use Rattle.std.specs.Global.{Global}
 use Rattle.std.specs.Prelude.{ℕ, List, ◌++◌, String, codes, string_bytes}
-use Rattle.std.specs.declared.io.ErrorKind.{ErrorKind}
-use Rattle.std.specs.declared.io.ErrorKind.TheVariants as error
-use Rattle.oram_cli.specs.declared.files.FileFault.{FileFault}
-use Rattle.oram_cli.specs.declared.files.FileFault.TheVariants as file
+use Rattle.oram_cli.specs.declared.file_faults.FileFault.{FileFault}
+use Rattle.oram_cli.specs.declared.file_faults.FileFault.TheVariants as file
+use Rattle.oram_cli.specs.declared.file_faults.FileReason.TheVariants as reason
 use Rattle.oram_store.specs.declared.faults.StoreFault.{StoreFault}
 use Rattle.oram_store.specs.declared.faults.StoreFault.TheVariants as store
 use Rattle.oram_disk_host.specs.Kinds as of_kind
 use Rattle.oram_disk_host.specs.declared.kinds.FaultKind.TheVariants as kind
-use Rattle.oram_disk_host.specs.declared.kinds.FileReason.{FileReason}
-use Rattle.oram_disk_host.specs.declared.kinds.FileReason.TheVariants as reason
 use Rattle.oram_disk_host.specs.declared.faults.Fault.{Fault}
 use Rattle.oram_disk_host.specs.declared.faults.Fault.TheVariants.{About, Size, OutOfMemory, Accept, Random}
 
@@ -30,23 +27,10 @@ status_of OutOfMemory = 3
 status_of Accept = 5
 status_of Random = 15
 
--- the fault of the program if a file can't be read or kept
-abbrev pub kept_fault : FileFault → Fault
-kept_fault (file.File name) = About (kind.File reason.Other) name
-kept_fault file.OutOfMemory = OutOfMemory
-
--- the reason for the system's error
-abbrev pub reason_of : ErrorKind → FileReason
-reason_of error.NotFound = reason.Missing
-reason_of error.PermissionDenied = reason.NotPermitted
-reason_of error.StorageFull = reason.DiskFull
-reason_of error.IsADirectory = reason.Folder
-reason_of any_other = reason.Other
-
--- the fault of the program for such an error of a call on the file or folder `name`
-abbrev pub file_fault : ErrorKind → String Global → Fault
-file_fault error.OutOfMemory name = OutOfMemory
-file_fault any_other name = About (kind.File (reason_of any_other)) name
+-- the fault of the program for the fault of a file: it keeps the name and the reason
+abbrev pub file_fault : FileFault → Fault
+file_fault (file.File name why) = About (kind.File why) name
+file_fault file.OutOfMemory = OutOfMemory
 
 -- the fault of the program if the store in the file `name` can't be opened, or has stopped
 abbrev pub store_fault : StoreFault → String Global → Fault

@@ -1,6 +1,6 @@
 -- A store that is served, and the tally of a connection to it.
+use Rattle.oram_redo.specs.FilePair.{FileModel}
 use Rattle.std.specs.Prelude.{◌≡◌, ◌≢◌, ℕ, List, [], false, Bool, true, Option, Some, None}
-use Rattle.oram_redo.specs.FilePair.{Contents}
 use Rattle.oram_wire.specs.HostMessages.{answer_body, request_body}
 use Rattle.oram_wire.specs.HostBodies.{HasNumbers, IsMisfit, names_request}
 use Rattle.oram_wire.specs.declared.host_messages.HostAnswer.{HostAnswer}
@@ -28,12 +28,11 @@ is_lost (Some _) = false
 
 -- The store answers the body of a request, and the tally counts both. When a request other than a PUT is answered as
 -- done, its effect is durable.
-pub record Serves {F : Type 0} (seen : F → Contents) (may_leave : F → Contents → Type 0) (moment : F → ℕ) (left_since : F → ℕ → Contents → Type 0)
-    (is_honest : F → Type 0) (before : HostedValue F) (body : List ℕ) (answer : HostAnswer) (after : HostedValue F) : Type 0 where
+pub record Serves {F : Type 0} (model : FileModel F) (before : HostedValue F) (body : List ℕ) (answer : HostAnswer) (after : HostedValue F) : Type 0 where
   pub counts : Counts before.tally body (answer_body answer) after.tally
-  pub told : (message : HostRequest) → HasNumbers message → body ≡ request_body message → RespondsWith before.store.trees message answer after.store.trees
-  pub served : (message : HostRequest) → HasNumbers message → body ≡ request_body message → is_honest after.store.file.files → IsSound seen may_leave before.store
-      → StoreServes seen may_leave moment left_since message answer before.store after.store
+  pub responds : (message : HostRequest) → HasNumbers message → body ≡ request_body message → RespondsWith before.store.trees message answer after.store.trees
+  pub served : (message : HostRequest) → HasNumbers message → body ≡ request_body message → model.is_honest after.store.file.files → IsSound model before.store
+      → StoreServes model message answer before.store after.store
   pub sure : (message : HostRequest) → HasNumbers message → body ≡ request_body message → IsKeptAtOnce message → IsGranted answer → after.store.pending ≡ []
   pub goes_on : (message : HostRequest) → HasNumbers message → body ≡ request_body message → IsGranted answer → after.store.file.has_stopped ≡ false
   pub op : names_request body ≡ false → answer_body answer ≡ answer_body (Refused 7)

@@ -1,9 +1,11 @@
 -- The kinds of faults: the text before and after the name in the line, and the exit status.
 use Rattle.std.specs.Prelude.{ℕ, List, codes}
+use Rattle.oram_cli.specs.declared.file_faults.FileReason.{FileReason}
+use Rattle.oram_cli.specs.declared.file_faults.FileReason.TheVariants as reason
+use Rattle.oram_cli.specs.declared.hosts.HostFault.{HostFault}
 use Rattle.oram_cli.specs.declared.hosts.HostFault.TheVariants as host
 use Rattle.oram_settings.specs.declared.differences.FixedKey.{FixedKey}
 use Rattle.oram_settings.specs.declared.differences.FixedKey.TheVariants as fixed
-use Rattle.oram_disk_host.specs.declared.kinds.FileReason.TheVariants as reason
 use Rattle.oram_disk_host.specs.declared.kinds.FaultKind.{FaultKind}
 use Rattle.oram_disk_host.specs.declared.kinds.FaultKind.TheVariants.{CommandLine, Settings, File, Unformatted, Address, NotABucketFile, OlderFile, NewerFile, WithoutLog, LogOfAnotherFile, LogWithoutFile, Damaged, Busy, NoFile, FileExists, Exists, Formatted, NotADisk, OlderState, WrongKey, Changed, Host, StateNotKept, UsedUp, InUse, Failed, NotFailed}
 
@@ -39,16 +41,30 @@ front Failed = codes "oramdisk: the disk of "
 front NotFailed = codes "oramdisk: the disk of "
 front any_other = codes "oramdisk: "
 
+-- what happened to a file, and what to do
+abbrev pub file_rest : FileReason → List ℕ
+file_rest reason.Missing = codes ": no such file or folder: see that its name is right\n"
+file_rest reason.Exists = codes " is there already: name another file\n"
+file_rest reason.NotPermitted = codes ": permission denied: see that you may read and write it\n"
+file_rest reason.DiskFull = codes ": the disk is full: make room on it\n"
+file_rest reason.Folder = codes " is a folder: name a file in it\n"
+file_rest reason.Other = codes ": see that it is there and may be written, and that its disk has room\n"
+
+-- what is wrong with a host, and what to do
+abbrev pub host_rest : HostFault → List ℕ
+host_rest host.NoRoom = codes " has no room: make room on its disk, and start again\n"
+host_rest host.AnotherDisk = codes " keeps another disk, and nothing was sent to it: see that the settings name the right host, and that it was started with its own file\n"
+host_rest host.NoDisk = codes " keeps no disk, and nothing was sent to it: see that the settings name the right host, and that it was started with its own file\n"
+host_rest host.Taken = codes " keeps a disk already: name a new file at the host\n"
+host_rest host.OutOfReach = codes ": see that it runs and that the way to it is open, and start again\n"
+host_rest host.Refused = codes " doesn't take this disk: name a new file at the host\n"
+
 -- what happened, or to what, and what to do
 abbrev pub rest : FaultKind → List ℕ
 rest CommandLine = codes "\n"
 rest Settings = codes "\n"
 rest Unformatted = codes "\n"
-rest (File reason.Missing) = codes ": no such file or folder: see that its name is right\n"
-rest (File reason.NotPermitted) = codes ": permission denied: see that you may read and write it\n"
-rest (File reason.DiskFull) = codes ": the disk is full: make room on it\n"
-rest (File reason.Folder) = codes " is a folder: name a file in it\n"
-rest (File reason.Other) = codes ": see that it is there and may be written, and that its disk has room\n"
+rest (File why) = file_rest why
 rest Address = codes ": end the program that listens there, or name another place\n"
 rest NotABucketFile = codes " isn't a file of buckets, and is left as it is: name another file\n"
 rest OlderFile = codes " is a SQLite file, which an older version may have written, and is left as it is: serve it with that version, or name another file, and format anew\n"
@@ -62,21 +78,16 @@ rest NoFile = codes ": see that the settings are those of the right host, or say
 rest FileExists = codes " is there already, and is left as it is: leave --new out to serve it\n"
 rest Exists = codes " is there already, and is left as it is: name another folder\n"
 rest Formatted = codes " is there already, and is left as it is: to format anew, take it away, and name a new file at the host\n"
-rest NotADisk = codes " isn't the state of a disk, and is left as it is\n"
+rest NotADisk = codes " isn't the state of a disk, and is left as it is: see that the settings name the right file\n"
 rest OlderState = codes " is the state of a disk of an older version, and is left as it is: serve it with that version, and copy what is in it to a new disk\n"
 rest WrongKey = codes " isn't this disk's: put the one back that it was formatted with\n"
 rest (Changed key) = codes " isn't what it was when the disk was formatted: put it back\n"
-rest (Host host.NoRoom) = codes " has no room: make room on its disk, and start again\n"
-rest (Host host.AnotherDisk) = codes " keeps another disk, and nothing was sent to it: see that the settings name the right host, and that it was started with its own file\n"
-rest (Host host.NoDisk) = codes " keeps no disk, and nothing was sent to it: see that the settings name the right host, and that it was started with its own file\n"
-rest (Host host.Taken) = codes " keeps a disk already: name a new file at the host\n"
-rest (Host host.OutOfReach) = codes ": see that it runs and that the way to it is open, and start again\n"
-rest (Host host.Refused) = codes " doesn't take this disk: name a new file at the host\n"
+rest (Host why) = host_rest why
 rest StateNotKept = codes ": see that its folder may be written and has room, and start again\n"
-rest UsedUp = codes " has made all its accesses: move what is in it to a new one\n"
+rest UsedUp = codes " has made all its accesses, and can't be read any more: restore a backup of it to a new one\n"
 rest InUse = codes " is in use by another process: end that one first\n"
 rest Failed = codes " has failed, and oramdisk status says why: see that its own host is reached, with its own file, and then say oramdisk retry\n"
-rest NotFailed = codes " has not failed, and is left as it is\n"
+rest NotFailed = codes " has not failed, and is left as it is: oramdisk serve serves it\n"
 
 -- 2: words or settings; 4: a file; 5: a socket; 6 to 8: a host's file that isn't one, is damaged, or is held; 9:
 -- something that exists already; 10: a state that isn't one; 11, 12: a host that is out of reach, or that refuses; 13:

@@ -4,8 +4,8 @@ ghost use Rattle.std.specs.Prelude.{◌≡◌, ◌++◌};
 ghost use Rattle.oram_host.specs.Transfers.{Begins};
 ghost use Rattle.oram_disk_host.specs.Faults as spec;
 
-use crate::kinds::{FaultKind, FileReason};
-use oram_cli::{FileFault, put_between};
+use crate::kinds::FaultKind;
+use oram_cli::{FileFault, FileReason, put_between};
 use oram_store::StoreFault;
 use std::alloc::AllocError;
 use std::fmt;
@@ -36,13 +36,13 @@ impl From<AllocError> for Fault {
 }
 
 impl From<FileFault> for Fault {
-    ghost use Rattle.oram_disk_host.specs.Faults.{kept_fault};
+    ghost use Rattle.oram_disk_host.specs.Faults.{file_fault};
 
-    ghost from_gives = { λ why fault. fault ≡ kept_fault why };
+    ghost from_gives = { λ why fault. fault ≡ file_fault why };
 
     fn from(why: FileFault) -> Fault {
         match why {
-            FileFault::File(name) => Fault::About(FaultKind::File(FileReason::Other), name),
+            FileFault::File(name, reason) => Fault::About(FaultKind::File(reason), name),
             FileFault::OutOfMemory => Fault::OutOfMemory,
         }
     }
@@ -118,7 +118,7 @@ impl fmt::Debug for Fault {
 }
 
 /// Writes the line of a fault, as far as the writer takes it, and returns the exit status. Allocates nothing.
-pub fn report<W: Write>(writer: &mut W, fault: &Fault) -> u8
+pub fn report_fault<W: Write>(writer: &mut W, fault: &Fault) -> u8
     // It writes the whole line, unless the writer fails.
     ensures line { Begins (W.contents writer.old) (W.contents writer.new) (spec.line_of fault.now) }
     ensures status { result ≡ spec.status_of fault.now }

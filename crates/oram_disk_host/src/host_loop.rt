@@ -5,12 +5,11 @@ ghost use Rattle.std.specs.Prelude.{◌≡◌, ◌⊎◌, [], IsSome};
 use crate::attendant::HostAttendant;
 use crate::connection::{ConnectionReport, EarlyEnd, line};
 use crate::faults::{Fault, store_fault};
-use crate::file_faults::{file_fault, settings_bytes, text_of};
 use crate::kinds::FaultKind;
-use crate::settings_file::{HostSettings, read_host_settings};
+use crate::settings_file::{HostSettings, read_host_settings, settings_text};
 use crate::tallied_store::TalliedStore;
 use jiff::Timestamp;
-use oram_cli::{InputFault, SocketFault, listen};
+use oram_cli::{InputFault, SocketFault, call_fault, listen};
 use oram_host::{ServeFault, host_serve};
 use oram_redo::FilePair;
 use oram_settings::{host_complaint, hosting_text, relative_to};
@@ -27,21 +26,20 @@ use std::{fs, thread};
 /// How many seconds a host waits before it tries again to open a file whose disk has failed.
 const RETRY_AFTER: u64 = 1;
 
-/// Reads the settings file `name`. It gives the file of buckets relative to the folder of the settings; this makes its
-/// name one that can be opened from here.
+/// Reads the settings in the file `name`. In the result, the path of the file of buckets is as seen from the working
+/// directory, not from the folder of `name`.
 ///
-/// `disk_in` of `oramdisk` does the same with a disk's settings. It stands there since a client also makes a device of them.
-fn settings_in<R: Files + AllocGlobal>(rt: &R, name: String) -> Result<HostSettings, Fault> {
+/// `disk_in` of `oram_disk_client` reads a disk's settings. It also makes a device of them.
+fn settings_in<R: Files + AllocGlobal>(rt: &R, name: &str) -> Result<HostSettings, Fault> {
     let alloc = rt.alloc();
-    let bytes = settings_bytes(rt, name.as_str())?;
-    let text = text_of(alloc, bytes.as_slice(), name.as_str())?;
-    match read_host_settings(alloc, text) {
+    let text = settings_text(rt, name)?;
+    match read_host_settings(alloc, text.as_str()) {
         Ok(mut settings) => {
-            settings.file = relative_to(alloc, name.as_str(), settings.file.as_str())?;
+            settings.file = relative_to(alloc, name, settings.file.as_str())?;
             Ok(settings)
         }
         Err(InputFault::Bad) => {
-            let complaint = host_complaint(alloc, name.as_str(), text)?;
+            let complaint = host_complaint(alloc, name, text.as_str())?;
             Err(Fault::About(FaultKind::Settings, complaint))
         }
         Err(InputFault::OutOfMemory) => Err(Fault::OutOfMemory),
@@ -198,7 +196,7 @@ fn check_presence<R: Files + AllocGlobal>(rt: &R, file: &str, is_new: bool) -> R
     let alloc = rt.alloc();
     let is_there = match fs::exists(rt, file) {
         Ok(is_there) => is_there,
-        Err(error) => return Err(file_fault(String::from_str(alloc, file)?, &error)),
+        Err(error) => return Err(call_fault(alloc, file, &error).into()),
     };
     let kind = match (is_there, is_new) {
         (true, true) => FaultKind::FileExists,
@@ -209,7 +207,7 @@ fn check_presence<R: Files + AllocGlobal>(rt: &R, file: &str, is_new: bool) -> R
 }
 
 /// Prints that a file was opened: whether it is a new one, and where it is served.
-fn tell_opened(
+fn print_opened(
     rt: &HostRuntime,
     address: &str,
     file: &str,
@@ -239,7 +237,7 @@ where
     check_presence(rt, file, is_new)?;
     let opened = open_store(rt, rt.alloc(), file);
     if opened.is_ok() {
-        tell_opened(rt, address, file, is_new)?;
+        print_opened(rt, address, file, is_new)?;
     }
     serve_opened(rt, listener, opened, file)
 }
@@ -255,16 +253,16 @@ fn serve_again<L: OpenListener + AsRawFd>(
 where
     L::Stream: Read + Write + OpenStream + AsRawFd,
 {
-    let mut is_told = false;
+    let mut is_reported = false;
     for _ in 0..u64::MAX {
         match serve_file(rt, listener, address, file, false) {
             Err(Fault::About(FaultKind::File(_), _)) => {}
             ended => return ended,
         }
-        if !is_told {
+        if !is_reported {
             let line = format!(in rt.alloc(); "oramdisk: waiting for {file}\n")?;
             let _passed_over = rt.eprint(line.as_str());
-            is_told = true;
+            is_reported = true;
         }
         thread::sleep(rt, Duration::from_secs(RETRY_AFTER));
     }
@@ -274,7 +272,7 @@ where
 /// Keeps buckets for others, until it is ended. It listens before it opens the file, so if the port is taken, the file
 /// stays as it is.
 pub fn host(rt: &HostRuntime, name: String, is_new: bool) -> Result<(), Fault> {
-    let HostSettings { listen, file } = settings_in(rt, name)?;
+    let HostSettings { listen, file } = settings_in(rt, name.as_str())?;
     let listener = listen_at(rt, String::from_str(rt.alloc(), listen.as_str())?)?;
     serve_file(rt, &listener, listen.as_str(), file.as_str(), is_new)?;
     for _ in 0..u64::MAX {

@@ -3,22 +3,8 @@
 ghost use Rattle.std.specs.Prelude.{◌≡◌};
 ghost use Rattle.oram_disk_host.specs.Kinds as spec;
 
-use oram_cli::HostFault;
+use oram_cli::{FileReason, HostFault};
 use oram_settings::FixedKey;
-
-/// Why a file or folder can't be opened, read or written.
-#[derive(Clone, Copy, Debug, PartialEq, Eq)]
-pub enum FileReason {
-    /// There is no file or folder of this name.
-    Missing,
-    /// The system doesn't permit it.
-    NotPermitted,
-    /// The disk that it is on has no room.
-    DiskFull,
-    /// It is a folder, where a file is wanted.
-    Folder,
-    Other,
-}
 
 /// Why the program ends, if that is about something with a name.
 #[derive(Clone, Copy, Debug)]
@@ -92,6 +78,38 @@ fn changed(key: FixedKey) -> &'static str
     }
 }
 
+/// Returns the text after the name of a file, for this reason.
+fn file_rest(reason: FileReason) -> &'static str
+    ensures { result.now ≡ spec.file_rest reason }
+{
+    match reason {
+        FileReason::Missing => ": no such file or folder: see that its name is right\n",
+        FileReason::Exists => " is there already: name another file\n",
+        FileReason::NotPermitted => ": permission denied: see that you may read and write it\n",
+        FileReason::DiskFull => ": the disk is full: make room on it\n",
+        FileReason::Folder => " is a folder: name a file in it\n",
+        FileReason::Other =>
+            ": see that it is there and may be written, and that its disk has room\n",
+    }
+}
+
+/// Returns the text after the address of a host.
+fn host_rest(why: HostFault) -> &'static str
+    ensures { result.now ≡ spec.host_rest why }
+{
+    match why {
+        HostFault::NoRoom => " has no room: make room on its disk, and start again\n",
+        HostFault::AnotherDisk =>
+            " keeps another disk, and nothing was sent to it: see that the settings name the right host, and that it was started with its own file\n",
+        HostFault::NoDisk =>
+            " keeps no disk, and nothing was sent to it: see that the settings name the right host, and that it was started with its own file\n",
+        HostFault::Taken => " keeps a disk already: name a new file at the host\n",
+        HostFault::OutOfReach =>
+            ": see that it runs and that the way to it is open, and start again\n",
+        HostFault::Refused => " doesn't take this disk: name a new file at the host\n",
+    }
+}
+
 impl FaultKind {
     /// Returns the text before the name in the line.
     pub(crate) fn front(self) -> &'static str
@@ -125,14 +143,7 @@ impl FaultKind {
     {
         match self {
             FaultKind::CommandLine | FaultKind::Settings | FaultKind::Unformatted => "\n",
-            FaultKind::File(FileReason::Missing) =>
-                ": no such file or folder: see that its name is right\n",
-            FaultKind::File(FileReason::NotPermitted) =>
-                ": permission denied: see that you may read and write it\n",
-            FaultKind::File(FileReason::DiskFull) => ": the disk is full: make room on it\n",
-            FaultKind::File(FileReason::Folder) => " is a folder: name a file in it\n",
-            FaultKind::File(FileReason::Other) =>
-                ": see that it is there and may be written, and that its disk has room\n",
+            FaultKind::File(reason) => file_rest(reason),
             FaultKind::Address => ": end the program that listens there, or name another place\n",
             FaultKind::NotABucketFile =>
                 " isn't a file of buckets, and is left as it is: name another file\n",
@@ -156,32 +167,21 @@ impl FaultKind {
             FaultKind::Exists => " is there already, and is left as it is: name another folder\n",
             FaultKind::Formatted =>
                 " is there already, and is left as it is: to format anew, take it away, and name a new file at the host\n",
-            FaultKind::NotADisk => " isn't the state of a disk, and is left as it is\n",
+            FaultKind::NotADisk => " isn't the state of a disk, and is left as it is: see that the settings name the right file\n",
             FaultKind::OlderState =>
                 " is the state of a disk of an older version, and is left as it is: serve it with that version, and copy what is in it to a new disk\n",
             FaultKind::WrongKey =>
                 " isn't this disk's: put the one back that it was formatted with\n",
             FaultKind::Changed(_) =>
                 " isn't what it was when the disk was formatted: put it back\n",
-            FaultKind::Host(HostFault::NoRoom) =>
-                " has no room: make room on its disk, and start again\n",
-            FaultKind::Host(HostFault::AnotherDisk) =>
-                " keeps another disk, and nothing was sent to it: see that the settings name the right host, and that it was started with its own file\n",
-            FaultKind::Host(HostFault::NoDisk) =>
-                " keeps no disk, and nothing was sent to it: see that the settings name the right host, and that it was started with its own file\n",
-            FaultKind::Host(HostFault::Taken) =>
-                " keeps a disk already: name a new file at the host\n",
-            FaultKind::Host(HostFault::OutOfReach) =>
-                ": see that it runs and that the way to it is open, and start again\n",
-            FaultKind::Host(HostFault::Refused) =>
-                " doesn't take this disk: name a new file at the host\n",
+            FaultKind::Host(why) => host_rest(why),
             FaultKind::StateNotKept =>
                 ": see that its folder may be written and has room, and start again\n",
-            FaultKind::UsedUp => " has made all its accesses: move what is in it to a new one\n",
+            FaultKind::UsedUp => " has made all its accesses, and can't be read any more: restore a backup of it to a new one\n",
             FaultKind::InUse => " is in use by another process: end that one first\n",
             FaultKind::Failed =>
                 " has failed, and oramdisk status says why: see that its own host is reached, with its own file, and then say oramdisk retry\n",
-            FaultKind::NotFailed => " has not failed, and is left as it is\n",
+            FaultKind::NotFailed => " has not failed, and is left as it is: oramdisk serve serves it\n",
         }
     }
 

@@ -1,16 +1,15 @@
 //! The host's side of a disk's program: it keeps buckets in a file for others. It also has the faults that end the
-//! program, on either side.
+//! program, those of the client's side included.
 //!
 //! [`host`] serves a file of buckets; [`read_host_settings`] reads its settings. [`TalliedStore`] is a store that is served,
-//! with the [`Tally`] of a connection, and [`line`] is the line that is printed for a [`ConnectionReport`]. A [`Fault`] is why the
-//! program ends, on either side: mostly a [`FaultKind`] and the name of what it is about. [`report`] writes its line,
-//! and returns its status.
+//! with the [`Tally`] of a connection, and [`line`] is the line that is printed for a [`ConnectionReport`]. A [`Fault`] says why
+//! the program ends: mostly by a [`FaultKind`] and the name of what it is about. [`report_fault`] writes its line, and returns
+//! its exit status.
 #![tactic(auto)]
 
 mod attendant;
 mod connection;
 mod faults;
-mod file_faults;
 mod host_loop;
 mod kinds;
 mod settings_file;
@@ -18,10 +17,9 @@ mod tallied_store;
 mod tally;
 
 pub use connection::{ConnectionReport, EarlyEnd, line};
-pub use faults::{Fault, report, store_fault};
-pub use file_faults::{file_fault, settings_bytes, text_of};
+pub use faults::{Fault, report_fault, store_fault};
 pub use host_loop::{host, listen_at, not_accepted, time};
-pub use kinds::{FaultKind, FileReason};
-pub use settings_file::{FIRST_SETTINGS, HostSettings, read_host_settings};
+pub use kinds::FaultKind;
+pub use settings_file::{FIRST_SETTINGS, HostSettings, read_host_settings, settings_text};
 pub use tallied_store::TalliedStore;
 pub use tally::Tally;

@@ -5,8 +5,11 @@ ghost use Rattle.toml.specs.View.{table_view};
 ghost use Rattle.oram_cli.specs.Tables.{Finds};
 ghost use Rattle.oram_disk_host.specs.Settings.{IsDocumentOf, IsHost, settings_value};
 
-use oram_cli::{InputFault, address_at, has_only, name_at, table_of};
+use crate::faults::Fault;
+use crate::kinds::FaultKind;
+use oram_cli::{InputFault, address_at, has_only, name_at, table_of, text_in};
 use std::alloc::Global;
+use std::rt::Files;
 use toml::Table;
 
 /// The settings of a bucket host.
@@ -20,7 +23,7 @@ pub struct HostSettings {
 
 /// The settings that a new folder begins with.
 pub const FIRST_SETTINGS: &str =
-    "# Where the host listens. Your own machine reaches it there, as by ssh -N -L 7001:127.0.0.1:7001 you@rented.\nlisten = \"127.0.0.1:7001\"\n# The file of the buckets, as seen from this folder; its log stands beside it.\nfile = \"buckets\"\n";
+    "# Where the host listens. Your own machine reaches it there, as by ssh -N -L 7001:127.0.0.1:7001 you@rented.\nlisten = \"127.0.0.1:7001\"\n# The file of the buckets, relative to this folder; its log is beside it.\nfile = \"buckets\"\n";
 
 fn host_in(alloc: Global, table: &Table) -> Result<HostSettings, InputFault>
     ensures { Finds settings_value (IsHost (table_view table.now)) result }
@@ -45,4 +48,15 @@ pub fn read_host_settings(alloc: Global, text: &str) -> Result<HostSettings, Inp
 {
     let table = table_of(alloc, text)?;
     host_in(alloc, &table)
+}
+
+/// Reads a whole settings file, a host's or a disk's. Fails with [`FaultKind::Settings`] if it isn't text in UTF-8.
+pub fn settings_text<R: Files + AllocGlobal>(rt: &R, name: &str) -> Result<String, Fault> {
+    match text_in(rt, name)? {
+        Some(text) => Ok(text),
+        None => {
+            let mistake = format!(in rt.alloc(); "{name} isn't text in UTF-8")?;
+            Err(Fault::About(FaultKind::Settings, mistake))
+        }
+    }
 }

@@ -2,7 +2,7 @@
 
 ghost use Rattle.std.specs.Prelude.{◌≡◌, ◌≢◌, ◌⊎◌, [], false, IsSome};
 ghost use Rattle.oram_layout.specs.Records.{AreKept};
-ghost use Rattle.oram_store.specs.Crashes.{SettlesWhole};
+ghost use Rattle.oram_store.specs.Crashes.{CommitsPutsWhole};
 ghost use Rattle.oram_store.specs.KeptRecords.{IsSound, records_of};
 ghost use Rattle.oram_wire.specs.HostMessages.{answer_body};
 ghost use Rattle.oram_wire.specs.declared.host_messages.HostAnswer.{HostAnswer};
@@ -59,17 +59,17 @@ impl<F: FilePair> TalliedStore<F> {
 
     /// Makes the records durable that a formatting has put so far. If that fails, the tally says why.
     pub fn commit_puts(&mut self)
-        ensures settled { (self.new.store.pending ≡ []) ⊎ IsSome self.new.tally.failure }
+        ensures none_pending_or_why { (self.new.store.pending ≡ []) ⊎ IsSome self.new.tally.failure }
         ensures calm { self.old.store.pending ≡ [] → self.new ≡ self.old }
         ensures trees { self.new.store.trees ≡ self.old.store.trees }
-        ensures sound { IsSound F.seen F.may_leave self.old.store → self.new.store.file.has_stopped ≡ false → IsSound F.seen F.may_leave self.new.store }
-        ensures records { IsSound F.seen F.may_leave self.old.store → self.new.store.file.has_stopped ≡ false
-            → AreKept (records_of F.seen self.old.store) (records_of F.seen self.new.store) }
-        ensures any_moment { IsSound F.seen F.may_leave self.old.store → SettlesWhole F.seen F.moment F.left_since self.old.store self.new.store }
+        ensures sound { IsSound F.model self.old.store → self.new.store.file.has_stopped ≡ false → IsSound F.model self.new.store }
+        ensures records { IsSound F.model self.old.store → self.new.store.file.has_stopped ≡ false
+            → AreKept (records_of F.model self.old.store) (records_of F.model self.new.store) }
+        ensures any_moment { IsSound F.model self.old.store → CommitsPutsWhole F.model self.old.store self.new.store }
         ensures messages { self.new.tally.messages ≡ self.old.tally.messages }
         ensures received { self.new.tally.received ≡ self.old.tally.received }
         ensures sent { self.new.tally.sent ≡ self.old.tally.sent }
-        ensures told { self.new.store.failure ≢ self.old.store.failure → self.new.tally.failure ≡ self.new.store.failure }
+        ensures reports { self.new.store.failure ≢ self.old.store.failure → self.new.tally.failure ≡ self.new.store.failure }
     {
         if let Err(fault) = self.store.commit_puts() {
             self.tally.failure = Some(fault);
@@ -101,7 +101,7 @@ impl<F: FilePair> TalliedStore<F> {
 }
 
 impl<F: FilePair> BucketServer for TalliedStore<F> {
-    ghost serves = { λ before body answer after. Serves F.seen F.may_leave F.moment F.left_since F.is_honest before body answer after };
+    ghost serves = { λ before body answer after. Serves F.model before body answer after };
 
     // Once the disk has failed, it answers nothing more, so that the connection ends and the file is opened again.
     fn respond(&mut self, alloc: Global, body: &[u8]) -> Result<Vec<u8>, AllocError> {

@@ -14,11 +14,11 @@ abbrev pub made_text : List ℕ → ℕ → ℕ → List ℕ
 made_text folder size stored =
     concat (codes "oramdisk: made " ∷ folder ∷ codes " for a disk of " ∷ size_text size
     ∷ codes ": disk.toml with its key, which stays here, and host.toml for the rented machine\noramdisk: formatting will send about " ∷ amount stored
-    ∷ codes " to the host, which stores them\n" ∷ next_text folder ∷ codes "\n" ∷ [])
+    ∷ codes " to the host, which stores all of it\n" ∷ next_text folder ∷ codes "\n" ∷ [])
 
 -- what is printed before a formatting begins
 abbrev pub begun_text : ℕ → List ℕ → List ℕ
-begun_text stored host = concat (codes "oramdisk: formatting: about " ∷ amount stored ∷ codes " go to the host at " ∷ host ∷ codes ", which stores them\n" ∷ [])
+begun_text stored host = concat (codes "oramdisk: formatting: about " ∷ amount stored ∷ codes " go to the host at " ∷ host ∷ codes ", which stores all of it\n" ∷ [])
 
 -- what a host prints when it serves a file of buckets
 abbrev pub hosting_text : List ℕ → List ℕ → List ℕ

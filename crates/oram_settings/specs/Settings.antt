@@ -94,4 +94,4 @@ first_text size key =
     ∷ decimal size
     ∷ codes "\n\n# Whoever has this key can read the disk. Without it nobody can.\nkey = \""
     ∷ encode_lower key
-    ∷ codes "\"\n\n# Where the host is reached: your end of the tunnel.\nhost = \"127.0.0.1:7001\"\n\n# Each line below shows what holds without it. To set another value, take away the \"# \" that the line begins with.\n\n# These four are fixed once the disk is formatted.\n# block = 4096               # the bytes of a block\n# slots = 4                  # how many blocks a bucket has room for\n# table = 1024               # the most entries of the table that the client keeps\n# sealer = \"chacha\"          # how buckets are sealed; \"plain\" hides nothing, and is for tries\n\n# These may be changed at any time.\n# listen = \"unix:disk.sock\"  # where the disk is served: a socket in this folder, for you alone; or \"127.0.0.1:PORT\", for all users of this machine\n# state = \"disk.state\"       # the file of the disk's state, in this folder\n# sync = true                # each state is synced before it counts\n# reconnect_timeout = 600    # for how many seconds a host that is out of reach is waited for\n" ∷ [])
+    ∷ codes "\"\n\n# Where the host is reached: your end of the tunnel.\nhost = \"127.0.0.1:7001\"\n\n# Each line below shows what holds without it. To set another value, take away the \"# \" that the line begins with.\n\n# These four are fixed once the disk is formatted.\n# block = 4096               # the bytes of a block\n# slots = 4                  # how many blocks a bucket has room for\n# table = 1024               # the most entries of the table that the client keeps\n# sealer = \"chacha\"          # how buckets are sealed; \"plain\" hides nothing, and is only for trying things out\n\n# These may be changed at any time.\n# listen = \"unix:disk.sock\"  # where the disk is served: a socket in this folder, for you alone; or \"127.0.0.1:PORT\", for all users of this machine\n# state = \"disk.state\"       # the file of the disk's state, in this folder\n# sync = true                # each state is synced before it counts\n# reconnect_timeout = 600    # for how many seconds the client waits for a host that doesn't answer\n" ∷ [])

@@ -26,7 +26,7 @@ failing None = codes "it is sound"
 failing (Some Malformed) = codes "it has failed: what the host answered is no answer"
 failing (Some (Tampered tree level)) =
     concat (codes "it has failed: in tree " ∷ decimal tree ∷ codes " the record at level " ∷ decimal level ∷ codes " of a path wasn't the one that was stored last" ∷ [])
-failing (Some (HostRefused code)) = codes "it has failed: the host refused a message, by the code " ++ decimal code
+failing (Some (HostRefused code)) = codes "it has failed: the host refused a message, with code " ++ decimal code
 
 -- the size of a disk in bytes, at most 2^64 - 1
 abbrev pub size_of : Status → ℕ

@@ -28,7 +28,7 @@ pub fn made_text(alloc: Global, folder: &str, size: u64, stored: u64) -> Result<
     let next = next_text(alloc, folder)?;
     let next = next.as_str();
     format!(in alloc;
-        "oramdisk: made {folder} for a disk of {size}: disk.toml with its key, which stays here, and host.toml for the rented machine\noramdisk: formatting will send about {stored} to the host, which stores them\n{next}\n"
+        "oramdisk: made {folder} for a disk of {size}: disk.toml with its key, which stays here, and host.toml for the rented machine\noramdisk: formatting will send about {stored} to the host, which stores all of it\n{next}\n"
     )
 }
 
@@ -39,7 +39,7 @@ pub fn begun_text(alloc: Global, stored: u64, host: &str) -> Result<String, Allo
     let stored = amount_text(alloc, stored)?;
     let stored = stored.as_str();
     format!(in alloc;
-        "oramdisk: formatting: about {stored} go to the host at {host}, which stores them\n"
+        "oramdisk: formatting: about {stored} go to the host at {host}, which stores all of it\n"
     )
 }
 

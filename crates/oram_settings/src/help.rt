@@ -3,7 +3,7 @@
 pub(crate) const VERSION: &str = "0.1.0";
 
 pub(crate) const PROGRAM: &str =
-    "A disk on a rented machine, whose owner learns neither what is in it nor which of its blocks are used.
+    "A disk on a rented machine. The owner of that machine learns neither what is in the disk nor which of its blocks are used.
 
 The rented machine runs 'oramdisk host', which keeps the disk's buckets. Your own machine runs 'oramdisk serve', which clients of NBD connect to.";
 
@@ -15,24 +15,24 @@ pub(crate) const PROGRAM_MORE: &str = "A first disk, in the order of the command
   yours:   oramdisk serve mydisk/disk.toml
   yours:   sudo nbd-client -unix mydisk/disk.sock /dev/nbd0
 
-'oramdisk help COMMAND' tells more of each, and 'oramdisk help new' what may be set. docs/disk.md describes the settings.";
+'oramdisk help COMMAND' explains each command, and 'oramdisk help new' each setting. docs/disk.md describes the settings.";
 
 pub(crate) const NEW: &str =
     "Makes a folder with the settings of a new disk and of its host, and a fresh key";
 
 pub(crate) const NEW_MORE: &str =
-    "The folder then holds disk.toml, with the disk's key, and host.toml, which is for the rented machine. Both are commented.
+    "The folder then holds disk.toml, with the disk's key, and host.toml, which is for the rented machine. Comments in both explain the settings.
 A size is a number and a unit: KiB, MiB, GiB and TiB, or kB, MB, GB and TB. The greatest is 64GiB.
 
 disk.toml has to set size, key and host. It may set more; the defaults are:
   block = 4096               the bytes of a block
   slots = 4                  how many blocks a bucket has room for
   table = 1024               the most entries of the table that the client keeps
-  sealer = \"chacha\"          how buckets are sealed; \"plain\" hides nothing, and is for tries
+  sealer = \"chacha\"          how buckets are sealed; \"plain\" hides nothing, and is only for trying things out
   listen = \"unix:disk.sock\"  where the disk is served: a socket in its folder, for you alone; or \"127.0.0.1:PORT\", for all users
   state = \"disk.state\"       the file of the disk's state, in its folder
   sync = true                each state is synced before it counts
-  reconnect_timeout = 600    for how many seconds a host that is out of reach is waited for
+  reconnect_timeout = 600    for how many seconds the client waits for a host that doesn't answer
 
 Example:
   oramdisk new mydisk --size 1GiB";
@@ -48,7 +48,7 @@ Examples:
   oramdisk host --new host.toml
   oramdisk host host.toml";
 
-pub(crate) const FORMAT: &str = "Makes the disk on its host, once, and tells how far it is";
+pub(crate) const FORMAT: &str = "Makes the disk on its host, once, and reports its progress";
 
 pub(crate) const FORMAT_MORE: &str =
     "The host has to be running and reached at the address that the settings name. Each setting is described in the disk.toml
@@ -94,7 +94,7 @@ pub(crate) const DISK_SETTINGS: &str = "The disk's settings file, such as mydisk
 
 pub(crate) const HOST_SETTINGS: &str = "The host's settings file, such as host.toml";
 
-pub(crate) const NEW_FILE: &str = "Makes the file of buckets, which may not be there yet";
+pub(crate) const NEW_FILE: &str = "Makes the file of buckets, and refuses if it is there";
 
 pub(crate) const FOLDER: &str = "The folder to make";
 

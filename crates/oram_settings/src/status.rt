@@ -54,7 +54,7 @@ pub fn failure_text(alloc: Global, failure: Option<Reason>) -> Result<String, Al
             "it has failed: in tree {tree} the record at level {level} of a path wasn't the one that was stored last"
         ),
         Some(Reason::HostRefused(code)) => format!(in alloc;
-            "it has failed: the host refused a message, by the code {code}"
+            "it has failed: the host refused a message, with code {code}"
         ),
     }
 }

@@ -18,11 +18,11 @@ module _ (v : Scheme) {L : Type 0} (calls : L → List ℕ → Outcome → L →
   abbrev pub IsFormatted : L → State → L → Type 0
   IsFormatted from s to = IsNew v (TakesMessage calls) from s to
 
-  -- Only a beginning of these messages did, and the program reports the fault `told`.
+  -- Only a beginning of these messages did, and the program reports this fault.
   abbrev pub IsUnformatted : L → Fault → L → Type 0
-  IsUnformatted from told to = (why : FormatFault) × (told ≡ format_fault why)
+  IsUnformatted from fault to = (why : FormatFault) × (fault ≡ format_fault why)
       × IsBrokenOff (TakesMessage calls) (RefusesMessage calls) (IsFormatBegun v) from why to
 
   -- There is no state file: the formatting was broken off, or it was done and there was no memory for the file.
   abbrev pub GivesNoFile : L → Fault → L → Type 0
-  GivesNoFile from told to = IsUnformatted from told to ⊎ ((s : State) × IsFormatted from s to × (told ≡ OutOfMemory))
+  GivesNoFile from fault to = IsUnformatted from fault to ⊎ ((s : State) × IsFormatted from s to × (fault ≡ OutOfMemory))

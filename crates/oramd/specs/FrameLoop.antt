@@ -42,7 +42,7 @@ after_frames (Err serve.OutOfMemory) = Err OutOfMemory
 
 -- Why some frames have no answers: the formatting was broken off, or serving the frames ended early.
 abbrev pub IsUnansweredFor : Fault → Type 0
-IsUnansweredFor told = ((why : FormatFault) × (told ≡ format_fault why)) ⊎ ((ended : Result ℕ ServeFault) × (Err told ≡ after_frames ended))
+IsUnansweredFor fault = ((why : FormatFault) × (fault ≡ format_fault why)) ⊎ ((ended : Result ℕ ServeFault) × (Err fault ≡ after_frames ended))
 
 -- The device was formatted over a link with these calls, and its session 0 answered these turns. It also read the bytes
 -- `part` of a frame, and the replies were appended to what was there.

@@ -10,6 +10,6 @@ use Rattle.oramd.specs.declared.faults.Fault.TheVariants.{Image, OutOfMemory}
 -- the program's fault for a fault of the image in the file `name`: the number of the fault, if it
 -- has one
 abbrev pub IsImageFault : List ℕ → ImageFault → Fault → Type 0
-IsImageFault name image.Io told = IsFileFault name told
-IsImageFault name image.OutOfMemory told = told ≡ OutOfMemory
-IsImageFault name why told = (number : ℕ) × (fault_number why ≡ Some number) × (told ≡ Image number)
+IsImageFault name image.Io fault = IsFileFault name fault
+IsImageFault name image.OutOfMemory fault = fault ≡ OutOfMemory
+IsImageFault name why fault = (number : ℕ) × (fault_number why ≡ Some number) × (fault ≡ Image number)

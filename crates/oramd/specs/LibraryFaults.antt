@@ -1,8 +1,8 @@
 -- The program's faults for the faults of its libraries.
 use Rattle.std.specs.Prelude.{Result, Ok, Err}
 use Rattle.std.specs.Option.{option_map_or}
-use Rattle.oram_cli.specs.declared.files.FileFault.{FileFault}
-use Rattle.oram_cli.specs.declared.files.FileFault.TheVariants as file
+use Rattle.oram_cli.specs.declared.file_faults.FileFault.{FileFault}
+use Rattle.oram_cli.specs.declared.file_faults.FileFault.TheVariants as file
 use Rattle.oram_cli.specs.declared.sockets.SocketFault.{SocketFault}
 use Rattle.oram_cli.specs.declared.sockets.SocketFault.TheVariants as socket
 use Rattle.oram_geometry.specs.declared.Sizes.{Sizes}
@@ -16,8 +16,9 @@ use Rattle.oram_state.specs.declared.fault.StateFault.{StateFault}
 use Rattle.oramd.specs.declared.faults.Fault.{Fault}
 use Rattle.oramd.specs.declared.faults.Fault.TheVariants.{File, HostRefused, OutOfMemory, Shape, Socket, State}
 
+-- The daemon's line names the file, and has no place for the reason.
 abbrev pub file_fault : FileFault → Fault
-file_fault (file.File name) = File name
+file_fault (file.File name reason) = File name
 file_fault file.OutOfMemory = OutOfMemory
 
 abbrev pub socket_fault : SocketFault → Fault

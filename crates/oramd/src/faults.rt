@@ -57,7 +57,7 @@ impl From<FileFault> for Fault {
 
     fn from(why: FileFault) -> Fault {
         match why {
-            FileFault::File(name) => Fault::File(name),
+            FileFault::File(name, _) => Fault::File(name),
             FileFault::OutOfMemory => Fault::OutOfMemory,
         }
     }
@@ -130,7 +130,7 @@ pub(crate) fn lock_fault(alloc: Global, name: &str, why: &LockFault) -> Fault
     ensures { IsFileFault name.now result }
 {
     match why {
-        LockFault::InUse | LockFault::File(FileFault::File(_)) => file_fault(alloc, name),
+        LockFault::InUse | LockFault::File(FileFault::File(..)) => file_fault(alloc, name),
         LockFault::File(FileFault::OutOfMemory) => Fault::OutOfMemory,
     }
 }

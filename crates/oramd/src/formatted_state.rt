@@ -39,7 +39,7 @@ pub fn format_state<S: Sealer, L: Link>(
     ensures formatted { let v = scheme_with S.cipher device sealer in
         IfOk result (λ file. (s : State) × IsFormatted v L.calls link.old s link.new × IsSaved file.items (S.cipher sealer).overhead device s) }
     ensures fault { let v = scheme_with S.cipher device sealer in
-        IfErr result (λ told. GivesNoFile v L.calls link.old told link.new) }
+        IfErr result (λ fault. GivesNoFile v L.calls link.old fault link.new) }
 {
     let core = format_device(alloc, device, sealer, link)?;
     Ok(encode_state(alloc, &core)?)

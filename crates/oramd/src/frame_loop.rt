@@ -18,7 +18,7 @@ use std::alloc::Global;
 pub fn bytes_of(alloc: Global, digits: &str) -> Result<Vec<u8>, Fault>
     ensures ok { IfOk result (λ bytes. decode_of digits.now ≡ Ok bytes.items) }
     ensures hex { IsErrOf result Fault.Hex → (why : FromHexError) × (decode_of digits.now ≡ Err why) }
-    ensures fault { IfErr result (λ told. (told ≡ Fault.Hex) ⊎ (told ≡ Fault.OutOfMemory)) }
+    ensures fault { IfErr result (λ fault. (fault ≡ Fault.Hex) ⊎ (fault ≡ Fault.OutOfMemory)) }
 {
     match hex::decode(alloc, digits) {
         Ok(bytes) => Ok(bytes),
@@ -53,7 +53,7 @@ pub fn answer_frames<L: Link>(
     ensures hex { IsErrOf result Fault.Hex → (part unread : List ℕ) × (IsUnfinished part ⊎ ((length part ≡ 4) × IsBroken part))
         × HasAnswered L.calls link.old frames.now part replies.old.items replies.new.items unread link.new }
     // All other faults come from the formatting or the serving.
-    ensures fault { IfErr result (λ told. IsUnansweredFor told) }
+    ensures fault { IfErr result (λ fault. IsUnansweredFor fault) }
 {
     let device = made_device(64, 16, 4, 64, 100)?;
     let mut core = format_device(alloc, device, PlainSeal, link)?;

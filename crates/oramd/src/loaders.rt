@@ -37,7 +37,7 @@ pub fn load_host<R: Read>(alloc: Global, name: &str, reader: &mut R) -> Result<S
     ensures ok { IfOk result (λ server. Consumes (R.remaining reader.old) (R.remaining reader.new) (image server)) }
     ensures end { OnOk result (IsAtEnd (R.remaining reader.new)) }
     ensures host { IfOk result (λ server. IsHost server) }
-    ensures fault { IfErr result (λ told. (why : ImageFault) × IsImageFault name.now why told
+    ensures fault { IfErr result (λ fault. (why : ImageFault) × IsImageFault name.now why fault
         × IsFirstFault host_in why (R.remaining reader.old)) }
 {
     match Server::load_image(alloc, reader) {
@@ -50,7 +50,7 @@ pub fn load_host<R: Read>(alloc: Global, name: &str, reader: &mut R) -> Result<S
 pub fn load_core<S: Sealer>(alloc: Global, sealer: S, file: &[u8]) -> Result<Core<S>, Fault>
     ensures sealer { IfOk result (λ c. c.sealer ≡ sealer) }
     ensures core { IfOk result (λ c. IsSaved file.now (S.cipher sealer).overhead c.device c.state) }
-    ensures fault { IfErr result (λ told. (why : StateFault) × (told ≡ state_fault why)
+    ensures fault { IfErr result (λ fault. (why : StateFault) × (fault ≡ state_fault why)
         × IsFaultIn file.now (S.cipher sealer).overhead why) }
 {
     Ok(decode_state(alloc, sealer, file)?)

@@ -14,7 +14,7 @@ use crate::settings_file::{Settings, read_settings};
 use oram_bucket::{ChaChaSeal, PlainSeal, Sealer};
 use oram_cli::{
     AtomicFile, InputFault, SocketFault, StateLock, buffered, bytes_in, call_fault, connect,
-    listen, lock_state,
+    listen, lock_state, text_in,
 };
 use oram_core::Core;
 use oram_geometry::Device;
@@ -27,7 +27,6 @@ use std::alloc::Global;
 use std::io::{BufReader, BufWriter, Read, Write};
 use std::net::{Net, OpenListener, OpenStream};
 use std::rt::Files;
-use std::str;
 
 /// Waits for the next connection, and returns its two halves, both buffered.
 fn next_connection<L: OpenListener>(
@@ -192,11 +191,10 @@ fn proxy_under(rt: &HostRuntime, serving: Serving, key: Option<[u8; 32]>) -> Res
 
 /// Reads the settings of a role from the file `name`.
 fn settings_in<R: Files + AllocGlobal>(rt: &R, role: Role, name: &str) -> Result<Settings, Fault> {
-    let bytes = bytes_in(rt, name)?;
-    let Ok(text) = str::from_utf8(bytes.as_slice()) else {
+    let Some(text) = text_in(rt, name)? else {
         return Err(Fault::Settings);
     };
-    match read_settings(rt.alloc(), role, text) {
+    match read_settings(rt.alloc(), role, text.as_str()) {
         Ok(settings) => Ok(settings),
         Err(InputFault::Bad) => Err(Fault::Settings),
         Err(InputFault::OutOfMemory) => Err(Fault::OutOfMemory),

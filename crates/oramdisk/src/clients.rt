@@ -63,7 +63,7 @@ impl<'r, 'l, R: Clock> ClientAttendant<'r, 'l, R> {
 
 impl<'r, 'l, R: Clock + Eprint + AllocGlobal> ClientAttendant<'r, 'l, R> {
     /// Prints a line about a client that is turned away.
-    fn tell(&self, peer: Peer) -> io::Result<()> {
+    fn print(&self, peer: Peer) -> io::Result<()> {
         let at = time(self.rt)?;
         let line = format!(in self.rt.alloc();
             "oramdisk: {peer} at {at}, turned away: the disk has a client\n"
@@ -98,7 +98,7 @@ impl<'r, 'l, R: Clock + Eprint + AllocGlobal> Attendant for ClientAttendant<'r, 
             let Ok((_closed, peer)) = self.listener.accept() else {
                 return Ok(());
             };
-            let _passed_over = self.tell(peer);
+            let _passed_over = self.print(peer);
         }
         Ok(())
     }

@@ -7,7 +7,7 @@ mod watched_disk;
 
 use oram_cli::{InputFault, arguments, texts_of};
 use oram_disk_client::{format_disk, make_folder, print_status, retry};
-use oram_disk_host::{Fault, FaultKind, host, report};
+use oram_disk_host::{Fault, FaultKind, host, report_fault};
 use oram_settings::{NoRequest, Subcommand, read_command_line};
 use std::process::ExitCode;
 use std::rt::Env;
@@ -48,6 +48,6 @@ fn run(rt: &HostRuntime) -> Result<(), Fault> {
 fn main(rt: HostRuntime) -> ExitCode {
     match run(&rt) {
         Ok(()) => ExitCode::SUCCESS,
-        Err(fault) => ExitCode::from(report(&mut rt.stderr(), &fault)),
+        Err(fault) => ExitCode::from(report_fault(&mut rt.stderr(), &fault)),
     }
 }

@@ -36,7 +36,7 @@ struct HostStatusPrinter<'a, R> {
 }
 
 impl<'a, R: Eprint + AllocGlobal> HostStatusPrinter<'a, R> {
-    fn tell(&self, what: &str) {
+    fn print(&self, what: &str) {
         let host = self.host.as_str();
         if let Ok(line) = format!(in self.rt.alloc(); "oramdisk: the host at {host} {what}\n") {
             let _passed_over = self.rt.eprint(line.as_str());
@@ -46,15 +46,15 @@ impl<'a, R: Eprint + AllocGlobal> HostStatusPrinter<'a, R> {
 
 impl<'a, R: Eprint + AllocGlobal> HostWatch for HostStatusPrinter<'a, R> {
     fn lost(&mut self) {
-        self.tell("is out of reach");
+        self.print("is out of reach");
     }
 
     fn full(&mut self) {
-        self.tell("has no room");
+        self.print("has no room");
     }
 
     fn back(&mut self) {
-        self.tell("answers again");
+        self.print("answers again");
     }
 }
 
@@ -187,11 +187,11 @@ fn serve_connection<R: Net + Clock + Eprint + AllocGlobal, D: BlockDevice>(
 ) -> bool {
     let from = time(rt);
     let ended = serve_client_alone(rt, listener, stream, disk);
-    let told = match from {
+    let printed = match from {
         Ok(from) => report_connection(rt, peer, from.as_str(), &ended),
         Err(error) => Err(error),
     };
-    if told.is_err() {
+    if printed.is_err() {
         let _passed_over = rt.eprint("oramdisk: no memory for the line of a connection\n");
     }
     is_stop(ended.served)

@@ -4,7 +4,7 @@ use Rattle.std.specs.Prelude.{◌==◌, IfOk, IfErr, ⊤}
 use Rattle.std.specs.Io.BufRead.{take_through, drop_through, strip_last, DropsThrough}
 use Rattle.std.specs.Io.KnownBytes.{Appends, Keeps}
 use Rattle.std.specs.List.{AllByRecursion, FoldsTo}
-use Rattle.std.proofs.KnownBytes.{Appends-trans}
+use Rattle.std.proofs.KnownBytes.{Appends-kept, Appends-trans}
 use Rattle.std.proofs.Math.Seq.{take-append-add}
 use Rattle.std.proofs.lemmas.Fn.{FoldsTo-push}
 use Rattle.oram_geometry.specs.declared.Sizes.{Sizes}
@@ -13,7 +13,7 @@ use Rattle.oram_geometry.specs.Sizes.{device_of, trees_of}
 use Rattle.oramsim.specs.Printer.{error_text, memory_text, ready_text, shape_text}
 use Rattle.oramsim.specs.Lines.{lines_of, line_of}
 use Rattle.oramsim.specs.Script.{HasNoFailure, HasPassed, HasRun, IsBad, IsBeginning, IsCutText, IsDue, IsHarmless, IsHarmlessScript, IsNewRun, IsPassed, IsScriptText, IsWithin, Point, GetsTo, Running, Stage, Starts, start, text_at}
-use Rattle.oramsim.specs.Correspondence.{GivesUp, GivesUpAt, HasEnded, HasGivenUp, IsCalmAt, IsFaithful, IsFaithfulAt, IsGivingUp, IsCutAt, IsUnder, IsUntold, IsAtRun, StandsAt, told_at}
+use Rattle.oramsim.specs.Correspondence.{GivesUp, GivesUpAt, HasEnded, HasGivenUp, IsCalmAt, IsFaithful, IsFaithfulAt, IsGivingUp, IsCutAt, IsUnder, IsPrintedInPart, IsAtRun, StandsAt, with_memory_line}
 use Rattle.oramsim.specs.declared.line.Line.{Line}
 use Rattle.oramsim.specs.declared.line.Line.TheVariants.{Device}
 use Rattle.oramsim.specs.declared.machine.Machine.{Machine}
@@ -27,7 +27,6 @@ use Rattle.oramsim.proofs.Clean.{Clean, beginning_unfailed, clean_append, clean_
 use Rattle.oramsim.proofs.GivenUp.{IsUnmeddled, none_told, told_behind}
 use Rattle.oramsim.proofs.Progress.{Came, all_split, came_clean, head_passed, passes_line, point_clean, read_rest, run_done}
 use Rattle.oramsim.proofs.Started.{nothing_shown}
-use Rattle.oramsim.proofs.Writes.{Appends-kept}
 
 -- Memory ran out before anything of a line was written.
 pub stays_at : (p : Point) (m : Option Machine) (Unmeddled : Type 0) (To : Point → Type 0) (old new : Option (List ℕ)) → StandsAt p.stage m → (Unmeddled → IsCalmAt p.stage) → To p → new ≡ old
@@ -130,13 +129,13 @@ passed_reaches input rest q h = (q, rest, h, within_self q rest, h.right)
 whole_due : (input text : List ℕ) → IsDue input text → IsCutText input text Write
 whole_due input text due = (text, due, (length text, sym (take_all (length text) text (omega arith))))
 
-front_of : (input : List ℕ) (rest : List (List ℕ)) (q : Point) (e : SimFault) → HasPassed input rest q → IsCutText input (told_at e (text_at q)) e
+front_of : (input : List ℕ) (rest : List (List ℕ)) (q : Point) (e : SimFault) → HasPassed input rest q → IsCutText input (with_memory_line e (text_at q)) e
 front_of input rest q OutOfMemory h = (q, passed_reaches input rest q h, refl)
 front_of input rest q Read h = (rest, q, h, refl)
 front_of input rest q Write h = whole_due input (text_at q) (inl (q, passed_reaches input rest q h, inl refl))
 
 -- A clean text reports no failure, and neither does `out of memory` after it.
-clean_front : (e : SimFault) (text : List ℕ) → Clean text → HasNoFailure (told_at e text)
+clean_front : (e : SimFault) (text : List ℕ) → Clean text → HasNoFailure (with_memory_line e text)
 clean_front OutOfMemory text clean = clean_text (text ++ memory_text) (clean_append text memory_text clean memory_clean)
 clean_front Read text clean = clean_text text clean
 clean_front Write text clean = clean_text text clean
@@ -180,12 +179,12 @@ came_kept (Some input) left old mid new number m came keeps = record {
 beginning_behind : (a b part out : List ℕ) → b ≡ a ++ out → IsBeginning part out → IsBeginning (a ++ part) b
 beginning_behind a b part out e h = (length a + h.0, ap (λ l. a ++ l) h.1 ∙ (sym (take-append-add a out h.0) ∙ ap (take (length a + h.0)) (sym e)))
 
-front_part : (input : List ℕ) (p q : Point) (e : SimFault) (out part : List ℕ) → GetsTo input q → text_at q ≡ text_at p ++ out → IsCutAt e out part → IsCutText input (told_at e (text_at p ++ part)) e
+front_part : (input : List ℕ) (p q : Point) (e : SimFault) (out part : List ℕ) → GetsTo input q → text_at q ≡ text_at p ++ out → IsCutAt e out part → IsCutText input (with_memory_line e (text_at p ++ part)) e
 front_part input p q OutOfMemory out part reached eq left = (q, reached, ap (λ l. l ++ memory_text) (ap (λ l. text_at p ++ l) left ∙ sym eq))
 front_part input p q Read out part reached eq left = absurd left
 front_part input p q Write out part reached eq left = (text_at q, inl (q, reached, inl refl), beginning_behind (text_at p) (text_at q) part out eq left)
 
-clean_part : (p q : Point) (e : SimFault) (out part : List ℕ) → Clean (text_at q) → text_at q ≡ text_at p ++ out → IsCutAt e out part → HasNoFailure (told_at e (text_at p ++ part))
+clean_part : (p q : Point) (e : SimFault) (out part : List ℕ) → Clean (text_at q) → text_at q ≡ text_at p ++ out → IsCutAt e out part → HasNoFailure (with_memory_line e (text_at p ++ part))
 clean_part p q OutOfMemory out part clean eq left = clean_front OutOfMemory (text_at p ++ part) (subst Clean (eq ∙ ap (λ l. text_at p ++ l) (sym left)) clean)
 clean_part p q Read out part clean eq left = absurd left
 clean_part p q Write out part clean eq left =
@@ -238,7 +237,7 @@ cut_within (Some input) left later old mid new number m line bytes e came has dr
 -- The error line was written in part.
 pub cut_error : (all left later old mid next new : Option (List ℕ)) (number : ℕ) (m : Option Machine) (line bytes : List ℕ) (e : SimFault) →
     IfSome all (λ input. Came input left old mid number m) → IfSome left (λ xs. line ≡ take_through 10 xs) → DropsThrough left later 10 → 0 < length line → bytes ≡ strip_last 10 line
-    → ((p : Point) → StandsAt p.stage m → IsBad p.stage bytes × (next ≡ mid)) → IsUntold e (error_text (number + 1)) next new
+    → ((p : Point) → StandsAt p.stage m → IsBad p.stage bytes × (next ≡ mid)) → IsPrintedInPart e (error_text (number + 1)) next new
     → IsGivingUp all old new e
 cut_error None left later old mid next new number m line bytes e came has drops some cut bad told = tt
 cut_error (Some input) left later old mid next new number m line bytes Read came has drops some cut bad told = absurd told
@@ -316,7 +315,7 @@ unflushed (Some input) old mid new (Err f) e ok err keeps write =
 
 -- a text whose writing was given up
 pub untold : {T : Type 0} (result : Result T SimFault) (shown text : List ℕ) (old new : Option (List ℕ)) → shown ≡ text → (k : ℕ) × Appends old new (take k shown) → IfErr result (λ e. e ≡ Write)
-    → IfErr result (λ e. IsUntold e text old new)
+    → IfErr result (λ e. IsPrintedInPart e text old new)
 untold (Ok t) shown text old new same cut write = tt
 untold (Err e) shown text old new same cut write =
-    subst (λ (f : SimFault). IsUntold f text old new) (sym write) (take cut.0 text, (cut.0, refl), subst (λ t. Appends old new (take cut.0 t)) same cut.1)
+    subst (λ (f : SimFault). IsPrintedInPart f text old new) (sym write) (take cut.0 text, (cut.0, refl), subst (λ t. Appends old new (take cut.0 t)) same cut.1)

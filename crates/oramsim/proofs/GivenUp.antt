@@ -12,7 +12,7 @@ use Rattle.oram_semantics.specs.declared.events.Event.{Event}
 use Rattle.oram_semantics.specs.declared.events.Event.TheVariants as event
 use Rattle.oramsim.specs.Printer.{reaction_text}
 use Rattle.oramsim.specs.Script.{AtEvent, IsAnswered, IsDrained, Obeys, Running, after_turn, is_answer, is_meddling, left_at, newest_of, stage_text, with_host}
-use Rattle.oramsim.specs.Correspondence.{GivesUp, RunsOn, IsCalm, IsFaithful, IsHalted, IsHonestAt, IsCutAt, IsUnder, IsAtRun, IsWholeMachine, Prints, TellsPart}
+use Rattle.oramsim.specs.Correspondence.{GivesUp, RunsOn, IsCalm, IsFaithful, IsHalted, IsHonestAt, IsCutAt, IsUnder, IsAtRun, IsWholeMachine, Prints, PrintsPart}
 use Rattle.oramsim.specs.declared.line.Line.{Line}
 use Rattle.oramsim.specs.declared.line.Line.TheVariants as line
 use Rattle.oramsim.specs.declared.machine.Machine.{Machine}
@@ -33,7 +33,7 @@ raised P (Ok t) x same p = tt
 raised P (Err e) x same p = subst P (sym same) p
 
 -- Nothing is written after a point at which memory ran out.
-pub none_told : (a : List ℕ) (old new : Option (List ℕ)) → new ≡ old → TellsPart OutOfMemory a a old new
+pub none_told : (a : List ℕ) (old new : Option (List ℕ)) → new ≡ old → PrintsPart OutOfMemory a a old new
 none_told a old new same = ([], [], sym (append-nil a), refl, subst (λ w. Appends old w []) (sym same) (Appends-nil old))
 
 left_more : (e : SimFault) (o out part : List ℕ) → IsCutAt e out part → IsCutAt e (o ++ out) (o ++ part)
@@ -42,12 +42,12 @@ left_more Write o out part h = (length o + h.0, ap (λ l. o ++ l) h.1 ∙ sym (t
 left_more Read o out part h = absurd h
 
 -- What was printed before, and then a part.
-pub told_before : (e : SimFault) (a b c : List ℕ) (old mid new : Option (List ℕ)) → Prints a b old mid → TellsPart e b c mid new → TellsPart e a c old new
+pub told_before : (e : SimFault) (a b c : List ℕ) (old mid new : Option (List ℕ)) → Prints a b old mid → PrintsPart e b c mid new → PrintsPart e a c old new
 told_before e a b c old mid new p q =
     (p.0 ++ q.0, p.0 ++ q.1, q.2 ∙ (ap (λ l. l ++ q.0) p.1 ∙ append_assoc a p.0 q.0), left_more e p.0 q.0 q.1 q.3, Appends-trans old mid new p.0 q.1 p.2 q.4)
 
 -- The same after a head that was printed before.
-pub told_behind : (e : SimFault) (head a b : List ℕ) (old new : Option (List ℕ)) → TellsPart e a b old new → TellsPart e (head ++ a) (head ++ b) old new
+pub told_behind : (e : SimFault) (head a b : List ℕ) (old new : Option (List ℕ)) → PrintsPart e a b old new → PrintsPart e (head ++ a) (head ++ b) old new
 told_behind e head a b old new p = (p.0, p.1, ap (λ l. head ++ l) p.2 ∙ sym (append_assoc head a p.0), p.3, p.4)
 
 -- Memory ran out before anything was written.
@@ -73,7 +73,7 @@ pub answer_cut : (r : Running) (m n : Machine) (bytes : List ℕ) (e : SimFault)
     → GivesUp (with_host r n.server) (IsHonestAt (with_host r n.server) n.core.state (event.Answer bytes)) (λ later. (later ≡ with_host r n.server) ⊎ AtEvent (with_host r n.server) (event.Answer bytes) later) e old new
     → GivesUp r (IsFaithful r m.core.state) (λ later. (later ≡ r) ⊎ ((x : Shown) × IsAnswered r x later)) e old new
 answer_cut r m n bytes e old new w f h q = elim q.1 [
-  | inl same ↦ (r, inl refl, run_right r m f, (λ faithful. faithful.calm), subst (λ (k : Running). TellsPart e (stage_text (Some r)) (stage_text (Some k)) old new) same q.4)
+  | inl same ↦ (r, inl refl, run_right r m f, (λ faithful. faithful.calm), subst (λ (k : Running). PrintsPart e (stage_text (Some r)) (stage_text (Some k)) old new) same q.4)
   | inr a ↦ (q.0, inr (a.0, (bytes, n.server, replies_as r m n bytes f h, a.1)), q.2, (λ faithful. q.3 (r.host, honest_at r m n bytes w f h, rw h.core faithful)), q.4)
 ]
 
@@ -81,7 +81,7 @@ pub late_cut : (r : Running) (m n : Machine) (bytes : List ℕ) (e : SimFault) (
     → GivesUp (with_host r n.server) (IsHonestAt (with_host r n.server) n.core.state event.Lost) (λ later. (later ≡ with_host r n.server) ⊎ AtEvent (with_host r n.server) event.Lost later) e old new
     → GivesUp r (IsFaithful r m.core.state) (λ later. (later ≡ r) ⊎ Obeys r line.Late later) e old new
 late_cut r m n bytes e old new w f h q = elim q.1 [
-  | inl same ↦ (r, inl refl, run_right r m f, (λ faithful. faithful.calm), subst (λ (k : Running). TellsPart e (stage_text (Some r)) (stage_text (Some k)) old new) same q.4)
+  | inl same ↦ (r, inl refl, run_right r m f, (λ faithful. faithful.calm), subst (λ (k : Running). PrintsPart e (stage_text (Some r)) (stage_text (Some k)) old new) same q.4)
   | inr a ↦ (q.0, inr (bytes, n.server, replies_as r m n bytes f h, a), q.2, (λ faithful. q.3 (r.host, late_at r m n bytes w f h, rw h.core faithful)), q.4)
 ]
 

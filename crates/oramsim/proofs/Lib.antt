@@ -1,6 +1,5 @@
 pub mod FirstField
 pub mod Numbers
-pub mod Writes
 pub mod FirstLine
 pub mod Whole
 pub mod Turns

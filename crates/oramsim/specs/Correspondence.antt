@@ -120,27 +120,27 @@ IsCutAt Write out part = IsBeginning part out
 IsCutAt Read out part = ⊥
 
 -- At a fault, this part of the text between two points was written.
-abbrev pub TellsPart : SimFault → List ℕ → List ℕ → Option (List ℕ) → Option (List ℕ) → Type 0
-TellsPart fault before after old new = (out part : List ℕ) × (after ≡ before ++ out) × IsCutAt fault out part × Appends old new part
+abbrev pub PrintsPart : SimFault → List ℕ → List ℕ → Option (List ℕ) → Option (List ℕ) → Type 0
+PrintsPart fault before after old new = (out part : List ℕ) × (after ≡ before ++ out) × IsCutAt fault out part × Appends old new part
 
 -- The run was given up on its way to some point of `To`. If nothing meddled, the device didn't fail before that point.
 abbrev pub GivesUp : Running → Type 0 → (Running → Type 0) → SimFault → Option (List ℕ) → Option (List ℕ) → Type 0
 GivesUp r Unmeddled To fault old new =
-    (later : Running) × To later × HasRun (Some later) × (Unmeddled → IsCalm later) × TellsPart fault (stage_text (Some r)) (stage_text (Some later)) old new
+    (later : Running) × To later × HasRun (Some later) × (Unmeddled → IsCalm later) × PrintsPart fault (stage_text (Some r)) (stage_text (Some later)) old new
 
 abbrev pub GivesUpAt : Point → Type 0 → (Point → Type 0) → SimFault → Option (List ℕ) → Option (List ℕ) → Type 0
 GivesUpAt p Unmeddled To fault old new =
-    (q : Point) × To q × HasRun q.stage × (Unmeddled → IsCalmAt q.stage) × TellsPart fault (text_at p) (text_at q) old new
+    (q : Point) × To q × HasRun q.stage × (Unmeddled → IsCalmAt q.stage) × PrintsPart fault (text_at p) (text_at q) old new
 
 -- where a device may be within a line
 abbrev pub IsUnder : Running → Line → Running → Type 0
 IsUnder r line later = (later ≡ r) ⊎ (Obeys r line later ⊎ ((xs : List Shown) × (line ≡ Drain) × FoldsTo IsDrained r xs later))
 
 -- a text, followed by `out of memory` if that is the fault
-abbrev pub told_at : SimFault → List ℕ → List ℕ
-told_at OutOfMemory text = text ++ memory_text
-told_at Read text = text
-told_at Write text = text
+abbrev pub with_memory_line : SimFault → List ℕ → List ℕ
+with_memory_line OutOfMemory text = text ++ memory_text
+with_memory_line Read text = text
+with_memory_line Write text = text
 
 -- What a step leaves that was given up: if memory ran out, nothing was written; if writing failed, the step was made
 -- and a beginning of its text was written.
@@ -151,10 +151,10 @@ IsHalted Write d s event t old new =
 IsHalted Read d s event t old new = ⊥
 
 -- What was written of a text that was given up: nothing if memory ran out, a beginning if writing failed.
-abbrev pub IsUntold : SimFault → List ℕ → Option (List ℕ) → Option (List ℕ) → Type 0
-IsUntold OutOfMemory text old new = new ≡ old
-IsUntold Write text old new = (part : List ℕ) × IsBeginning part text × Appends old new part
-IsUntold Read text old new = ⊥
+abbrev pub IsPrintedInPart : SimFault → List ℕ → Option (List ℕ) → Option (List ℕ) → Type 0
+IsPrintedInPart OutOfMemory text old new = new ≡ old
+IsPrintedInPart Write text old new = (part : List ℕ) × IsBeginning part text × Appends old new part
+IsPrintedInPart Read text old new = ⊥
 
 -- Everything that the script's run prints up to this ending was written. If no line meddles, it reports no failure.
 abbrev pub HasEnded : Option (List ℕ) → Option (List ℕ) → Option (List ℕ) → Ending → Type 0
@@ -169,4 +169,4 @@ HasGivenUp unread old new fault =
 -- The same, before the line `out of memory` has been written after the text.
 abbrev pub IsGivingUp : Option (List ℕ) → Option (List ℕ) → Option (List ℕ) → SimFault → Type 0
 IsGivingUp unread old new fault =
-    IfSome unread (λ input. (text : List ℕ) × IsCutText input (told_at fault text) fault × (IsHarmlessScript input → HasNoFailure (told_at fault text)) × Appends old new text)
+    IfSome unread (λ input. (text : List ℕ) × IsCutText input (with_memory_line fault text) fault × (IsHarmlessScript input → HasNoFailure (with_memory_line fault text)) × Appends old new text)

@@ -21,8 +21,9 @@ use oram_geometry::{Device, ShapeFault};
 use oram_host::Server;
 use oram_state::{StateFault, decode_state, encode_state};
 use oram_tree::FormatFault;
+use oram_wire::write;
 use std::alloc::{AllocError, Global};
-use std::io::{ErrorKind, Write};
+use std::io::Write;
 
 /// Writes all of the text, or a beginning of it if the writer fails.
 pub fn put<W: Write>(writer: &mut W, text: &[u8]) -> Result<(), SimFault>
@@ -30,22 +31,10 @@ pub fn put<W: Write>(writer: &mut W, text: &[u8]) -> Result<(), SimFault>
     ensures cut { (count : ℕ) × Appends (W.contents writer.old) (W.contents writer.new) (take count text.now) }
     ensures fault { IfErr result (λ e. e ≡ SimFault.Write) }
 {
-    let mut at = 0;
-    for _ in 0..u64::MAX {
-        if at >= text.len() {
-            return Ok(());
-        }
-        match writer.write(&text[at..]) {
-            Ok(0) => return Err(SimFault::Write),
-            Ok(count) => at += count,
-            Err(error) => {
-                if error.kind() != ErrorKind::Interrupted {
-                    return Err(SimFault::Write);
-                }
-            }
-        }
+    match write(writer, text) {
+        Ok(()) => Ok(()),
+        Err(_) => Err(SimFault::Write),
     }
-    Err(SimFault::Write)
 }
 
 /// A device at work, with its host and the message that has no answer yet.

@@ -6,7 +6,7 @@ ghost use Rattle.oramsim.specs.declared.script.SimFault.TheVariants.{OutOfMemory
 ghost use Rattle.oramsim.specs.Printer.{error_text};
 ghost use Rattle.oramsim.specs.Lines.{line_of};
 ghost use Rattle.oramsim.specs.Script.{Point, IsBad, IsHarmless, IsPassed, IsWithin};
-ghost use Rattle.oramsim.specs.Correspondence.{AreWhole, GivesUpAt, HasEnded, HasGivenUp, IsGivingUp, RunsOnAt, IsFaithfulAt, IsUntold, StandsAt};
+ghost use Rattle.oramsim.specs.Correspondence.{AreWhole, GivesUpAt, HasEnded, HasGivenUp, IsGivingUp, RunsOnAt, IsFaithfulAt, IsPrintedInPart, StandsAt};
 
 use crate::line::Line;
 use crate::lines::{flush, next_line};
@@ -98,9 +98,9 @@ fn pass<W: Write>(
 }
 
 /// Prints the number of a line that the script can't have.
-fn tell_bad<W: Write>(alloc: Global, writer: &mut W, number: u64) -> Result<(), SimFault>
+fn print_bad_line<W: Write>(alloc: Global, writer: &mut W, number: u64) -> Result<(), SimFault>
     ensures ok { OnOk result (Appends (W.contents writer.old) (W.contents writer.new) (error_text number)) }
-    ensures err { IfErr result (λ e. IsUntold e (error_text number) (W.contents writer.old) (W.contents writer.new)) }
+    ensures err { IfErr result (λ e. IsPrintedInPart e (error_text number) (W.contents writer.old) (W.contents writer.new)) }
 {
     let text = format!(in alloc; "{}", ErrorText(number))?;
     put(writer, text.as_bytes())
@@ -124,7 +124,7 @@ fn run_lines<R: BufRead, W: Write>(
             return Ok(Ending::End);
         }
         if !pass(alloc, writer, &mut machine, without_end(line.as_slice()))? {
-            tell_bad(alloc, writer, number + 1)?;
+            print_bad_line(alloc, writer, number + 1)?;
             return Ok(Ending::BadLine(number + 1));
         }
     }

@@ -1,18 +1,15 @@
-use Rattle.std.proofs.Common.{ℕ, ◌≤◌, arith, length, length-drop, take, drop}
+use Rattle.std.proofs.Common.{ℕ, List, [], Option, Result, Ok, Err, append-nil}
+use Rattle.std.specs.Prelude.{OnOk, OnErr}
 use Rattle.std.specs.Io.KnownBytes.{Appends}
-use Rattle.std.proofs.KnownBytes.{Appends-kept}
-use Rattle.oram_host.proofs.Transfers.{Appends-next, rest_is}
+use Rattle.oram_wire.specs.FrameIo.{TakesPart}
+use Rattle.oram_host.specs.Transfers.{Begins}
+use Rattle.oram_host.proofs.Transfers.{begun}
 use Rattle.oram_cli.proofs.writer.put.Goals as goal
-use Rattle.oram_cli.proofs.writer.put.Goals.{in-Ok, in-Err+else-ne}
 
-pub loop-preserved : goal.loop-preserved
-loop-preserved g c =
-    elim c.match-write.branch as (λ _. (c.match-write.written ≤ length c.args.text.now) × Appends (g.W.Write.contents c.args.writer.now) (g.W.Write.contents c.write.new.self) (take c.match-write.written c.args.text.now)) [
-      | in-Ok w ↦
-          let some : w.in-Ok.count ≤ length (drop c.loop.written c.args.text.now) = rw (rest_is c.args.text.now c.loop.written) at w.in-Ok.ensures.bound in
-          rw w.written-is (
-            omega (arith, length-drop {A = ℕ}),
-            Appends-next _ _ _ c.args.text.now c.loop.written w.in-Ok.count c.loop.invariant.1 (rw (rest_is c.args.text.now c.loop.written) at w.in-Ok.ensures.bytes),
-          )
-      | in-Err+else-ne w ↦ rw w.written-is (c.loop.invariant.0, Appends-kept _ _ _ _ c.loop.invariant.1 w.in-Err.ensures.bytes)
-    ]
+-- all of the text was written, or a part of it
+begun_either : {T E : Type 0} (r : Result T E) (a b : Option (List ℕ)) (text : List ℕ) → OnOk r (Appends a b text) → OnErr r (TakesPart a b text) → Begins a b text
+begun_either (Ok x) a b text all part = begun a b text [] text all (append-nil text)
+begun_either (Err e) a b text all part = (part.0, part.2)
+
+pub returns-clause-begun : goal.returns-clause-begun
+returns-clause-begun g c = begun_either c.write.result _ _ c.args.text.now c.write.ensures.ok c.write.ensures.err

@@ -38,14 +38,14 @@ returns-in_err-pass-clause-err g c =
     raised _ _ e c.from_residual-in_err-pass.ensures.1 (cut_within _ _ _ _ _ _ _ _ c.next_line.new.line.items c.without_end.result.now e came (c.in_ok-next_line.ensures.bytes line) (c.in_ok-next_line.ensures.rest line) some
     (c.without_end.ensures ∙ ap (strip_last 10) c.as_slice.ensures.value) c.in_err-pass.ensures.err)
 
-pub returns-in_err-tell_bad-clause-err : goal.returns-in_err-tell_bad-clause-err
-returns-in_err-tell_bad-clause-err g c =
+pub returns-in_err-print_bad_line-clause-err : goal.returns-in_err-print_bad_line-clause-err
+returns-in_err-print_bad_line-clause-err g c =
     let came = came_kept _ _ _ _ _ _ _ c.loop-number.invariant.came c.next_line.ensures.text in
     let line : Ok c.in_ok-next_line.field-0 ≡ Ok true = ap Ok c.if-not-branch.false in
     let some : 0 < length c.next_line.new.line.items = omega (arith, c.in_ok-next_line.ensures.some line, c.next_line.new.line.ok.0) in
-    let e = c.in_err-tell_bad.field-0.0 in
-    raised _ _ e c.from_residual-in_err-tell_bad.ensures.1 (cut_error _ _ _ _ _ _ _ _ _ c.next_line.new.line.items c.without_end.result.now e came (c.in_ok-next_line.ensures.bytes line) (c.in_ok-next_line.ensures.rest line) some
-    (c.without_end.ensures ∙ ap (strip_last 10) c.as_slice.ensures.value) (λ p f. c.in_ok-pass.ensures.bad p f (ap Ok c.if-not-branch-2.true)) c.in_err-tell_bad.ensures.err)
+    let e = c.in_err-print_bad_line.field-0.0 in
+    raised _ _ e c.from_residual-in_err-print_bad_line.ensures.1 (cut_error _ _ _ _ _ _ _ _ _ c.next_line.new.line.items c.without_end.result.now e came (c.in_ok-next_line.ensures.bytes line) (c.in_ok-next_line.ensures.rest line) some
+    (c.without_end.ensures ∙ ap (strip_last 10) c.as_slice.ensures.value) (λ p f. c.in_ok-pass.ensures.bad p f (ap Ok c.if-not-branch-2.true)) c.in_err-print_bad_line.ensures.err)
 
 pub returns-then-not-branch-2-clause-ok : goal.returns-then-not-branch-2-clause-ok
 returns-then-not-branch-2-clause-ok g c =
@@ -53,7 +53,7 @@ returns-then-not-branch-2-clause-ok g c =
     let line : Ok c.in_ok-next_line.field-0 ≡ Ok true = ap Ok c.if-not-branch.false in
     let some : 0 < length c.next_line.new.line.items = omega (arith, c.in_ok-next_line.ensures.some line, c.next_line.new.line.ok.0) in
     came_bad _ _ _ _ _ _ _ _ _ c.next_line.new.line.items c.without_end.result.now came (c.in_ok-next_line.ensures.bytes line) (c.in_ok-next_line.ensures.rest line) some
-    (c.without_end.ensures ∙ ap (strip_last 10) c.as_slice.ensures.value) (λ p f. c.in_ok-pass.ensures.bad p f (ap Ok c.if-not-branch-2.true)) c.in_ok-tell_bad.ensures.ok
+    (c.without_end.ensures ∙ ap (strip_last 10) c.as_slice.ensures.value) (λ p f. c.in_ok-pass.ensures.bad p f (ap Ok c.if-not-branch-2.true)) c.in_ok-print_bad_line.ensures.ok
 
 pub returns-clause-err : goal.returns-clause-err
 returns-clause-err g c = cut_here _ _ _ _ _ _ _ Read c.loop-number.invariant.came (Keeps-refl _)

@@ -13,13 +13,13 @@ returns-clause-ok g c =
     let asked : c.deref.result.now ≡ answer_body answer = c.deref.ensures.value ∙ bytes in
     let counted : c.deref-2.result.now ≡ answer_body answer = c.deref-2.ensures.value ∙ bytes in (
       answer,
-      served_by g.F.FilePair.seen g.F.FilePair.may_leave g.F.FilePair.moment g.F.FilePair.left_since g.F.FilePair.is_honest _ _ _ _ _ c.self.view_is (record {
+      served_by g.F.FilePair.model _ _ _ _ _ c.self.view_is (record {
         counts = record {
           messages = c.with-self-inside.ensures.messages;
           received = c.with-self-inside.ensures.received;
           sent = c.with-self-inside.ensures.sent ∙ ap (λ (b : List ℕ). capped (c.self.inside.tally.sent + frame_len b)) counted;
         };
-        told = λ message numbers is. (call.ok.3 message numbers is).0;
+        responds = λ message numbers is. (call.ok.3 message numbers is).0;
         served = λ message numbers is honest sound. (call.ok.3 message numbers is).4 honest sound;
         sure = λ message numbers is at_once granted. (call.ok.3 message numbers is).1 at_once granted;
         goes_on = λ message numbers is granted. (call.ok.3 message numbers is).2 granted;

@@ -2,7 +2,7 @@ use Rattle.std.proofs.Common.{◌∙◌, refl}
 use Rattle.oramsim.specs.declared.script.SimFault.TheVariants.{OutOfMemory}
 use Rattle.oramsim.proofs.Cut.{untold}
 use Rattle.oramsim.proofs.GivenUp.{raised}
-use Rattle.oramsim.proofs.script.tell_bad.Goals as goal
+use Rattle.oramsim.proofs.script.print_bad_line.Goals as goal
 
 pub returns-in_err-text-clause-err : goal.returns-in_err-text-clause-err
 returns-in_err-text-clause-err g c = raised _ _ OutOfMemory c.from_residual.ensures.1 refl
