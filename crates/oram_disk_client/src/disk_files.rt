@@ -1,5 +1,13 @@
 //! The files of a disk at its client.
 
+ghost use Rattle.std.specs.Prelude.{◌≡◌, ◌≢◌, ◌↔◌, Ok, Err, None, Some, IfErr, IfOk, IsTrue, OnOk};
+ghost use Rattle.oram_cli.specs.declared.file_faults.FileFault.{FileFault};
+ghost use Rattle.oram_client.specs.Keys.{key_check};
+ghost use Rattle.oram_disk_client.specs.Faults.{IsAbout, IsMissing, IsUnreadFor};
+ghost use Rattle.oram_disk_client.specs.Sealers as spec;
+ghost use Rattle.oram_settings.specs.Differences.{AgreeAt, IsFirstDifference, fixed_keys};
+ghost use Rattle.oram_settings.specs.declared.differences.FixedKey.{FixedKey};
+
 use oram_bucket::Sealer;
 use oram_cli::{FileFault, FileReason, InputFault, LockFault, StateLock, lock_state};
 use oram_client::{
@@ -53,6 +61,13 @@ pub fn disk_in<R: Files + AllocGlobal>(
     }
 }
 
+/// Returns whether the fault is that the file doesn't exist.
+fn is_missing(fault: &FileFault) -> bool
+    ensures { IsTrue result ↔ IsMissing fault.now }
+{
+    matches!(fault, FileFault::File(_, FileReason::Missing))
+}
+
 /// Returns the bytes that were read of the kept file `state` of the disk whose settings are in the file `settings`. Fails
 /// with [`FaultKind::Unformatted`] if there is no kept file.
 pub fn state_bytes<R: Files + AllocGlobal>(
@@ -60,15 +75,17 @@ pub fn state_bytes<R: Files + AllocGlobal>(
     read: Result<Vec<u8>, FileFault>,
     state: &str,
     settings: &str,
-) -> Result<Vec<u8>, Fault> {
+) -> Result<Vec<u8>, Fault>
+    ensures ok { IfOk result (λ bytes. read ≡ Ok bytes) }
+    ensures fault { (why : FileFault) → read ≡ Err why → IfErr result (λ fault. IsUnreadFor why settings.now fault) }
+{
     let fault = match read {
         Ok(bytes) => return Ok(bytes),
         Err(fault) => fault,
     };
     let alloc = rt.alloc();
-    let is_missing = matches!(&fault, FileFault::File(_, FileReason::Missing));
     // A link has the file's name even if what it leads to is missing, as on a disk that isn't mounted.
-    if is_missing && kept_name(rt, alloc, state)?.is_none() {
+    if is_missing(&fault) && kept_name(rt, alloc, state)?.is_none() {
         Err(named(alloc, FaultKind::Unformatted, settings))
     } else {
         Err(fault.into())
@@ -85,7 +102,9 @@ pub fn take_lock(rt: &HostRuntime, state: &str) -> Result<StateLock, Fault> {
 }
 
 /// Makes a fault of this kind about `name`.
-pub fn named(alloc: Global, kind: FaultKind, name: &str) -> Fault {
+pub fn named(alloc: Global, kind: FaultKind, name: &str) -> Fault
+    ensures { IsAbout kind name.now result }
+{
     match String::from_str(alloc, name) {
         Ok(name) => Fault::About(kind, name),
         Err(_) => Fault::OutOfMemory,
@@ -123,7 +142,11 @@ pub fn keys_in(
     settings: &DiskSettings,
     head: &Head,
     name: &str,
-) -> Result<Keys, Fault> {
+) -> Result<Keys, Fault>
+    // The key is the one that the disk was formatted with.
+    ensures ok { OnOk result (key_check settings.now.key head.now.salt.0 ≡ head.now.key_check.0) }
+    ensures wrong { IfErr result (λ fault. (key_check settings.now.key head.now.salt.0 ≢ head.now.key_check.0) × IsAbout FaultKind.WrongKey name.now fault) }
+{
     match keys_for(&DiskKey(settings.key), head) {
         Ok(keys) => Ok(keys),
         Err(WrongKey) => Err(named(alloc, FaultKind::WrongKey, name)),
@@ -131,7 +154,9 @@ pub fn keys_in(
 }
 
 /// Returns the word of the settings for a sealer.
-fn sealing_of(sealer: SealerKind) -> Sealing {
+fn sealing_of(sealer: SealerKind) -> Sealing
+    ensures { result ≡ spec.sealing_of sealer }
+{
     match sealer {
         SealerKind::Plain => Sealing::Plain,
         SealerKind::ChaCha20 => Sealing::ChaCha,
@@ -139,7 +164,9 @@ fn sealing_of(sealer: SealerKind) -> Sealing {
 }
 
 /// Returns the sealer for a word of the settings.
-pub(crate) fn sealer_of(sealing: Sealing) -> SealerKind {
+pub(crate) fn sealer_of(sealing: Sealing) -> SealerKind
+    ensures { spec.sealing_of result ≡ sealing }
+{
     match sealing {
         Sealing::Plain => SealerKind::Plain,
         Sealing::ChaCha => SealerKind::ChaCha20,
@@ -152,7 +179,12 @@ pub fn check_settings(
     device: &Device,
     sealer: SealerKind,
     name: String,
-) -> Result<(), Fault> {
+) -> Result<(), Fault>
+    ensures ok { OnOk result (IsFirstDifference (AgreeAt settings.now device.now (spec.sealing_of sealer)) fixed_keys None) }
+    // The fault names the first key at which they differ.
+    ensures changed { IfErr result (λ fault. (key : FixedKey) × (fault ≡ Fault.About (FaultKind.Changed key) name)
+        × IsFirstDifference (AgreeAt settings.now device.now (spec.sealing_of sealer)) fixed_keys (Some key)) }
+{
     match first_difference(settings, device, sealing_of(sealer)) {
         None => Ok(()),
         Some(key) => Err(Fault::About(FaultKind::Changed(key), name)),

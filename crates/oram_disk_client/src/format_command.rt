@@ -1,5 +1,8 @@
 //! Formats a disk on its host.
 
+ghost use Rattle.std.specs.Prelude.{None, IfOk};
+ghost use Rattle.oram_client.specs.FilePlace.{FilePlaceState, NotesFound};
+
 use crate::disk_files::{disk_in, keys_in, sealer_of, take_lock};
 use crate::failures::forget_failure;
 use oram_bucket::{ChaChaSeal, PlainSeal, Sealer};
@@ -18,7 +21,7 @@ use std::io;
 use std::io::{ErrorKind, IsTerminal};
 use std::net::TcpStream;
 use std::random::RandomSource;
-use std::rt::Clock;
+use std::rt::{Clock, Files};
 use std::time::Instant;
 
 /// Prints on standard error how far a formatting is: on a terminal in one line that it overwrites, else in a new line
@@ -133,7 +136,10 @@ fn format_with<S: Sealer>(
     mut keeper: FileKeeper<FilePlace<&HostRuntime>>,
     identity: &Identity,
     settings: DiskSettings,
-) -> Result<(), Fault> {
+) -> Result<(), Fault>
+    // No kept file was found.
+    requires { (earlier : FilePlaceState) × NotesFound earlier None keeper.place }
+{
     let alloc = rt.alloc();
     let stored = stored_bytes(&device, settings.sealer);
     let core = formatted(rt, device, sealer, identity, settings.host, stored)?;
@@ -153,16 +159,23 @@ fn new_salt<R: RandomSource>(rt: &R) -> Result<Salt, Fault> {
     }
 }
 
+/// Returns a place of a kept file after no such file was found there. Fails with [`FaultKind::Formatted`] if there is one.
+fn free_place<R: Files + AllocGlobal + Drop>(mut place: FilePlace<R>) -> Result<FilePlace<R>, Fault>
+    ensures { IfOk result (λ free. NotesFound place None free) }
+{
+    match place.kept_name()? {
+        None => Ok(place),
+        Some(found) => Err(Fault::About(FaultKind::Formatted, found)),
+    }
+}
+
 /// Formats the disk whose settings are in the file `name`. Refuses a disk that already has a kept file, and leaves that
 /// as it is.
 pub fn format_disk(rt: &HostRuntime, name: String) -> Result<(), Fault> {
     let alloc = rt.alloc();
     let (settings, device) = disk_in(rt, name.as_str())?;
     let _lock = take_lock(rt, settings.state.as_str())?;
-    let mut place = FilePlace::new(rt, alloc, settings.state.as_str())?;
-    if let Some(found) = place.kept_name()? {
-        return Err(Fault::About(FaultKind::Formatted, found));
-    }
+    let place = free_place(FilePlace::new(rt, alloc, settings.state.as_str())?)?;
     // A failure that an earlier disk left, which has been removed since, says nothing about this one.
     forget_failure(rt, settings.state.as_str())?;
     let sealer = sealer_of(settings.sealer);

@@ -1,5 +1,8 @@
 //! Makes a new folder with the first settings of a disk.
 
+ghost use Rattle.std.specs.Fs.{asks_create_new, asks_write};
+ghost use Rattle.std.specs.Prelude.{◌≡◌, ◌≤◌, ◌<◌, ◌+◌, ◌*◌, ◌^◌, ℕ, true};
+
 use oram_cli::{FileFault, call_fault, file_fault};
 use oram_disk_host::{FIRST_SETTINGS, Fault, FaultKind};
 use oram_settings::{
@@ -21,11 +24,21 @@ fn create_folder<R: Files>(rt: &R, folder: &str) -> io::Result<()> {
     builder.create(rt, folder)
 }
 
-/// Creates a file for its owner alone, and writes a text to it. Fails if there is something of this name.
-fn write_new<R: Files>(rt: &R, name: &str, text: &str) -> io::Result<()> {
+/// Returns how a new file is opened: for its owner alone, and only if there is nothing of its name.
+fn new_file_options() -> OpenOptions
+    ensures write { asks_write result ≡ true }
+    ensures new { asks_create_new result ≡ true }
+{
     let mut options = OpenOptions::new();
-    options.write(true).create_new(true).mode(0o600);
-    let mut file = options.open(rt, name)?;
+    options.mode(0o600);
+    options.write(true);
+    options.create_new(true);
+    options
+}
+
+/// Writes a text to a new file.
+fn write_new<R: Files>(rt: &R, name: &str, text: &str) -> io::Result<()> {
+    let mut file = new_file_options().open(rt, name)?;
     file.write_all(text.as_bytes())?;
     file.sync_all()
 }
@@ -38,11 +51,7 @@ fn remove_folder<R: Files>(rt: &R, folder: &str, host: &str, disk: &str) {
 }
 
 /// Writes a new settings file.
-fn write_settings<R: Files + AllocGlobal>(
-    rt: &R,
-    name: &str,
-    text: &str,
-) -> Result<(), FileFault> {
+fn write_settings<R: Files + AllocGlobal>(rt: &R, name: &str, text: &str) -> Result<(), FileFault> {
     match write_new(rt, name, text) {
         Ok(()) => Ok(()),
         Err(error) => Err(call_fault(rt.alloc(), name, &error)),
@@ -61,7 +70,10 @@ fn fill_folder<R: Files + AllocGlobal>(
 }
 
 /// Rounds the size of a new disk up to whole blocks.
-fn whole_size(size: u64) -> u64 {
+fn whole_size(size: u64) -> u64
+    ensures whole { (blocks : ℕ) × (result ≡ blocks * DEFAULT_BLOCK) }
+    ensures least { size + DEFAULT_BLOCK ≤ 2 ^ 64 → (size ≤ result) × (result < size + DEFAULT_BLOCK) }
+{
     size.saturating_add(DEFAULT_BLOCK - 1) / DEFAULT_BLOCK * DEFAULT_BLOCK
 }
 

@@ -3,7 +3,7 @@
 use crate::disk_files::{disk_in, kept_in, process_in, state_bytes, take_lock};
 use crate::failures::{forget_failure, kept_failure};
 use oram_bucket::{ChaChaSeal, PlainSeal};
-use oram_client::{SealerKind, kept_bytes};
+use oram_client::{SealerKind, kept_bytes, kept_name};
 use oram_disk_host::{Fault, FaultKind};
 use oram_settings::{report, status_of};
 use std::alloc::{AllocError, Global};
@@ -50,14 +50,18 @@ pub fn print_status(rt: &HostRuntime, name: String) -> Result<(), Fault> {
 }
 
 /// Lets the failed disk whose settings are in the file `name` be tried again: the next process that serves it goes on
-/// from its kept state. Fails with [`FaultKind::NotFailed`] if the disk hasn't failed.
+/// from its kept state. Fails with [`FaultKind::NotFailed`] if the disk hasn't failed, and with [`FaultKind::Unformatted`] if
+/// it isn't formatted yet.
 pub fn retry(rt: &HostRuntime, name: String) -> Result<(), Fault> {
     let (settings, _) = disk_in(rt, name.as_str())?;
-    let _lock = take_lock(rt, settings.state.as_str())?;
-    if forget_failure(rt, settings.state.as_str())? {
+    let state = settings.state;
+    let _lock = take_lock(rt, state.as_str())?;
+    if forget_failure(rt, state.as_str())? {
         let _passed_over = rt.print("oramdisk serve goes on from the kept state\n");
-        Ok(())
-    } else {
-        Err(Fault::About(FaultKind::NotFailed, settings.state))
+        return Ok(());
+    }
+    match kept_name(rt, rt.alloc(), state.as_str())? {
+        Some(_) => Err(Fault::About(FaultKind::NotFailed, state)),
+        None => Err(Fault::About(FaultKind::Unformatted, name)),
     }
 }

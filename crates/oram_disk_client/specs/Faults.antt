@@ -1,0 +1,25 @@
+-- The faults with which the client's commands end.
+use Rattle.std.specs.Global.{Global}
+use Rattle.std.specs.Prelude.{◌≡◌, ◌⊎◌, ℕ, List, String, ⊤, string_bytes}
+use Rattle.oram_cli.specs.declared.file_faults.FileFault.{FileFault}
+use Rattle.oram_cli.specs.declared.file_faults.FileFault.TheVariants as file
+use Rattle.oram_cli.specs.declared.file_faults.FileReason.TheVariants as reason
+use Rattle.oram_disk_host.specs.Faults.{file_fault}
+use Rattle.oram_disk_host.specs.declared.faults.Fault.{Fault}
+use Rattle.oram_disk_host.specs.declared.faults.Fault.TheVariants.{About, OutOfMemory}
+use Rattle.oram_disk_host.specs.declared.kinds.FaultKind.{FaultKind}
+use Rattle.oram_disk_host.specs.declared.kinds.FaultKind.TheVariants as kind
+
+-- a fault of this kind about the name with these bytes, or there was no memory for the name
+abbrev pub IsAbout : FaultKind → List ℕ → Fault → Type 0
+IsAbout what name fault = ((copy : String Global) × (string_bytes copy ≡ name) × (fault ≡ About what copy)) ⊎ (fault ≡ OutOfMemory)
+
+-- the file doesn't exist
+abbrev pub IsMissing : FileFault → Type 0
+IsMissing (file.File name reason.Missing) = ⊤
+IsMissing any_other = ⊥
+
+-- The fault for a kept file that can't be read: the file's, or that the disk of these settings isn't formatted yet. The latter
+-- comes only if the file doesn't exist.
+abbrev pub IsUnreadFor : FileFault → List ℕ → Fault → Type 0
+IsUnreadFor why settings fault = (fault ≡ file_fault why) ⊎ (fault ≡ OutOfMemory) ⊎ (IsMissing why × IsAbout kind.Unformatted settings fault)
