@@ -167,7 +167,8 @@ impl FaultKind {
             FaultKind::Exists => " is there already, and is left as it is: name another folder\n",
             FaultKind::Formatted =>
                 " is there already, and is left as it is: to format anew, take it away, and name a new file at the host\n",
-            FaultKind::NotADisk => " isn't the state of a disk, and is left as it is: see that the settings name the right file\n",
+            FaultKind::NotADisk =>
+                " isn't the state of a disk, and is left as it is: see that the settings name the right file\n",
             FaultKind::OlderState =>
                 " is the state of a disk of an older version, and is left as it is: serve it with that version, and copy what is in it to a new disk\n",
             FaultKind::WrongKey =>
@@ -177,11 +178,13 @@ impl FaultKind {
             FaultKind::Host(why) => host_rest(why),
             FaultKind::StateNotKept =>
                 ": see that its folder may be written and has room, and start again\n",
-            FaultKind::UsedUp => " has made all its accesses, and can't be read any more: restore a backup of it to a new one\n",
+            FaultKind::UsedUp =>
+                " has made all its accesses, and can't be read any more: restore a backup of it to a new one\n",
             FaultKind::InUse => " is in use by another process: end that one first\n",
             FaultKind::Failed =>
                 " has failed, and oramdisk status says why: see that its own host is reached, with its own file, and then say oramdisk retry\n",
-            FaultKind::NotFailed => " has not failed, and is left as it is: oramdisk serve serves it\n",
+            FaultKind::NotFailed =>
+                " has not failed, and is left as it is: oramdisk serve serves it\n",
         }
     }
 

@@ -39,7 +39,11 @@ pub fn decode_state<S: Sealer>(alloc: Global, sealer: S, file: &[u8]) -> Result<
 ///
 /// Fails with `Content` if the fields have another overhead than the sealer, or parts that can't be a core's, and with
 /// `OutOfMemory` if memory runs out.
-pub fn decode_fields<S: Sealer>(alloc: Global, sealer: S, fields: &[u8]) -> Result<Core<S>, StateFault>
+pub fn decode_fields<S: Sealer>(
+    alloc: Global,
+    sealer: S,
+    fields: &[u8],
+) -> Result<Core<S>, StateFault>
     ensures sealer { IfOk result (λ c. c.sealer ≡ sealer) }
     ensures core { IfOk result (λ c. AreSavedFields fields.now (S.cipher sealer).overhead c.device c.state) }
     // It returns the core that was saved, unless memory runs out.

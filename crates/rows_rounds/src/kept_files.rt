@@ -88,7 +88,11 @@ pub(crate) fn tell_cut_fields(
 }
 
 /// Reads the file with another sealer than the one that it was written with.
-pub(crate) fn tell_other_sealer(alloc: Global, file: &[u8], page: &mut Page) -> Result<(), RowFault> {
+pub(crate) fn tell_other_sealer(
+    alloc: Global,
+    file: &[u8],
+    page: &mut Page,
+) -> Result<(), RowFault> {
     match decode_kept(alloc, ChaChaSeal { key: [0; 32] }, file) {
         Ok(_) => page.word("taken"),
         Err(KeptCoreFault::OutOfMemory) => return Err(RowFault::OutOfMemory),
