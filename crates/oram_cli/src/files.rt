@@ -50,7 +50,8 @@ pub fn create_for_owner<R: Files>(rt: &R, name: &str) -> io::Result<R::File> {
 /// start, so that a save doesn't fail because there is no memory for a name.
 ///
 /// Two other files get their names in the same way, each by steps of its own. `FilePlace` of `oram_client` notes each step
-/// for the contracts, and may leave out the syncs. `oram_store` renames two files together, and holds them open and locked.
+/// for the contracts, and may leave out the syncs. `oram_store` makes a file and its log: it renames the log, and then the
+/// file, which it has locked before anybody can open it by its name.
 #[derive(Debug, Drop)]
 pub struct AtomicFile {
     name: String,
