@@ -58,7 +58,7 @@ module _ {D W E : Type 0} (kind : DeviceKind D W E) (size : ℕ) where
       KeepsOn kind.had kind.hears kind.holds kind.kept old (RequestsTouchSomeByte size (map asked_in batch)) (λ _ bytes later. later ≡ array_after_requests (map asked_in batch) bytes) new
       ⊎ (All (λ a. IsRefusal a.reply) batch × ((new ≡ old) ⊎ SaysFault batch))
 
-  -- these requests were answered in batches, one after the other, each of which keeps what it did
+  -- The server answered these requests in batches, one after the other. KeepsBatch says what is kept of each.
   pub record KeepsBatches (old : D) (answered : List AnsweredRequest) (new : D) : Type 0 where
     pub batches : List (List AnsweredRequest)
     pub all : flat_map (λ batch. batch) batches ≡ answered

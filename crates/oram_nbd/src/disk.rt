@@ -33,7 +33,7 @@ pub trait BlockDevice {
     /// A call of the device from one state to another may have had these events.
     ghost had: { Self → List Event → Self → Type 0 };
 
-    /// Beside this world, of which the `Bool` says whether it may lie, the device holds these bytes, block after block.
+    /// The device holds these bytes, block after block, beside this world. The `Bool` says whether the world may lie.
     ghost holds: { Bool → Self → World → List ℕ → Type 0 };
 
     /// Beside this world, the next process would hold these bytes: it would begin with what outlasts this one.

@@ -40,7 +40,8 @@ fn attempt<S: Sealer, L: Link>(
 }
 
 /// Sends the outstanding message until it is answered, and sends it again at most `most` times, as `exchange` in
-/// `oram_session`. But if memory runs out in the link, the message doesn't count as lost: that ends the delivery.
+/// `oram_session`. But if memory runs out in the link, the message doesn't count as lost: that ends the delivery. Sessions of
+/// `oramd` count each fault of their link as a loss, also this one, so the two functions stay apart.
 ///
 /// Fails with `Stalled` if every call had a fault or found the host without room. The core's last message then counts as
 /// lost.
