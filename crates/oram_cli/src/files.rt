@@ -4,9 +4,10 @@ ghost use Rattle.std.specs.Prelude.{◌≡◌, ◌++◌, codes, string_bytes, If
 
 use crate::file_faults::{FileFault, call_fault};
 use std::alloc::{AllocError, Global};
-use std::fs::{OpenFile, OpenOptions};
+use std::fs::{File, OpenFile, OpenOptions};
 use std::io::{ErrorKind, Write};
 use std::os::unix::fs::OpenOptionsExt;
+use std::path::Path;
 use std::rt::Files;
 use std::{fs, io};
 
@@ -44,6 +45,19 @@ pub fn create_for_owner<R: Files>(rt: &R, name: &str) -> io::Result<R::File> {
         .truncate(true)
         .mode(OWNERS_ALONE);
     options.open(rt, name)
+}
+
+/// Returns the folder of the file `name`.
+pub fn folder_of(name: &str) -> &str {
+    match Path::new(name).parent() {
+        Some(folder) if folder.as_str() != "" => folder.as_str(),
+        _ => ".",
+    }
+}
+
+/// Syncs a folder, so that the names in it outlast a loss of power.
+pub fn sync_folder<R: Files>(rt: &R, folder: &str) -> io::Result<()> {
+    File::open(rt, folder)?.sync_all()
 }
 
 /// A file that is replaced as a whole: written under another name first, then renamed. It allocates both names at the
@@ -104,10 +118,12 @@ impl AtomicFile {
         create_for_owner(rt, self.new_name.as_str())
     }
 
-    /// Syncs a file that `begin` created, and renames it to its own name.
+    /// Syncs a file that `begin` created, renames it to its own name, and syncs its folder. Until the folder is synced, a loss
+    /// of power may bring the old file back; so an error of that sync is one of the whole call, although the new file is there.
     pub fn finish<R: Files>(&self, rt: &R, file: &R::File) -> io::Result<()> {
         file.sync_all()?;
-        fs::rename(rt, self.new_name.as_str(), self.name.as_str())
+        fs::rename(rt, self.new_name.as_str(), self.name.as_str())?;
+        sync_folder(rt, folder_of(self.name.as_str()))
     }
 
     fn write_bytes<R: Files>(&self, rt: &R, bytes: &[u8]) -> io::Result<()> {

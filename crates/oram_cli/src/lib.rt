@@ -20,11 +20,13 @@ mod writer;
 
 pub use command_line::{arguments, read_named, texts_of, word_taker};
 pub use file_faults::{FileFault, FileReason, call_fault, file_fault};
-pub use files::{AtomicFile, bytes_in, create_for_owner, new_name, text_in};
+pub use files::{
+    AtomicFile, bytes_in, create_for_owner, folder_of, new_name, sync_folder, text_in,
+};
 pub use hosts::HostFault;
 pub use input::InputFault;
 pub use locks::{LockFault, StateLock, lock_state};
-pub use sockets::{SocketFault, buffered, connect, connect_within, listen};
+pub use sockets::{SocketFault, buffered, connect, connect_within, limit_silence, listen};
 pub use tables::{
     address_at, begins_number, count_at, has_key, has_only, key_at, name_at, number_at, sealer_in,
     table_of,

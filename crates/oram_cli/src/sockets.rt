@@ -76,6 +76,12 @@ pub fn connect_within<R: Net + Clock>(
     Err(SocketFault::Failed)
 }
 
+/// Sets how long the other side of a connection may be silent, for the reader and the writer of the connection together.
+pub fn limit_silence<S: OpenStream>(stream: &S, limit: Duration) -> io::Result<()> {
+    stream.set_read_timeout(Some(limit))?;
+    stream.set_write_timeout(Some(limit))
+}
+
 /// Returns a buffered reader and a buffered writer for a stream.
 pub fn buffered<S: Read + Write + OpenStream + Drop>(
     alloc: Global,

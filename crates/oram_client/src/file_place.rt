@@ -13,12 +13,11 @@ use crate::deed_history::DeedHistory;
 use crate::file_step::{FileFailure, FileStep, step_result};
 use crate::kept_file::{Head, put_kept_file};
 use crate::place::Place;
-use oram_cli::{FileFault, call_fault, create_for_owner, new_name};
+use oram_cli::{FileFault, call_fault, create_for_owner, folder_of, new_name, sync_folder};
 use std::alloc::{AllocError, Global};
-use std::fs::{File, OpenFile};
+use std::fs::OpenFile;
 use std::io::ErrorKind;
 use std::marker::Model;
-use std::path::Path;
 use std::rt::Files;
 use std::{fs, io};
 
@@ -33,14 +32,6 @@ fn aside_name(alloc: Global, name: &str) -> Result<String, AllocError>
     let mut aside = String::from_str(alloc, name)?;
     aside.push_str(".aside")?;
     Ok(aside)
-}
-
-/// Returns the folder of the file `name`.
-fn folder_of(name: &str) -> &str {
-    match Path::new(name).parent() {
-        Some(folder) if folder.as_str() != "" => folder.as_str(),
-        _ => ".",
-    }
 }
 
 /// Returns `Ok` if the only trouble was that the file doesn't exist.
@@ -145,10 +136,6 @@ impl<R: Files> FilePlace<R> {
     fn rename(&self, from: &str, to: &str) -> io::Result<()> {
         fs::rename(&self.rt, from, to)
     }
-
-    fn sync_all(&self) -> io::Result<()> {
-        File::open(&self.rt, self.folder.as_str())?.sync_all()
-    }
 }
 
 impl<R: Files> Place for FilePlace<R> {
@@ -184,7 +171,10 @@ impl<R: Files> Place for FilePlace<R> {
     }
 
     fn sync_folder(&mut self) -> Result<(), FileFailure> {
-        let result = step_result(FileStep::SyncFolder, self.sync_all());
+        let result = step_result(
+            FileStep::SyncFolder,
+            sync_folder(&self.rt, self.folder.as_str()),
+        );
         self.history.note_sync_folder(result.is_ok());
         result
     }

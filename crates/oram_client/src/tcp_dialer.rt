@@ -9,7 +9,7 @@ use crate::dialer::{Dial, Limits, Trouble};
 use crate::identity::IDENTITY_TREE;
 use crate::reconnect_link::elapsed;
 use crate::timed_link::{TimedLink, milliseconds};
-use oram_cli::connect_within;
+use oram_cli::{connect_within, limit_silence};
 use oram_host::HostRefusal;
 use oram_rounds::BatchLink;
 use oram_session::LinkFault;
@@ -19,8 +19,8 @@ use std::io::{Read, Write};
 use std::marker::Model;
 use std::net::{Net, OpenStream};
 use std::rt::Clock;
+use std::thread;
 use std::time::Duration;
-use std::{io, thread};
 
 /// The longest time to connect to a host, in milliseconds.
 const LONGEST_CONNECTING: u64 = 10_000;
@@ -57,13 +57,6 @@ impl<R> TcpDialer<R> {
             identity,
         }
     }
-}
-
-/// Sets how many milliseconds the other side may be silent, for both halves of a connection.
-fn limit_silence<S: OpenStream>(stream: &S, milliseconds: u64) -> io::Result<()> {
-    let silence = Some(Duration::from_millis(milliseconds));
-    stream.set_read_timeout(silence)?;
-    stream.set_write_timeout(silence)
 }
 
 /// Compares the answer to a greeting with the identity that the host has to keep.
@@ -140,10 +133,10 @@ impl<R: Net + Clock + Copy> Dial for TcpDialer<R> {
             .opening
             .saturating_sub(elapsed(begin, self.now()))
             .max(1);
-        limit_silence(&both, left.min(limits.silence))?;
+        limit_silence(&both, Duration::from_millis(left.min(limits.silence)))?;
         match greet(alloc, reader, writer, self.rt, left, &self.identity) {
             Ok(mut line) => {
-                limit_silence(&both, limits.silence)?;
+                limit_silence(&both, Duration::from_millis(limits.silence))?;
                 line.lift_limit();
                 Ok(line)
             }

@@ -6,7 +6,7 @@ ghost use Rattle.oram_client.specs.FilePlace.{FilePlaceState, NotesFound};
 use crate::disk_files::{disk_in, keys_in, sealer_of, take_lock};
 use crate::failures::forget_failure;
 use oram_bucket::{ChaChaSeal, PlainSeal, Sealer};
-use oram_cli::{HostFault, buffered};
+use oram_cli::{HostFault, SocketFault, buffered, connect_within, limit_silence};
 use oram_client::{
     Ahead, DiskKey, FileKeeper, FilePlace, FormattingFault, Head, Identity, Progress, Salt,
     SealerKind, format_ahead,
@@ -18,11 +18,11 @@ use oram_rounds::{Keeper, encode_kept};
 use oram_settings::{DiskSettings, Meter, begun_text, percent, progress_text, stored_bytes};
 use std::alloc::{AllocError, Global};
 use std::io;
-use std::io::{ErrorKind, IsTerminal};
-use std::net::TcpStream;
+use std::io::{BufReader, BufWriter, IsTerminal};
+use std::net::Net;
 use std::random::RandomSource;
 use std::rt::{Clock, Files};
-use std::time::Instant;
+use std::time::{Duration, Instant};
 
 /// Prints on standard error how far a formatting is: on a terminal in one line that it overwrites, else in a new line
 /// for each tenth.
@@ -91,35 +91,48 @@ fn formatting_fault(fault: FormattingFault, host: String) -> Fault {
 }
 
 /// Returns the program's fault for a connection that can't be made.
-fn unreached(error: &io::Error, host: String) -> Fault {
-    match error.kind() {
-        ErrorKind::OutOfMemory => Fault::OutOfMemory,
-        _ => Fault::About(FaultKind::Host(HostFault::OutOfReach), host),
+fn unreached(fault: SocketFault, host: String) -> Fault {
+    match fault {
+        SocketFault::OutOfMemory => Fault::OutOfMemory,
+        SocketFault::Failed => Fault::About(FaultKind::Host(HostFault::OutOfReach), host),
     }
 }
 
-/// Formats a device on the host at address `host`. Its records take `stored` bytes there.
+/// A buffered reader and a buffered writer of a connection.
+type Buffers<S> = (BufReader<S>, BufWriter<S>);
+
+/// Connects to the host at an address. It may take `limit` to accept the connection, and may be silent for as long at any
+/// time after that.
+fn connected<R: Net + Clock + AllocGlobal>(
+    rt: &R,
+    host: &str,
+    limit: Duration,
+) -> Result<Buffers<R::Stream>, SocketFault> {
+    let (stream, _same) = connect_within(rt, host, limit)?;
+    limit_silence(&stream, limit)?;
+    Ok(buffered(rt.alloc(), stream)?)
+}
+
+/// Formats a device on the host that the settings name.
 fn formatted<S: Sealer>(
     rt: &HostRuntime,
     device: Device,
     sealer: S,
     identity: &Identity,
-    host: String,
-    stored: u64,
+    settings: &DiskSettings,
 ) -> Result<Core<S>, Fault> {
     let alloc = rt.alloc();
-    let halves = match TcpStream::connect(rt, host.as_str()) {
-        Ok(stream) => buffered(alloc, stream),
-        Err(error) => Err(error),
-    };
-    let (reader, writer) = match halves {
-        Ok(halves) => halves,
-        Err(error) => return Err(unreached(&error, host)),
+    let host = settings.host.clone()?;
+    let limit = Duration::from_secs(settings.reconnect_timeout);
+    let (reader, writer) = match connected(rt, host.as_str(), limit) {
+        Ok(buffers) => buffers,
+        Err(fault) => return Err(unreached(fault, host)),
     };
     let printer = match ProgressPrinter::new(rt, rt.stderr().is_terminal()) {
         Ok(printer) => printer,
-        Err(error) => return Err(unreached(&error, host)),
+        Err(error) => return Err(unreached(SocketFault::from(error), host)),
     };
+    let stored = stored_bytes(&device, settings.sealer);
     let _passed_over = printer.begin(stored, host.as_str());
     let mut ahead = Ahead::new(alloc, &device, reader, writer, printer);
     match format_ahead(alloc, device, sealer, identity, &mut ahead) {
@@ -141,8 +154,7 @@ fn format_with<S: Sealer>(
     requires { (earlier : FilePlaceState) × NotesFound earlier None keeper.place }
 {
     let alloc = rt.alloc();
-    let stored = stored_bytes(&device, settings.sealer);
-    let core = formatted(rt, device, sealer, identity, settings.host, stored)?;
+    let core = formatted(rt, device, sealer, identity, &settings)?;
     let file = encode_kept(alloc, &[], &core)?;
     match keeper.keep(file.as_slice()) {
         Ok(()) => Ok(()),

@@ -3,7 +3,7 @@
 ghost use Rattle.std.specs.Fs.{asks_create_new, asks_write};
 ghost use Rattle.std.specs.Prelude.{◌≡◌, ◌≤◌, ◌<◌, ◌+◌, ◌*◌, ◌^◌, ℕ, true};
 
-use oram_cli::{FileFault, call_fault, file_fault};
+use oram_cli::{FileFault, call_fault, file_fault, folder_of, sync_folder};
 use oram_disk_host::{FIRST_SETTINGS, Fault, FaultKind};
 use oram_settings::{
     DEFAULT_BLOCK, DEFAULT_SLOTS, DEFAULT_TABLE, Sealing, device_of, disk_text, made_text,
@@ -58,15 +58,28 @@ fn write_settings<R: Files + AllocGlobal>(rt: &R, name: &str, text: &str) -> Res
     }
 }
 
-/// Writes the settings of a new folder: those of its host to the file `host`, and `text` to the file `disk`.
+/// Syncs a new folder and the one that it lies in, so that a loss of power takes no name from either.
+fn sync_folders<R: Files + AllocGlobal>(rt: &R, folder: &str) -> Result<(), FileFault> {
+    for place in [folder, folder_of(folder)] {
+        if let Err(error) = sync_folder(rt, place) {
+            return Err(call_fault(rt.alloc(), place, &error));
+        }
+    }
+    Ok(())
+}
+
+/// Writes the settings of a new folder: those of its host to the file `host`, and `text` to the file `disk`. The key of the
+/// disk is in `text` alone, so all of it is synced before anything is encrypted under that key.
 fn fill_folder<R: Files + AllocGlobal>(
     rt: &R,
+    folder: &str,
     host: &str,
     disk: &str,
     text: &str,
 ) -> Result<(), FileFault> {
     write_settings(rt, host, FIRST_SETTINGS)?;
-    write_settings(rt, disk, text)
+    write_settings(rt, disk, text)?;
+    sync_folders(rt, folder)
 }
 
 /// Rounds the size of a new disk up to whole blocks.
@@ -136,7 +149,8 @@ pub fn make_folder<R: Files + RandomSource + Eprint + AllocGlobal>(
             file_fault(folder, &error).into()
         });
     }
-    let filled = fill_folder(rt, host.as_str(), disk.as_str(), first.text.as_str());
+    let text = first.text.as_str();
+    let filled = fill_folder(rt, folder.as_str(), host.as_str(), disk.as_str(), text);
     if let Err(fault) = filled {
         remove_folder(rt, folder.as_str(), host.as_str(), disk.as_str());
         return Err(fault.into());
