@@ -158,9 +158,9 @@ fn by_requests<K: Keeper + Drop>(
     let alloc = rt.alloc();
     let mut disk = formatted(alloc, keeper)?;
     let mut reader = OneAtATime { unread: said };
-    let mut told = Vec::new(alloc);
+    let mut replies = Vec::new(alloc);
     let start = Instant::now(rt)?;
-    let served = transmit(alloc, &mut reader, &mut told, &mut disk);
+    let served = transmit(alloc, &mut reader, &mut replies, &mut disk);
     let taken = start.elapsed(rt)?;
     if served == Ok(u64::from(REQUESTS)) {
         Ok(taken)

@@ -37,7 +37,7 @@ refused [] e asked (inr h) other = absurd h
 refused (kind ∷ kinds) e asked h other = refl
 
 -- an error that doesn't become OutOfMemory isn't one of memory
-not_memory : (k : ErrorKind) (told : NoRequest) → AnswersFault k told → told ≢ why.OutOfMemory → k ≢ OutOfMemory
+not_memory : (k : ErrorKind) (reason : NoRequest) → AnswersFault k reason → reason ≢ why.OutOfMemory → k ≢ OutOfMemory
 not_memory k (why.Help text) (inl h) other m = cc
 not_memory k (why.Help text) (inr h) other m = cc
 not_memory k (why.Mistake text) h other m = h.2 m
@@ -48,35 +48,35 @@ only k j (inl h) = h
 only k j (inr h) = absurd h
 
 -- an error of one of these kinds becomes what these kinds allow
-told_as : (kinds : Kinds) (e : Error) (told : NoRequest) → HasKind kinds e → AnswersFault (kind_of e) told → AnswersFaults kinds told
-told_as kinds e (why.Help text) (inl memory) (inl h) = absurd cc
-told_as kinds e (why.Help text) (inl memory) (inr h) = absurd cc
-told_as kinds e (why.Help text) (inr among) (inl h) = inl (subst (λ k. IsAmong k kinds) h among)
-told_as kinds e (why.Help text) (inr among) (inr h) = inr (subst (λ k. IsAmong k kinds) h among)
-told_as kinds e (why.Mistake text) (inl memory) h = absurd (h.2 memory)
-told_as kinds e (why.Mistake text) (inr among) h = (
+reason_as : (kinds : Kinds) (e : Error) (reason : NoRequest) → HasKind kinds e → AnswersFault (kind_of e) reason → AnswersFaults kinds reason
+reason_as kinds e (why.Help text) (inl memory) (inl h) = absurd cc
+reason_as kinds e (why.Help text) (inl memory) (inr h) = absurd cc
+reason_as kinds e (why.Help text) (inr among) (inl h) = inl (subst (λ k. IsAmong k kinds) h among)
+reason_as kinds e (why.Help text) (inr among) (inr h) = inr (subst (λ k. IsAmong k kinds) h among)
+reason_as kinds e (why.Mistake text) (inl memory) h = absurd (h.2 memory)
+reason_as kinds e (why.Mistake text) (inr among) h = (
   λ one. h.0 (only _ _ (subst (λ ks. IsAmong (kind_of e) ks) one among)),
   λ one. h.1 (only _ _ (subst (λ ks. IsAmong (kind_of e) ks) one among)),
 )
-told_as kinds e why.OutOfMemory known h = tt
+reason_as kinds e why.OutOfMemory known h = tt
 
 module _ (a : App) (same : a ≡ program) (words : List Text) where
   free : is_simple_and_free a ≡ true
   free = ap is_simple_and_free same ∙ is_free
 
-  pub asked_refused : (e : Error) → (is_simple_and_free a ≡ true → HasKind (fault_of a words) e) → (told : NoRequest) → AnswersFault (kind_of e) told → told ≢ why.OutOfMemory
+  pub asked_refused : (e : Error) → (is_simple_and_free a ≡ true → HasKind (fault_of a words) e) → (reason : NoRequest) → AnswersFault (kind_of e) reason → reason ≢ why.OutOfMemory
       → request_in words ≡ None
-  asked_refused e kinds told is other =
+  asked_refused e kinds reason is other =
       sym (ap (λ (b : App). unless_faulty (fault_of b words) (option_and_then request_by (subcommand_of b words))) same)
-      ∙ refused (fault_of a words) e _ (kinds free) (not_memory (kind_of e) told is other)
+      ∙ refused (fault_of a words) e _ (kinds free) (not_memory (kind_of e) reason is other)
 
   -- and it becomes what the faults that clap finds allow
-  pub told_refused : (e : Error) → (is_simple_and_free a ≡ true → HasKind (fault_of a words) e) → (told : NoRequest) → AnswersFault (kind_of e) told → AnswersFaults (fault_of program words) told
-  told_refused e kinds told is = subst (λ (b : App). AnswersFaults (fault_of b words) told) same (told_as (fault_of a words) e told (kinds free) is)
+  pub reason_refused : (e : Error) → (is_simple_and_free a ≡ true → HasKind (fault_of a words) e) → (reason : NoRequest) → AnswersFault (kind_of e) reason → AnswersFaults (fault_of program words) reason
+  reason_refused e kinds reason is = subst (λ (b : App). AnswersFaults (fault_of b words) reason) same (reason_as (fault_of a words) e reason (kinds free) is)
 
   -- if clap finds no fault
-  pub told_sound : (is_simple_and_free a ≡ true → fault_of a words ≡ []) → (told : NoRequest) → AnswersFaults [] told → AnswersFaults (fault_of program words) told
-  told_sound sound told is = subst (λ (b : App). AnswersFaults (fault_of b words) told) same (subst (λ (kinds : Kinds). AnswersFaults kinds told) (sym (sound free)) is)
+  pub reason_sound : (is_simple_and_free a ≡ true → fault_of a words ≡ []) → (reason : NoRequest) → AnswersFaults [] reason → AnswersFaults (fault_of program words) reason
+  reason_sound sound reason is = subst (λ (b : App). AnswersFaults (fault_of b words) reason) same (subst (λ (kinds : Kinds). AnswersFaults kinds reason) (sym (sound free)) is)
 
   module _ (m : ArgMatches) (sound : is_simple_and_free a ≡ true → fault_of a words ≡ []) (matches : HasMatchesOf a words m) where
     simple : is_simple a ≡ true

@@ -88,8 +88,8 @@ request_by matches = option_and_then (λ word. request_of matches.0 word (is_giv
 
 -- nothing if clap finds a fault
 abbrev pub unless_faulty : Kinds → Option Request → Option Request
-unless_faulty [] asked = asked
-unless_faulty (fault ∷ more) asked = None
+unless_faulty [] request = request
+unless_faulty (fault ∷ more) request = None
 
 -- what clap's matches of the words ask for
 abbrev pub request_in : List Text → Option Request

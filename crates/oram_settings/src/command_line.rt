@@ -251,7 +251,7 @@ pub fn read_command_line(alloc: Global, words: &[&str]) -> Result<Subcommand, No
     ensures none { IfErr result (λ why. why ≢ NoRequest.OutOfMemory → request_in (texts words.now) ≡ None) }
     // Help comes only if the words ask for help or the version, and a mistake only if they don't ask for one of these
     // alone.
-    ensures told { IfErr result (AnswersFaults (fault_of program (texts words.now))) }
+    ensures reason { IfErr result (AnswersFaults (fault_of program (texts words.now))) }
 {
     let matches = match command(alloc)?.try_get_matches_from(words) {
         Ok(matches) => matches,

@@ -8,7 +8,7 @@ mod random;
 
 use crate::lists::short_of;
 use crate::paths::{MadePath, bucket_len, made_path};
-use crate::trees::accesses::{Asked, Target, access, stored, told_host};
+use crate::trees::accesses::{AccessWords, Target, access, stored, tell_host};
 use oram_bucket::{Block, PlainSeal};
 use oram_geometry::Device;
 use oram_host::Server;
@@ -180,7 +180,7 @@ fn host_with_path(
 ) -> Result<Server, RowFault> {
     let shape = shape_of(device, number)?;
     let mut host = Server::new(alloc);
-    told_host(alloc, &mut host, &shape.encode(alloc)?)?;
+    tell_host(alloc, &mut host, &shape.encode(alloc)?)?;
     stored(alloc, &mut host, number, leaf, path)?;
     Ok(host)
 }
@@ -356,7 +356,7 @@ impl Trees {
         words: &mut RowWords,
         page: &mut Page,
     ) -> Result<Vec<u8>, RowFault> {
-        let asked = Asked::read(words);
+        let wanted = AccessWords::read(words);
         let edit = OwnedEdit::read(alloc, words)?;
         let target = Target {
             device,
@@ -364,7 +364,7 @@ impl Trees {
             parts: self.take_parts()?,
             host: &mut self.host,
         };
-        let reached = access(alloc, &PlainSeal, target, asked, edit.lent(), front)?;
+        let reached = access(alloc, &PlainSeal, target, wanted, edit.lent(), front)?;
         show_lookup(&reached.lookup, page);
         self.parts = Some(reached.parts);
         Ok(reached.records)

@@ -204,9 +204,9 @@ impl<S: Sealer + Copy> Machine<S> {
         Ok(())
     }
 
-    /// `core told`: writes the next ticket, how many commands wait, whether the core is idle, whether a store is
+    /// `core status`: writes the next ticket, how many commands wait, whether the core is idle, whether a store is
     /// outstanding, and why the device failed.
-    fn told(&self, page: &mut Page) {
+    fn status(&self, page: &mut Page) {
         page.word("next");
         page.number(self.core.next_ticket());
         page.part();
@@ -256,7 +256,7 @@ impl<S: Sealer + Copy> Machine<S> {
     /// Makes a call that changes nothing. `overhead` writes how many bytes the sealer adds to a bucket.
     fn look(&self, alloc: Global, call: &str, page: &mut Page) -> Result<(), RowFault> {
         match call {
-            "told" => self.told(page),
+            "status" => self.status(page),
             "stashes" => self.stashes(page),
             "message" => self.message(page),
             "overhead" => page.number(self.core.overhead()),
@@ -295,7 +295,7 @@ impl<S: Sealer + Copy> Machine<S> {
         page: &mut Page,
     ) -> Result<(), RowFault> {
         match call {
-            "told" | "stashes" | "message" | "overhead" | "next" | "run" => {
+            "status" | "stashes" | "message" | "overhead" | "next" | "run" => {
                 self.look(alloc, call, page)
             }
             "keep" | "kept" | "same" | "tamper" | "swap" | "snapshot" | "restore" => {

@@ -17,19 +17,19 @@ use std::alloc::Global;
 /// The answer of a host that has no room.
 const NO_ROOM: [u8; 2] = [0x81, 8];
 
-/// The block that is asked for, and the leaves and the nonce of the access.
+/// What a row says of an access: the address, both leaves of the block, and the nonce.
 #[derive(Clone, Copy)]
-pub struct Asked {
+pub struct AccessWords {
     pub address: u32,
     pub old_leaf: u32,
     pub new_leaf: u32,
     pub nonce: u32,
 }
 
-impl Asked {
+impl AccessWords {
     /// Reads four words.
-    pub fn read(words: &mut RowWords) -> Asked {
-        Asked {
+    pub fn read(words: &mut RowWords) -> AccessWords {
+        AccessWords {
             address: words.short(),
             old_leaf: words.short(),
             new_leaf: words.short(),
@@ -56,7 +56,7 @@ fn host_answer(alloc: Global, host: &mut Server, body: &[u8]) -> Result<Vec<u8>,
 }
 
 /// Sends the host a message that it answers with done.
-pub fn told_host(alloc: Global, host: &mut Server, body: &[u8]) -> Result<(), RowFault> {
+pub fn tell_host(alloc: Global, host: &mut Server, body: &[u8]) -> Result<(), RowFault> {
     let answer = host_answer(alloc, host, body)?;
     if answer.as_slice() == [GOOD].as_slice() {
         Ok(())
@@ -84,19 +84,19 @@ pub fn stored(
 ) -> Result<(), RowFault> {
     let mut store = store_header(tree, leaf).to_vec(alloc)?;
     store.extend_from_slice(records)?;
-    told_host(alloc, host, &store)
+    tell_host(alloc, host, &store)
 }
 
 /// Returns whether a tree has the block and the leaves.
-fn is_asked(device: &Device, tree: u8, asked: Asked) -> bool
+fn fits_tree(device: &Device, tree: u8, wanted: AccessWords) -> bool
     requires { tree < trees_of device.now }
-    ensures address { result ≡ true → asked.address < blocks_in device.now tree }
-    ensures old_leaf { result ≡ true → asked.old_leaf < 2 ^ depth_of device.now tree }
-    ensures new_leaf { result ≡ true → asked.new_leaf < 2 ^ depth_of device.now tree }
+    ensures address { result ≡ true → wanted.address < blocks_in device.now tree }
+    ensures old_leaf { result ≡ true → wanted.old_leaf < 2 ^ depth_of device.now tree }
+    ensures new_leaf { result ≡ true → wanted.new_leaf < 2 ^ depth_of device.now tree }
 {
-    asked.address < device.blocks_in(tree)
-        && has_leaf(device, tree, asked.old_leaf)
-        && has_leaf(device, tree, asked.new_leaf)
+    wanted.address < device.blocks_in(tree)
+        && has_leaf(device, tree, wanted.old_leaf)
+        && has_leaf(device, tree, wanted.new_leaf)
 }
 
 /// Returns whether an edit is one for a block of this tree.
@@ -114,14 +114,14 @@ fn is_edit(device: &Device, tree: u8, edit: Edit<'_>) -> bool
 }
 
 /// Fails with [`RowFault::NoRow`] if the device has no tree with this block, these leaves and this edit.
-fn check_asked(device: &Device, tree: u8, asked: Asked, edit: Edit<'_>) -> Result<(), RowFault>
+fn check_fit(device: &Device, tree: u8, wanted: AccessWords, edit: Edit<'_>) -> Result<(), RowFault>
     ensures tree { OnOk result (tree < trees_of device.now) }
-    ensures address { OnOk result (asked.address < blocks_in device.now tree) }
-    ensures old_leaf { OnOk result (asked.old_leaf < 2 ^ depth_of device.now tree) }
-    ensures new_leaf { OnOk result (asked.new_leaf < 2 ^ depth_of device.now tree) }
+    ensures address { OnOk result (wanted.address < blocks_in device.now tree) }
+    ensures old_leaf { OnOk result (wanted.old_leaf < 2 ^ depth_of device.now tree) }
+    ensures new_leaf { OnOk result (wanted.new_leaf < 2 ^ depth_of device.now tree) }
     ensures edit { OnOk result (IsEditOf device.now tree edit.entry) }
 {
-    if tree < device.trees() && is_asked(device, tree, asked) && is_edit(device, tree, edit) {
+    if tree < device.trees() && fits_tree(device, tree, wanted) && is_edit(device, tree, edit) {
         Ok(())
     } else {
         Err(RowFault::NoRow)
@@ -153,23 +153,23 @@ fn reach<S: Sealer>(
     sealer: &S,
     tree: &mut Tree,
     bytes: &[u8],
-    asked: Asked,
+    wanted: AccessWords,
     edit: Edit<'_>,
     front: Option<Vec<u8>>,
 ) -> Result<(Lookup, Vec<u8>), RowFault>
     requires number { tree.old.number < trees_of device.now }
-    requires address { asked.address < blocks_in device.now tree.old.number }
-    requires old_leaf { asked.old_leaf < 2 ^ depth_of device.now tree.old.number }
-    requires new_leaf { asked.new_leaf < 2 ^ depth_of device.now tree.old.number }
+    requires address { wanted.address < blocks_in device.now tree.old.number }
+    requires old_leaf { wanted.old_leaf < 2 ^ depth_of device.now tree.old.number }
+    requires new_leaf { wanted.new_leaf < 2 ^ depth_of device.now tree.old.number }
     requires edit { IsEditOf device.now tree.old.number edit }
     requires blocks { All (IsBlockOf device.now tree.old.number) tree.old.stash }
 {
-    let Asked {
+    let AccessWords {
         address,
         old_leaf,
         new_leaf,
         nonce,
-    } = asked;
+    } = wanted;
     let nonce = u64::from(nonce);
     let Ok(path) = tree.check(device, old_leaf, sealer.overhead(), bytes) else {
         return Err(RowFault::NoRow);
@@ -237,13 +237,13 @@ fn carried_out<S: Sealer>(
     number: u8,
     parts: TreeParts,
     bytes: &[u8],
-    asked: Asked,
+    wanted: AccessWords,
     edit: Edit<'_>,
     front: Option<Vec<u8>>,
 ) -> Result<Reached, RowFault> {
-    check_asked(device, number, asked, edit)?;
+    check_fit(device, number, wanted, edit)?;
     let mut tree = whole_tree(alloc, device, number, parts)?;
-    let (lookup, records) = reach(alloc, device, sealer, &mut tree, bytes, asked, edit, front)?;
+    let (lookup, records) = reach(alloc, device, sealer, &mut tree, bytes, wanted, edit, front)?;
     Ok(Reached {
         lookup,
         parts: tree.parts(alloc)?,
@@ -256,7 +256,7 @@ pub fn access<S: Sealer>(
     alloc: Global,
     sealer: &S,
     target: Target<'_>,
-    asked: Asked,
+    wanted: AccessWords,
     edit: Edit<'_>,
     front: Option<Vec<u8>>,
 ) -> Result<Reached, RowFault> {
@@ -270,11 +270,11 @@ pub fn access<S: Sealer>(
         Some(front) => front.len(),
         None => 0,
     };
-    let bytes = fetched(alloc, host, number, asked.old_leaf)?;
+    let bytes = fetched(alloc, host, number, wanted.old_leaf)?;
     let reached = carried_out(
-        alloc, device, sealer, number, parts, &bytes, asked, edit, front,
+        alloc, device, sealer, number, parts, &bytes, wanted, edit, front,
     )?;
     let records = reached.records.get(start..).unwrap_or_default();
-    stored(alloc, host, number, asked.old_leaf, records)?;
+    stored(alloc, host, number, wanted.old_leaf, records)?;
     Ok(reached)
 }

@@ -1,7 +1,7 @@
 //! Many accesses to a tree, compared with a plain map.
 ghost use Rattle.std.specs.Prelude.{◌≢◌, ◌<◌};
 
-use super::accesses::{Asked, Reached, Target, access};
+use super::accesses::{AccessWords, Reached, Target, access};
 use super::{host_of, row_fault};
 use crate::stashes::next;
 use oram_bucket::{ChaChaSeal, PlainSeal, Sealer};
@@ -59,18 +59,18 @@ fn pair_of(alloc: Global, parts: TreeParts, messages: &[Vec<u8>]) -> Result<Pair
 
 /// Returns an access that the generator chooses, on the path that the map names, and the byte that decides about the
 /// edit.
-fn choose(leaves: u32, plain: &[Held; BLOCKS], state: &mut u64) -> (Asked, u8)
+fn choose(leaves: u32, plain: &[Held; BLOCKS], state: &mut u64) -> (AccessWords, u8)
     requires { leaves ≢ 0 }
     ensures { result.0.address < 8 }
 {
     let address = next(state) % BLOCKS as u32;
-    let asked = Asked {
+    let wanted = AccessWords {
         address,
         old_leaf: plain[address as usize].leaf.unwrap_or(next(state) % leaves),
         new_leaf: next(state) % leaves,
         nonce: next(state),
     };
-    (asked, (next(state) % 256) as u8)
+    (wanted, (next(state) % 256) as u8)
 }
 
 /// Returns the edit for a byte, and the byte that fills the block afterwards. An even byte changes nothing, and an odd
@@ -90,7 +90,7 @@ impl Pair {
         alloc: Global,
         device: &Device,
         sealer: &S,
-        asked: Asked,
+        wanted: AccessWords,
         edit: Edit<'_>,
     ) -> Result<Lookup, RowFault> {
         let none = TreeParts {
@@ -103,7 +103,7 @@ impl Pair {
             parts: replace(&mut self.parts, none),
             host: &mut self.host,
         };
-        let Reached { lookup, parts, .. } = access(alloc, sealer, target, asked, edit, None)?;
+        let Reached { lookup, parts, .. } = access(alloc, sealer, target, wanted, edit, None)?;
         self.parts = parts;
         Ok(lookup)
     }
@@ -117,14 +117,14 @@ impl Pair {
         state: &mut u64,
     ) -> Result<bool, RowFault> {
         prove!(device.trees() > 0 && device.depth(0) <= 24);
-        let (asked, byte) = choose(1u32 << device.depth(0), &self.plain, state);
-        let place = asked.address as usize;
+        let (wanted, byte) = choose(1u32 << device.depth(0), &self.plain, state);
+        let place = wanted.address as usize;
         let Held { leaf, fill } = self.plain[place];
         let content = [byte; BLOCK_BYTES];
         let (edit, after) = edit_of(byte, &content, fill);
-        let lookup = self.access(alloc, device, sealer, asked, edit)?;
+        let lookup = self.access(alloc, device, sealer, wanted, edit)?;
         self.plain[place] = Held {
-            leaf: Some(asked.new_leaf),
+            leaf: Some(wanted.new_leaf),
             fill: after,
         };
         let is_same = lookup.before.as_slice() == [fill; BLOCK_BYTES].as_slice();
