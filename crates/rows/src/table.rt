@@ -141,13 +141,13 @@ fn ended<W: Write>(writer: &mut W, answered: io::Result<()>) -> ExitCode {
         Err(error) if error.kind() == ErrorKind::OutOfMemory => 3,
         Err(_) => 4,
     };
-    let told = if status == 3 {
+    let written = if status == 3 {
         writeln!(writer, "out of memory")
     } else {
         Ok(())
     };
     let flushed = writer.flush();
-    ExitCode::from(if told.is_err() || flushed.is_err() {
+    ExitCode::from(if written.is_err() || flushed.is_err() {
         4
     } else {
         status
