@@ -3,7 +3,7 @@ pub mod Bytes
 pub mod Heal
 pub mod Logs
 pub mod Moments
-mod Outcomes
+pub mod Outcomes
 pub mod Smears
 pub mod Consistent
 pub mod Commit

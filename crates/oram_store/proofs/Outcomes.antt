@@ -1,40 +1,16 @@
 -- What a function owes where it ends early, because a call in it has failed.
 use Rattle.std.proofs.Common.{◌≡◌, ℕ, true, false, true≢false, inl, sym, ◌∙◌, subst, Result, Ok, Err}
-use Rattle.std.specs.Prelude.{IfErr, IfOk, IsErr, IsErrAnd, OnErr, OnOk}
+use Rattle.std.specs.Prelude.{IfErr, IsErrAnd, OnErr}
 use Rattle.oram_redo.specs.FilePair.{ComesAfter, FileModel}
+use Rattle.oram_redo.proofs.Outcomes.{on_ok_holds}
 use Rattle.oram_store.specs.RecordFile.{Calls, FileValue, IsReason, Runs}
 use Rattle.oram_store.specs.declared.faults.StoreFault.{StoreFault}
 use Rattle.oram_store.specs.declared.faults.StoreFault.TheVariants.{Closed, OutOfMemory}
 use Rattle.oram_store.proofs.Crashes.{calls_err, runs_none}
 
--- a clause about success says nothing of an error
-pub on_ok_none : {T E : Type 0} (result : Result T E) (P : Type 0) → IsErr result → OnOk result P
-on_ok_none {T} {E} (Ok x) P is = absurd (not_err is)
-  where
-    not_err : IsErr {E = E} (Ok x) → ⊥
-    not_err h = cc
-on_ok_none (Err e) P is = tt
-
-pub if_ok_none : {T E : Type 0} (result : Result T E) (P : T → Type 0) → IsErr result → IfOk result P
-if_ok_none {T} {E} (Ok x) P is = absurd (not_err is)
-  where
-    not_err : IsErr {E = E} (Ok x) → ⊥
-    not_err h = cc
-if_ok_none (Err e) P is = tt
-
--- what holds of each outcome
-pub on_ok_holds : {T E : Type 0} (result : Result T E) (P : Type 0) → P → OnOk result P
-on_ok_holds (Ok x) P holds = holds
-on_ok_holds (Err e) P holds = tt
-
 pub on_err_holds : {T E : Type 0} (result : Result T E) (P : Type 0) → P → OnErr result P
 on_err_holds (Ok x) P holds = tt
 on_err_holds (Err e) P holds = holds
-
--- an error that is passed on
-pub if_err_passed : {T E : Type 0} (result : Result T E) (error : E) (P : E → Type 0) → IsErrAnd result (λ e. e ≡ error) → P error → IfErr result P
-if_err_passed (Ok x) error P is holds = absurd is
-if_err_passed (Err e) error P is holds = subst P (sym is) holds
 
 module _ {F : Type 0} (model : FileModel F) where
   -- the error of the only call is passed on

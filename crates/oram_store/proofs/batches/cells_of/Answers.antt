@@ -3,7 +3,7 @@ use Rattle.oram_host.proofs.Paths.{step_is}
 use Rattle.oram_host.specs.Path.{record_at}
 use Rattle.oram_layout.proofs.Changes.{length-record_at}
 use Rattle.oram_store.specs.Batches.{HoldsCells}
-use Rattle.oram_store.proofs.Outcomes.{if_ok_none}
+use Rattle.oram_redo.proofs.Outcomes.{if_ok_none}
 use Rattle.oram_store.proofs.BatchBytes.{cells_more}
 use Rattle.oram_store.proofs.batches.cells_of.Goals as goal
 

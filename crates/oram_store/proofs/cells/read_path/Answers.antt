@@ -7,7 +7,8 @@ use Rattle.oram_redo.specs.declared.file_pair.FileKind.TheVariants.{Records}
 use Rattle.oram_store.specs.Batches.{records_of_tree}
 use Rattle.oram_store.proofs.Crashes.{calls_residual, runs_none, runs_then}
 use Rattle.oram_store.proofs.Levels.{lacks_at, read_more}
-use Rattle.oram_store.proofs.Outcomes.{calls_memory, if_ok_none, on_ok_none}
+use Rattle.oram_redo.proofs.Outcomes.{if_ok_none, on_ok_none}
+use Rattle.oram_store.proofs.Outcomes.{calls_memory}
 use Rattle.oram_store.proofs.Sound.{reads_nothing, reads_then}
 use Rattle.oram_store.proofs.cells.read_path.Goals as goal
 

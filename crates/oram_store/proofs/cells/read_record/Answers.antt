@@ -1,6 +1,7 @@
 use Rattle.std.proofs.Common.{true, false, true≢false, sym, Ok}
 use Rattle.oram_store.proofs.Crashes.{calls_ok, calls_residual, calls_then}
-use Rattle.oram_store.proofs.Outcomes.{calls_passed, if_ok_none, on_ok_none}
+use Rattle.oram_redo.proofs.Outcomes.{if_ok_none, on_ok_none}
+use Rattle.oram_store.proofs.Outcomes.{calls_passed}
 use Rattle.oram_store.proofs.Sound.{reads_then}
 use Rattle.oram_store.proofs.cells.read_record.Goals as goal
 

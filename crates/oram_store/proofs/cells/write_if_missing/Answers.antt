@@ -4,7 +4,8 @@ use Rattle.oram_layout.specs.Trees.{cell_at}
 use Rattle.oram_layout.proofs.Changes.{unmarked_off}
 use Rattle.oram_redo.specs.declared.file_pair.FileKind.TheVariants.{Records}
 use Rattle.oram_store.proofs.Crashes.{calls_ok, calls_then}
-use Rattle.oram_store.proofs.Outcomes.{calls_passed, on_ok_none}
+use Rattle.oram_redo.proofs.Outcomes.{on_ok_none}
+use Rattle.oram_store.proofs.Outcomes.{calls_passed}
 use Rattle.oram_store.proofs.Sound.{leaves_then, loose_leaves, reads_leave}
 use Rattle.oram_store.proofs.cells.write_if_missing.Goals as goal
 

@@ -2,7 +2,7 @@ use Rattle.std.proofs.Common.{ℕ, List, length, refl, ◌∙◌, ap, subst, ari
 use Rattle.oram_redo.specs.Content.{Agrees, Has, put}
 use Rattle.oram_redo.specs.declared.file_pair.FileKind.TheVariants.{Log, Records}
 use Rattle.oram_layout.specs.Header.{letters}
-use Rattle.oram_store.proofs.Outcomes.{on_ok_none}
+use Rattle.oram_redo.proofs.Outcomes.{on_ok_none}
 use Rattle.oram_store.proofs.Recovery.{first_file, front_stands, put_in_empty}
 use Rattle.oram_store.proofs.creation.create.Goals as goal
 

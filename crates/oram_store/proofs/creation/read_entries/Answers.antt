@@ -1,6 +1,6 @@
 use Rattle.oram_redo.specs.declared.file_pair.FileKind.TheVariants.{Records}
 use Rattle.oram_redo.proofs.Bytes.{has_along, has_read}
-use Rattle.oram_store.proofs.Outcomes.{if_ok_none}
+use Rattle.oram_redo.proofs.Outcomes.{if_ok_none}
 use Rattle.oram_store.proofs.creation.read_entries.Goals as goal
 
 pub returns-clause-entries : goal.returns-clause-entries

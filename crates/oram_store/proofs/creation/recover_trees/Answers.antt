@@ -3,7 +3,7 @@ use Rattle.std.proofs.lemmas.Result.{err_from_is_err_and}
 use Rattle.oram_redo.specs.Content.{Has, put}
 use Rattle.oram_redo.specs.declared.file_pair.FileKind.TheVariants.{Records}
 use Rattle.oram_redo.proofs.Bytes.{has-put}
-use Rattle.oram_store.proofs.Outcomes.{if_ok_none}
+use Rattle.oram_redo.proofs.Outcomes.{if_ok_none}
 use Rattle.oram_store.proofs.Recovery.{not_read, not_recovered, not_trees, opens_on}
 use Rattle.oram_store.proofs.creation.recover_trees.Goals as goal
 

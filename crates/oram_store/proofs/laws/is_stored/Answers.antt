@@ -3,7 +3,7 @@ use Rattle.std.specs.Prelude.{IfOk}
 use Rattle.oram_layout.specs.Trees.{shape_at, sizes_of}
 use Rattle.oram_store.proofs.Crashes.{runs_then}
 use Rattle.oram_store.proofs.Lives.{path_found, shape_given}
-use Rattle.oram_store.proofs.Outcomes.{if_ok_none}
+use Rattle.oram_redo.proofs.Outcomes.{if_ok_none}
 use Rattle.oram_store.proofs.laws.is_stored.Goals as goal
 
 -- four facts about an outcome lead to a fifth

@@ -5,7 +5,8 @@ use Rattle.oram_redo.specs.Batch.{patches_of}
 use Rattle.oram_redo.specs.Log.{Fits, Patch, entries}
 use Rattle.oram_store.specs.RecordFile.{bounds}
 use Rattle.oram_store.proofs.Crashes.{commits_none, runs_none}
-use Rattle.oram_store.proofs.Outcomes.{calls_memory, on_ok_none}
+use Rattle.oram_redo.proofs.Outcomes.{on_ok_none}
+use Rattle.oram_store.proofs.Outcomes.{calls_memory}
 use Rattle.oram_store.proofs.BatchBytes.{length-marks, marks_fit}
 use Rattle.oram_store.proofs.store.commit_marks.Goals as goal
 

@@ -7,7 +7,8 @@ use Rattle.oram_redo.specs.Log.{Fits, Patch, entries}
 use Rattle.oram_store.specs.Batches.{HoldsCells}
 use Rattle.oram_store.specs.RecordFile.{Commits, bounds}
 use Rattle.oram_store.proofs.Crashes.{commits_none, runs_none}
-use Rattle.oram_store.proofs.Outcomes.{calls_memory, on_ok_none}
+use Rattle.oram_redo.proofs.Outcomes.{on_ok_none}
+use Rattle.oram_store.proofs.Outcomes.{calls_memory}
 use Rattle.oram_store.proofs.BatchBytes.{path_short}
 use Rattle.oram_store.proofs.store.commit_path.Goals as goal
 

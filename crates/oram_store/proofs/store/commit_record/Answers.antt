@@ -1,7 +1,8 @@
 use Rattle.std.proofs.Common.{[], ◌∷◌}
 use Rattle.oram_layout.specs.Changes.{record_patch}
 use Rattle.oram_store.proofs.Crashes.{commits_none, runs_none}
-use Rattle.oram_store.proofs.Outcomes.{calls_memory, on_ok_none}
+use Rattle.oram_redo.proofs.Outcomes.{on_ok_none}
+use Rattle.oram_store.proofs.Outcomes.{calls_memory}
 use Rattle.oram_store.proofs.store.commit_record.Goals as goal
 
 pub returns-in_err-cell-clause-commits : goal.returns-in_err-cell-clause-commits

@@ -5,7 +5,8 @@ use Rattle.oram_layout.proofs.Changes.{path_put}
 use Rattle.oram_redo.specs.declared.file_pair.FileKind.TheVariants.{Records}
 use Rattle.oram_store.specs.KeptRecords.{Stores}
 use Rattle.oram_store.proofs.Crashes.{calls_then}
-use Rattle.oram_store.proofs.Outcomes.{calls_passed, on_ok_none}
+use Rattle.oram_redo.proofs.Outcomes.{on_ok_none}
+use Rattle.oram_store.proofs.Outcomes.{calls_passed}
 use Rattle.oram_store.proofs.Sound.{changes_err, changes_then, commits_change, stores_keep}
 use Rattle.oram_store.proofs.store.store_path.Goals as goal
 

@@ -1,6 +1,7 @@
 use Rattle.oram_redo.specs.Batch.{patches_of}
 use Rattle.oram_store.proofs.Crashes.{calls_then, commits_err, commits_then}
-use Rattle.oram_store.proofs.Outcomes.{calls_passed, on_ok_none}
+use Rattle.oram_redo.proofs.Outcomes.{on_ok_none}
+use Rattle.oram_store.proofs.Outcomes.{calls_passed}
 use Rattle.oram_store.proofs.record_file.RecordFile.commit.Goals as goal
 
 pub returns-in_err-make_sure-clause-commits : goal.returns-in_err-make_sure-clause-commits

@@ -5,7 +5,8 @@ use Rattle.oram_redo.specs.Redo.{end_of}
 use Rattle.oram_redo.specs.declared.file_pair.FileKind.TheVariants.{Records}
 use Rattle.oram_store.specs.RecordFile.{bounds}
 use Rattle.oram_store.proofs.Crashes.{agrees_all, calls_ok, calls_residual, calls_then, may_have_more, runs_then, sure_again, sure_restarted}
-use Rattle.oram_store.proofs.Outcomes.{calls_passed, on_err_holds, on_ok_none}
+use Rattle.oram_redo.proofs.Outcomes.{on_ok_none}
+use Rattle.oram_store.proofs.Outcomes.{calls_passed, on_err_holds}
 use Rattle.oram_store.proofs.record_file.RecordFile.commit_sure.Goals as goal
 
 -- an empty log has room for a short batch

@@ -13,7 +13,8 @@ use Rattle.oram_wire.specs.declared.host_messages.HostAnswer.TheVariants as answ
 use Rattle.oram_wire.specs.declared.host_messages.HostRequest.TheVariants as request
 use Rattle.oram_store.proofs.AddedRecords.{serves_added, serves_not_added}
 use Rattle.oram_store.proofs.Crashes.{calls_ok}
-use Rattle.oram_store.proofs.Outcomes.{calls_memory, calls_passed, on_ok_none}
+use Rattle.oram_redo.proofs.Outcomes.{on_ok_none}
+use Rattle.oram_store.proofs.Outcomes.{calls_memory, calls_passed}
 use Rattle.oram_store.proofs.Served.{answer_of_err}
 use Rattle.oram_store.proofs.store.FileStore.add_record.Goals as goal
 

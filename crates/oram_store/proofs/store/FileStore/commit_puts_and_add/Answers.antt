@@ -9,7 +9,8 @@ use Rattle.oram_wire.specs.declared.host_messages.HostAnswer.{HostAnswer}
 use Rattle.oram_wire.specs.declared.host_messages.HostAnswer.TheVariants as answer
 use Rattle.oram_wire.specs.declared.host_messages.HostRequest.TheVariants as request
 use Rattle.oram_store.proofs.Crashes.{error_is, reason_then, runs_then}
-use Rattle.oram_store.proofs.Outcomes.{on_err_holds, on_ok_none}
+use Rattle.oram_redo.proofs.Outcomes.{on_ok_none}
+use Rattle.oram_store.proofs.Outcomes.{on_err_holds}
 use Rattle.oram_store.proofs.Served.{answer_of_err, serves_after, serves_err}
 use Rattle.oram_store.proofs.AddedTrees.{adds_there, leads_there, serves_no_shape, serves_shape}
 use Rattle.oram_store.proofs.store.FileStore.commit_puts_and_add.Goals as goal

@@ -13,7 +13,8 @@ use Rattle.oram_wire.specs.declared.host_messages.HostAnswer.TheVariants as answ
 use Rattle.oram_wire.specs.declared.host_messages.HostRequest.TheVariants as request
 use Rattle.oram_store.specs.RecordFile.{Calls, Runs}
 use Rattle.oram_store.proofs.Crashes.{calls_then}
-use Rattle.oram_store.proofs.Outcomes.{calls_passed, if_ok_none, on_ok_holds, on_ok_none}
+use Rattle.oram_redo.proofs.Outcomes.{if_ok_none, on_ok_holds, on_ok_none}
+use Rattle.oram_store.proofs.Outcomes.{calls_passed}
 use Rattle.oram_store.proofs.Served.{lacks_of_tree, match_err, match_found, path_of_tree, serves_fetched, serves_committed}
 use Rattle.oram_store.proofs.store.FileStore.commit_puts_and_fetch.Goals as goal
 

@@ -6,7 +6,8 @@ use Rattle.oram_store.specs.KeptRecords.{StoreValue}
 use Rattle.oram_wire.specs.declared.host_messages.HostRequest.TheVariants as request
 use Rattle.oram_store.specs.RecordFile.{Calls, Runs}
 use Rattle.oram_store.proofs.Crashes.{calls_then}
-use Rattle.oram_store.proofs.Outcomes.{calls_passed, on_ok_holds, on_ok_none}
+use Rattle.oram_redo.proofs.Outcomes.{on_ok_holds, on_ok_none}
+use Rattle.oram_store.proofs.Outcomes.{calls_passed}
 use Rattle.oram_store.proofs.Served.{serves_err, serves_stored}
 use Rattle.oram_store.proofs.store.FileStore.commit_puts_and_store.Goals as goal
 

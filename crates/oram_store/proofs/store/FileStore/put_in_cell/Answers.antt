@@ -10,7 +10,8 @@ use Rattle.oram_wire.specs.declared.host_messages.HostAnswer.TheVariants as answ
 use Rattle.oram_wire.specs.declared.host_messages.HostRequest.TheVariants as request
 use Rattle.oram_store.specs.RecordFile.{Calls}
 use Rattle.oram_store.proofs.Crashes.{calls_then}
-use Rattle.oram_store.proofs.Outcomes.{calls_passed, on_ok_none}
+use Rattle.oram_redo.proofs.Outcomes.{on_ok_none}
+use Rattle.oram_store.proofs.Outcomes.{calls_passed}
 use Rattle.oram_store.proofs.Puts.{serves_read, serves_unread}
 use Rattle.oram_store.proofs.Served.{answer_of_err}
 use Rattle.oram_store.proofs.store.FileStore.put_in_cell.Goals as goal

@@ -9,7 +9,8 @@ use Rattle.oram_store.specs.KeptRecords.{Puts, StoreValue}
 use Rattle.oram_wire.specs.declared.host_messages.HostRequest.TheVariants as request
 use Rattle.oram_store.specs.RecordFile.{Calls, Runs}
 use Rattle.oram_store.proofs.Crashes.{calls_then}
-use Rattle.oram_store.proofs.Outcomes.{calls_passed, on_ok_none}
+use Rattle.oram_redo.proofs.Outcomes.{on_ok_none}
+use Rattle.oram_store.proofs.Outcomes.{calls_passed}
 use Rattle.oram_store.proofs.Served.{serves_err, serves_made}
 use Rattle.oram_store.proofs.Sound.{commits_change}
 use Rattle.oram_store.proofs.store.FileStore.replace_record.Goals as goal

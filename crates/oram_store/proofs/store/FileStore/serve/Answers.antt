@@ -7,7 +7,8 @@ use Rattle.oram_wire.specs.HostBodies.{request_of}
 use Rattle.oram_wire.specs.declared.host_messages.HostAnswer.TheVariants.{Done, Payload}
 use Rattle.oram_wire.specs.declared.host_messages.HostRequest.{HostRequest}
 use Rattle.oram_store.specs.Reasons.{ReportsWhy}
-use Rattle.oram_store.proofs.Outcomes.{if_ok_none, on_err_holds, on_ok_none}
+use Rattle.oram_redo.proofs.Outcomes.{if_ok_none, on_ok_none}
+use Rattle.oram_store.proofs.Outcomes.{on_err_holds}
 use Rattle.oram_store.proofs.Responses.{error_of, reason_for}
 use Rattle.oram_store.proofs.store.FileStore.serve.Goals.{in-Store+in_ok-store-in-Store, in-Put+in_ok-put-in-Put, in-Shape+in_ok-shape-in-Shape}
 use Rattle.oram_store.proofs.store.FileStore.serve.Goals as goal
