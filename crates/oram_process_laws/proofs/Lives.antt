@@ -367,7 +367,7 @@ module _ (v : Setting) (trees : List Tree) (device : IsDevice v.scheme.device) (
     follows run left all last p is f =
         let gone : List (List ℕ) = left ++ bodies_of f.exchanges in
         let k : IsKeptOnRun v trees run gone last.link.kept all f.bytes = kept_at_end run left all last f.bytes f.exchanges is f.ends in
-        let same = one_process v.scheme.cipher.overhead v.scheme.device v.scheme.device f.bytes k.stores f.stores k.core f.core f.few k.file f.file in (
+        let same = one_process v.scheme.cipher.overhead v.scheme.device v.scheme.device f.bytes k.stores f.stores k.core f.core k.file f.file in (
           k.early,
           k.since,
           k.whole,

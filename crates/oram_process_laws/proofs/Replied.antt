@@ -384,7 +384,7 @@ module _ (v : Setting) (trees : List Tree) (device : IsDevice v.scheme.device) (
       → (before : List Happening) × (since : List Happening) × (run ≡ before ++ since) × HasGiven N before replies true p
   follows N run replies all last p g f =
       let k : IsKeptWith N run replies all f.bytes = kept_back N run replies all last f.bytes f.exchanges g f.ends in
-      let same = one_process v.scheme.cipher.overhead v.scheme.device v.scheme.device f.bytes k.stores f.stores k.core f.core f.few k.file f.file in
+      let same = one_process v.scheme.cipher.overhead v.scheme.device v.scheme.device f.bytes k.stores f.stores k.core f.core k.file f.file in
       (k.early, k.since, k.whole, begins N k.early replies f.stores f.core p f.begins (subst (Led k.early) same.2 k.leads) k.replied)
 
   abbrev Before : (n : ℕ) (p : Process B K) → Lives v.scheme batches reads_back (new_state v trees) n p → Type 0

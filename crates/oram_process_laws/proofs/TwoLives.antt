@@ -13,7 +13,7 @@ use Rattle.oram_rounds.specs.ProcessSteps.{DoesSteps}
 use Rattle.oram_process_laws.specs.Lives.{Follows, Happening, Leads, Lives, run_of}
 use Rattle.oram_process_laws.specs.LivesExample.{TwoLivesExample, first_steps, second_steps}
 use Rattle.oram_rounds.specs.AskedExample.{asked_core, one_read, process_with, reads_kept}
-use Rattle.oram_rounds.proofs.AskedCore.{file_bytes, file_len, is_file}
+use Rattle.oram_rounds.proofs.AskedCore.{file_bytes, is_file}
 use Rattle.oram_rounds.proofs.AskedProcess.{accepts, awaits, called, loses, lost_core, next_is, now, now_ahead, path, sends_again, went}
 use Rattle.oram_rounds.specs.PathMessages.{IsPathFetch}
 use Rattle.oram_rounds.specs.Process.Act.{GoesAhead}
@@ -35,7 +35,6 @@ second_goes = (
 follows : Follows one_block DirectBatches reads_kept now now
 follows = record {
   bytes = file_bytes;
-  few = file_len;
   exchanges = zeros_fetched;
   ends = inr (GoesAhead zeros_fetched, (is_file, inr (subst (AllByRecursion (IsPathFetch one_block.device)) (sym next_is) (path, tt), subst (AreAmong (fetch_body 0 0 ∷ [])) (sym next_is) (inl refl, tt))));
   stores = [];

@@ -1,6 +1,6 @@
 -- Each process begins with what is read back after the one before. One run of the core goes through all of them, and each
 -- message belongs to it.
-use Rattle.std.specs.Prelude.{◌≡◌, ◌⊎◌, ℕ, zero, suc, ◌<◌, ◌^◌, Bool, true, false, List, [], ◌∷◌, ◌++◌, length, map, Some}
+use Rattle.std.specs.Prelude.{◌≡◌, ◌⊎◌, ℕ, zero, suc, Bool, true, false, List, [], ◌∷◌, ◌++◌, map, Some}
 use Rattle.std.specs.List.{AllByRecursion, FoldsTo, flat_map}
 use Rattle.oram_geometry.specs.Sizes.{IsDevice}
 use Rattle.oram_semantics.specs.Formatting.{IsFormatted}
@@ -102,7 +102,6 @@ module _ (v : Scheme) {B K : Type 0} (batches : B → List (List ℕ) → BatchO
   -- A process begins with the file that is read back where the one before ends.
   pub record Follows (last p : Process B K) : Type 0 where
     pub bytes : List ℕ
-    pub few : length bytes < 2 ^ 64
     pub exchanges : List Exchange
     pub ends : Ends last bytes exchanges
     pub stores : List (List ℕ)

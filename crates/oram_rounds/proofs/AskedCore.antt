@@ -1,9 +1,7 @@
 -- The core that has been asked to read its block: it is sound, and has a file.
-use Rattle.std.proofs.Common.{◌≡◌, ℕ, zero, suc, ◌+◌, ◌*◌, ◌-◌, ◌^◌, ◌<◌, ◌≤◌, arith, List, [], ◌∷◌, ◌++◌, length, length-append, replicate, slice_index_or, if◌then◌else◌, ◌==◌, refl, sym, ap, subst}
-use Rattle.std.specs.Int.{w64, to_be_bytes}
+use Rattle.std.proofs.Common.{◌≡◌, ℕ, zero, suc, ◌+◌, ◌*◌, ◌-◌, ◌^◌, ◌<◌, ◌≤◌, arith, List, [], ◌∷◌, length, replicate, slice_index_or, if◌then◌else◌, ◌==◌, refl, sym, ap, subst}
 use Rattle.std.specs.List.{All, AllByRecursion}
 use Rattle.std.proofs.lemmas.List.Elements.{All-cons, All-nil}
-use Rattle.sha2.specs.Sha256.{sha256}
 use Rattle.sha2.proofs.Facts256.{length-sha256}
 use Rattle.oram_geometry.specs.Least.{least_from}
 use Rattle.oram_geometry.specs.Sizes.{blocks_in, depth_of, level_for, trees_of}
@@ -16,12 +14,12 @@ use Rattle.oram_semantics.specs.State.{no_tree}
 use Rattle.oram_core.specs.Core.{IsAtWork, IsHealthy, IsSound, IsTreeKept}
 use Rattle.oram_core.specs.Parts.{Parts, parts_of}
 use Rattle.oram_state.specs.DecodedCore.{AreSavedFields}
-use Rattle.oram_state.specs.StateBytes.{fields_text, long, short, work_of, work_text}
+use Rattle.oram_state.specs.StateBytes.{fields_text, work_of}
 use Rattle.oram_state.specs.WellSized.{IsSizedBlock, IsSizedTree, IsSizedWork, IsWellSized}
 use Rattle.oram_link_laws.specs.Examples.{one_block}
 use Rattle.oram_link_laws.proofs.Device.{one_tree, session_example}
 use Rattle.oram_rounds.specs.AskedExample.{asked_core, one_read}
-use Rattle.oram_rounds.specs.Files.{IsFile, checksum, kept_text, stores_text}
+use Rattle.oram_rounds.specs.Files.{IsFile, kept_text}
 
 pub message_is : asked_core.message ≡ fetch_body 0 0
 unfolding trees_of blocks_in level_for least_from
@@ -137,27 +135,3 @@ file_bytes = kept_text [] fields
 
 pub is_file : IsFile one_block file_bytes [] asked_core
 is_file = record { counted = (omega arith, tt); fields = fields; saved = saved; all = refl }
-
--- it is short
-
-abbrev zeros : List ℕ
-zeros = 0 ∷ 0 ∷ 0 ∷ 0 ∷ []
-
-work_len : length (work_text (work_of parts)) ≡ 47
-unfolding short long trees_of blocks_in level_for least_from
-work_len = refl
-
-rest_len : (root work : List ℕ) → length root ≡ 32 → length work ≡ 47 → length ((((root ++ zeros) ++ []) ++ []) ++ work) ≡ 83
-rest_len root work whole rest =
-    omega (arith, whole, rest, length-append (((root ++ zeros) ++ []) ++ []) work, length-append ((root ++ zeros) ++ []) [], length-append (root ++ zeros) [], length-append root zeros)
-
--- with any digest of the root
-fields_len : (root : List ℕ) → length root ≡ 32 → length (fields_text 0 (record parts { trees = record { root = root; stash = [] } ∷ [] })) ≡ 132
-unfolding short long trees_of blocks_in level_for least_from
-fields_len root whole = omega (arith, rest_len root (work_text (work_of parts)) whole work_len)
-
-kept_len : (number : ℕ) (text : List ℕ) → length text ≡ 132 → length ((stores_text [] ++ text) ++ to_be_bytes w64 number) < 2 ^ 64
-kept_len number text whole = omega (arith, whole, length-append (stores_text [] ++ text) (to_be_bytes w64 number), length-append (stores_text []) text)
-
-pub file_len : length file_bytes < 2 ^ 64
-file_len = kept_len (checksum (stores_text [] ++ fields)) fields (fields_len (sha256 (replicate 88 0)) (length-sha256 (replicate 88 0)))

@@ -33,7 +33,7 @@ use Rattle.oram_rounds.specs.Process.{DoesAll, IsKept, Process, next_bodies}
 use Rattle.oram_rounds.specs.Rounds.{RoundCall, WentAhead}
 use Rattle.oram_rounds.specs.Service.{IsServed, WillHoldAfter}
 use Rattle.oram_rounds.proofs.AheadInTurn.{nothing_ahead_is_in_turn}
-use Rattle.oram_rounds.proofs.AskedCore.{file_bytes, file_len, is_file, message_is, sound}
+use Rattle.oram_rounds.proofs.AskedCore.{file_bytes, is_file, message_is, sound}
 use Rattle.oram_rounds.proofs.Example.{one_waits_example}
 use Rattle.oram_rounds.proofs.Start.{held_goes_on, held_is_safe, served_submitted}
 
@@ -185,7 +185,6 @@ asked_process_example = (
   next_is,
   (
     file_bytes,
-    file_len,
     is_file,
     (is_file, inr (subst (AllByRecursion (IsPathFetch one_block.device)) (sym next_is) (path, tt), subst (AreAmong (fetch_body 0 0 ∷ [])) (sym next_is) (inl refl, tt))),
     kept,

@@ -1,6 +1,6 @@
 -- An example that meets the premises of the laws about processes: a process is asked to read the one block of a device, keeps
 -- itself, and sends its FETCH ahead.
-use Rattle.std.specs.Prelude.{◌≡◌, ℕ, ◌<◌, ◌^◌, Bool, true, List, [], ◌∷◌, length, replicate, Ok}
+use Rattle.std.specs.Prelude.{◌≡◌, ℕ, Bool, true, List, [], ◌∷◌, replicate, Ok}
 use Rattle.std.specs.List.{FoldsTo, flat_map}
 use Rattle.oram_geometry.specs.Sizes.{IsDevice}
 use Rattle.oram_wire.specs.HostMessages.{payload_answer}
@@ -71,7 +71,7 @@ AskedProcessExample = AreBatches DirectBatches × IsDevice one_block.device
     × DoesAll one_block DirectBatches reads_kept (process_with asked_core new_core) asked_acts (process_with asked_core asked_core)
     × ((may_lie : Bool) → PlainRun may_lie one_block new_host (flat_map exchanges_of asked_acts) new_host)
     × (next_bodies one_block.device asked_core ≡ bodies_of zeros_fetched)
-    × ((bytes : List ℕ) × (length bytes < 2 ^ 64) × IsFile one_block bytes [] asked_core
+    × ((bytes : List ℕ) × IsFile one_block bytes [] asked_core
     × EndsIn one_block DirectBatches reads_kept (process_with asked_core asked_core) (GoesAhead zeros_fetched) bytes zeros_fetched
     × ((may_lie : Bool) → (k : IsKept may_lie one_block [] bytes new_host zero_array zero_array) × (k.stores ≡ []) × (k.core ≡ asked_core))
     × ((other : List ℕ) → reads_only bytes other → other ≡ bytes))
