@@ -18,7 +18,7 @@ use Rattle.oram_core.specs.PlainSteps.{Done as Did, accepted_by, finished_by, fi
 use Rattle.oram_core.specs.Steps.{Heard, Steps, did}
 use Rattle.oram_session.specs.Exchanges.{is_stall}
 use Rattle.oram_session.specs.Outcome.{Outcome}
-use Rattle.oram_session.specs.Settled.{outstanding}
+use Rattle.oram_session.specs.CoreWork.{outstanding}
 use Rattle.oram_session.proofs.CoreSteps.{heard_is, stalled}
 use Rattle.oram_session.proofs.Honesty.{waits_by}
 use Rattle.oram_link_laws.specs.Repair.{AreAmong, IsAmong}

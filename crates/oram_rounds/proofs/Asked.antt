@@ -21,7 +21,7 @@ use Rattle.oram_semantics.specs.declared.events.Submission.{Submission}
 use Rattle.oram_core.specs.Core.{CoreValue, IsSameDevice, IsSound, scheme_of}
 use Rattle.oram_core.specs.PlainSteps.{Done as Did, done, sent_if_idle, submitted_by}
 use Rattle.oram_core.specs.Steps.{Steps, did}
-use Rattle.oram_session.specs.Settled.{IsBegun, IsSettled, IsUnderWay}
+use Rattle.oram_session.specs.CoreWork.{IsBegun, HasNoWork, IsUnderWay}
 use Rattle.oram_session.proofs.CoreSteps.{begun_is, steps_under}
 use Rattle.oram_rounds.specs.Process.{process}
 use Rattle.oram_rounds.specs.Start.{AreAsked, Asked, AskedIsSubmitted, IsAsked}
@@ -116,20 +116,20 @@ module _ {S : Type 0} (cipher : S → Cipher) (start now : CoreValue S) (session
     | inr refused ↦ ap (λ (w : State). length w.queue) refused.1 ∙ count ∙ sym (counted_no notes r.note refused.0)
   ]
 
-  pub begun_more : (notes : List Note) (begun next : Option Reaction) → IsSound start.device (cipher start.sealer).overhead start.state → IsSettled start.state
+  pub begun_more : (notes : List Note) (begun next : Option Reaction) → IsSound start.device (cipher start.sealer).overhead start.state → HasNoWork start.state
       → MatchOption begun (next ≡ (if is_accepted r.note then Some r else None)) (λ first. next ≡ Some first)
       → HasBegun start.state begun (count_by is_accepted notes) now.state → HasBegun start.state next (count_by is_accepted (notes ++ r.note ∷ [])) u
-  begun_more notes (Some first) next sound settled is h =
+  begun_more notes (Some first) next sound no_work is h =
       let more : 1 ≤ count_by is_accepted (notes ++ r.note ∷ []) = elim either [
         | inl accepted ↦ let one = counted_yes notes r.note (ap is_accepted accepted.0) in omega arith
         | inr refused ↦ let same = counted_no notes r.note refused.0 in omega (arith, h.2)
       ] in
       subst (λ (o : Option Reaction). HasBegun start.state o (count_by is_accepted (notes ++ r.note ∷ [])) u) (sym is)
       (still_under_way (scheme_of cipher now) now.state u first session c (later now.state.next size) (shown_by r) h.0 step, h.1, more)
-  begun_more notes None next sound settled is h = elim either [
+  begun_more notes None next sound no_work is h = elim either [
     | inl accepted ↦
         let here = subst (λ (w : State). Steps (scheme_of cipher start) w (Submit session c (later now.state.next size)) (shown_by r) u) h.0 from_start in
-        let begins : IsBegun start.state r.note (done r u) = begun_is (scheme_of cipher start) start.state u session c _ (shown_by r) sound settled here in
+        let begins : IsBegun start.state r.note (done r u) = begun_is (scheme_of cipher start) start.state u session c _ (shown_by r) sound no_work here in
         let under_way : IsUnderWay (done r u) = (subst (λ (n : Note). IsBegun start.state n (done r u)) accepted.0 begins).0 in
         let one = counted_yes notes r.note (ap is_accepted accepted.0) in
         let some : next ≡ Some r = is ∙ ap (λ (b : Bool). let o : Option Reaction = if b then Some r else None in o) (ap is_accepted accepted.0) in

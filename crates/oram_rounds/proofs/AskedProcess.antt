@@ -19,7 +19,7 @@ use Rattle.oram_core.specs.Steps.{Steps}
 use Rattle.oram_core.proofs.LocalRule.{holds_of}
 use Rattle.oram_core.proofs.Quiet.{Meets, accepts_met, resends_met, stalls_met}
 use Rattle.oram_session.specs.Links.{DirectCall, ToServer}
-use Rattle.oram_session.specs.Settled.{outstanding}
+use Rattle.oram_session.specs.CoreWork.{outstanding}
 use Rattle.oram_link_laws.specs.Examples.{new_core, new_host, new_server, one_block}
 use Rattle.oram_link_laws.proofs.Device.{no_depth, one_tree, session_example}
 use Rattle.oram_link_laws.specs.Repair.{AreAmong}

@@ -17,7 +17,7 @@ use Rattle.oram_core.specs.PlainSteps.{Done as Did, lost_by, plain_step, retried
 use Rattle.oram_core.specs.Steps.{Steps, did}
 use Rattle.oram_host_laws.specs.Honest.{IsHonest}
 use Rattle.oram_session.specs.Honesty.{HasFailed}
-use Rattle.oram_session.specs.Settled.{outstanding}
+use Rattle.oram_session.specs.CoreWork.{outstanding}
 use Rattle.oram_session.proofs.Honesty.{waits_by}
 use Rattle.oram_link_laws.specs.Runs.{Exchange}
 use Rattle.oram_link_laws.proofs.Exchanged.{folds_join, folds_split}

@@ -26,7 +26,7 @@ use Rattle.oram_host_laws.proofs.Handed.{fetch_leaves}
 use Rattle.oram_host_laws.proofs.Honest.{IsBusy, busy_by}
 use Rattle.oram_session.specs.Honesty.{IsHeardCall}
 use Rattle.oram_session.specs.Outcome.{Outcome}
-use Rattle.oram_session.specs.Settled.{outstanding}
+use Rattle.oram_session.specs.CoreWork.{outstanding}
 use Rattle.oram_session.proofs.Honesty.{call_keeps, waits_by}
 use Rattle.oram_link_laws.specs.Repair.{AreAmong, IsAmong}
 use Rattle.oram_link_laws.specs.Runs.{Exchange, bodies_of}

@@ -21,7 +21,7 @@ use Rattle.oram_core.specs.PlainSteps.{Done as Did, submitted_by}
 use Rattle.oram_core.specs.Steps.{Steps, did}
 use Rattle.oram_host_laws.specs.Honest.{IsHonest, KeepsAll}
 use Rattle.oram_host_laws.specs.HostRecords.{HostsBy}
-use Rattle.oram_session.specs.Settled.{IsSettled, is_settled_by}
+use Rattle.oram_session.specs.CoreWork.{HasNoWork, has_no_work_in}
 use Rattle.oram_link_laws.specs.Repair.{IsAmong}
 use Rattle.oram_link_laws.specs.Runs.{IsHeldBy}
 use Rattle.oram_rounds.specs.CatchUp.{CatchesUp}
@@ -138,19 +138,19 @@ submitted_is_safe B {K} reads_back may_lie v asked p q host array device safe al
       ahead = subst (λ (l : Round B). AreAhead may_lie v host l) (sym done.1) safe.ahead;
     }
 
--- no commands wait at a core that is settled and hasn't failed
-resting_by : (q : List Submission) (l : Bool) → is_settled_by (status_by None q l) ≡ true → q ≡ []
+-- no commands wait at a core that has no work and hasn't failed
+resting_by : (q : List Submission) (l : Bool) → has_no_work_in (status_by None q l) ≡ true → q ≡ []
 resting_by [] l e = refl
 resting_by (x ∷ q) true e = absurd cc
 resting_by (x ∷ q) false e = absurd cc
 
-pub resting : (s : State) → IsSettled s → s.failure ≡ None → s.queue ≡ []
-resting s settled alive = resting_by s.queue s.lost (sym (ap (λ (f : Option Reason). is_settled_by (status_by f s.queue s.lost)) alive) ∙ settled)
+pub resting : (s : State) → HasNoWork s → s.failure ≡ None → s.queue ≡ []
+resting s no_work alive = resting_by s.queue s.lost (sym (ap (λ (f : Option Reason). has_no_work_in (status_by f s.queue s.lost)) alive) ∙ no_work)
 
 -- the host of a device that is held has nothing to catch up
 pub held_goes_on : (v : Scheme) (core : State) (host : Host) (array : ℕ → List ℕ) → IsHeldBy v core host array → CatchesUp v host [] host × IsServed v core host array
 held_goes_on v core host array held =
-    let idle : core.queue ≡ [] = resting core held.settled held.alive in
+    let idle : core.queue ≡ [] = resting core held.no_work held.alive in
     let keeps : KeepsAll v held.world.records host = subst (HostsBy v core held.world host) idle held.hosts in (
       record { records = held.world.records; keeps = keeps; paths = tt; ahead = keeps },
       record { alive = held.alive; world = held.world; serving = held.serving; hosts = held.hosts },
@@ -159,7 +159,7 @@ held_goes_on v core host array held =
 pub held_is_safe : (B : Type 0) {K : Type 0} (reads_back : K → List ℕ → Type 0) → HeldIsSafe B reads_back
 held_is_safe B {K} reads_back may_lie v inner core keeper host array held files =
     let on = held_goes_on v core host array held in
-    let idle : core.queue ≡ [] = resting core held.settled held.alive in
+    let idle : core.queue ≡ [] = resting core held.no_work held.alive in
     let will : WillHoldAfter may_lie v core [] host array = (host, on.0, inl (array, on.1, ap (λ (queue : List Submission). after_all v.device queue array) idle)) in
     record {
       device = refl;

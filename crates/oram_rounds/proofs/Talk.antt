@@ -13,7 +13,7 @@ use Rattle.oram_core.specs.PlainSteps.{Done as Did, stalled_by}
 use Rattle.oram_core.specs.Steps.{Steps, did}
 use Rattle.oram_session.specs.Exchanges.{Delivery, IsCutOff, IsSent, Runs, event_of, is_stall, retried}
 use Rattle.oram_session.specs.Outcome.{Outcome}
-use Rattle.oram_session.specs.Settled.{outstanding}
+use Rattle.oram_session.specs.CoreWork.{outstanding}
 use Rattle.oram_session.proofs.CoreSteps.{retried_is, stalled}
 use Rattle.oram_session.proofs.Honesty.{waits_by}
 use Rattle.oram_link_laws.specs.Runs.{Exchange}

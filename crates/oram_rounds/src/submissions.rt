@@ -7,7 +7,7 @@ ghost use Rattle.oram_semantics.specs.declared.events.Note.TheVariants.{Accepted
 ghost use Rattle.oram_core.specs.Core.{IsSameDevice, scheme_of};
 ghost use Rattle.oram_core.specs.PlainSteps.{done};
 ghost use Rattle.oram_core.specs.Steps.{Steps};
-ghost use Rattle.oram_session.specs.Settled.{IsSettled, IsUnderWay};
+ghost use Rattle.oram_session.specs.CoreWork.{HasNoWork, IsUnderWay};
 ghost use Rattle.oram_rounds.specs.Start.{Asked, AreAsked};
 
 use oram_bucket::Sealer;
@@ -74,13 +74,13 @@ pub fn submit_all<S: Sealer, T: Tape>(
     session: u32,
     commands: Vec<Command>,
 ) -> Result<Submitted, AllocError>
-    requires { IsSettled core.old.state }
+    requires { HasNoWork core.old.state }
     ensures kept { IsSameDevice core.old core.new }
     ensures tape { T.words tape.new ≡ T.words tape.old }
     ensures ok { let v = scheme_of S.cipher core.old in
         IfOk result (λ s. (asked : List Asked) × (map (λ a. a.command) asked ≡ commands.items) × (map (λ a. a.shown.note) asked ≡ s.notes.items)
         × AreAsked v (T.words tape.old) session core.old.state asked core.new.state) }
-    ensures begun { IfOk result (λ s. MatchOption s.begun (IsSettled core.new.state) (λ first. IsUnderWay (done first core.new.state))) }
+    ensures begun { IfOk result (λ s. MatchOption s.begun (HasNoWork core.new.state) (λ first. IsUnderWay (done first core.new.state))) }
     // That is the reaction to the first command that was accepted, if one was. Else the core is as it was.
     ensures first { IfOk result (λ s. MatchOption s.begun (core.new ≡ core.old) (λ first. first.note ≡ Accepted core.old.state.next)) }
     ensures none { IfOk result (λ s. s.begun ≡ None ↔ count_by is_accepted s.notes.items ≡ 0) }

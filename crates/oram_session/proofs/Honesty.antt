@@ -44,7 +44,7 @@ use Rattle.oram_session.specs.Honesty.{HasFailed, IsHeardCall, IsHeardLink, IsHo
 use Rattle.oram_session.specs.Links.{AnswersOf, DirectCall, Faulty, FaultyCall, ToServer, is_due}
 use Rattle.oram_session.specs.Outcome.{Outcome}
 use Rattle.oram_session.specs.Requests.{command_of, session_reply}
-use Rattle.oram_session.specs.Settled.{IsSettled, is_settled_by}
+use Rattle.oram_session.specs.CoreWork.{HasNoWork, has_no_work_in}
 use Rattle.oram_session.specs.Turns.{Turn, IsReply, IsServed, IsTurn, most_retries}
 use Rattle.oram_session.specs.declared.link.LinkFault.TheVariants.{Io}
 use Rattle.oram_session.proofs.CoreSteps.{heard_is, retried_is, stalled}
@@ -64,14 +64,14 @@ calm_status (x ∷ q) false = refl
 not_over : (s : State) → s.failure ≡ None → is_over (status_in s) ≡ false
 not_over s alive = ap (λ f. is_over (status_by f s.queue s.lost)) alive ∙ calm_status s.queue s.lost
 
-resting_by : (q : List Submission) (l : Bool) → is_settled_by (status_by None q l) ≡ true → q ≡ []
+resting_by : (q : List Submission) (l : Bool) → has_no_work_in (status_by None q l) ≡ true → q ≡ []
 resting_by [] l h = refl
 resting_by (x ∷ q) true h = absurd cc
 resting_by (x ∷ q) false h = absurd cc
 
-pub resting : (s : State) → IsSettled s → s.failure ≡ None → s.queue ≡ []
-resting s settled alive =
-    resting_by s.queue s.lost (sym (ap (λ f. is_settled_by (status_by f s.queue s.lost)) alive) ∙ settled)
+pub resting : (s : State) → HasNoWork s → s.failure ≡ None → s.queue ≡ []
+resting s no_work alive =
+    resting_by s.queue s.lost (sym (ap (λ f. has_no_work_in (status_by f s.queue s.lost)) alive) ∙ no_work)
 
 pub waits_by : (s : State) (now : Status) (m : List ℕ) → status_in s ≡ now → (if is_waiting now then Some s.message else None) ≡ Some m
     → (status_in s ≡ Waiting) × (m ≡ s.message)
@@ -80,8 +80,8 @@ waits_by s Idle m is e = absurd cc
 waits_by s Stalling m is e = absurd cc
 waits_by s Over m is e = absurd cc
 
-pub unsettled : (now : Status) → now ≡ Waiting → is_settled_by now ≡ false
-unsettled now e = ap is_settled_by e
+pub has_work : (now : Status) → now ≡ Waiting → has_no_work_in now ≡ false
+has_work now e = ap has_no_work_in e
 
 -- a core that hasn't failed refuses a command only because of what the command asks
 
@@ -202,7 +202,7 @@ module _ (may_lie : Bool) {L : Type 0} (calls : L → List ℕ → Outcome → L
           let empty : t.queue ≡ [] = unqueued v s t shown on.alive x (reply_by array replied.0) heard queue replied.3 in
           inr (inl (
             record {
-              settled = rw (on.alive, empty) refl;
+              no_work = rw (on.alive, empty) refl;
               alive = on.alive;
               world = world_after v w (moved v s w (event_of o)) shown.sends;
               serving = record {
@@ -260,7 +260,7 @@ module _ (may_lie : Bool) {L : Type 0} (calls : L → List ℕ → Outcome → L
   accepted p session c words shown begun array held step is =
       let x : Submission = record { session = session; ticket = p.0.next; command = c; words = words } in
       let event : Event = Submit session c words in
-      let rests : p.0.queue ≡ [] = resting p.0 held.settled held.alive in
+      let rests : p.0.queue ≡ [] = resting p.0 held.no_work held.alive in
       let on : GoesOnHosted v p.0 begun held.world array event shown (host_of p.1) =
       honest_hosts_serve v p.0 begun held.world array event shown (host_of p.1) (host_of p.1) device held.alive held.serving held.hosts step.moves
       (submit_honest (status_in p.0) p.0.message session c words (host_of p.1)) in
@@ -287,7 +287,7 @@ module _ {L : Type 0} (calls : L → List ℕ → Outcome → L → Type 0) (hos
   ended [] p q array held sent = subst (λ (z : State × L). IsHeld v host_of z array) sent held
   ended (y ∷ ys) p q array held sent =
       let k = waits_by p.0 (status_in p.0) y.message refl sent.1.0.message in
-      absurd (let both = sym held.settled ∙ unsettled (status_in p.0) k.0 in cc)
+      absurd (let both = sym held.no_work ∙ has_work (status_in p.0) k.0 in cc)
 
   all_sent : (ys : List Delivery) (p q : State × L) (x : Submission) (array : ℕ → List ℕ) (reply : Reply) → IsBusy v host_of p x array
       → AllSent v calls most_retries p ys q → flat_map (λ (y : Delivery). y.replies) ys ≡ reply ∷ []
@@ -385,7 +385,7 @@ new_devices_hold_zeros calls host_of honest v from to s light empty k =
     let puts : PutsAll Takes [] k.format (host_of to) =
     subst (λ (h : Host). PutsAll Takes h k.format (host_of to)) empty (takes_all calls host_of honest k.format from to k.puts) in
     let new : IsNewHosted v (new_state setting k.trees) (world_of setting []) (host_of to) = new_hosts_serve setting k.trees (host_of to) k.ranges light k.formatted puts in
-    rw k.state (record { settled = refl; alive = refl; world = world_of setting []; serving = new.serving; hosts = new.hosts })
+    rw k.state (record { no_work = refl; alive = refl; world = world_of setting []; serving = new.serving; hosts = new.hosts })
 
 -- the links that are honest
 

@@ -18,7 +18,7 @@ use Rattle.oram_core.specs.Steps.{Steps}
 use Rattle.oram_session.specs.Exchanges.{Delivery, AllSent}
 use Rattle.oram_session.specs.Outcome.{Outcome}
 use Rattle.oram_session.specs.Requests.{IsRequest, IsNoRequest, command_of, session_reply}
-use Rattle.oram_session.specs.Settled.{IsSettled}
+use Rattle.oram_session.specs.CoreWork.{HasNoWork}
 use Rattle.oram_session.specs.Turns.{Turn, most_retries, IsAsked, IsReply, IsTurn, IsAtWork}
 
 pub IfOk-weaker : {T E : Type 0} (r : Result T E) (P Q : T → Type 0) → ((x : T) → P x → Q x) → IfOk r P → IfOk r Q
@@ -48,11 +48,11 @@ module _ (v : Scheme) {L : Type 0} (calls : L → List ℕ → Outcome → L →
       inr (record { shown = x; begun = t; asked = asked; replied = subst (λ (n : Note). IsReply v calls words session n (t, l) turn (t, l)) (sym is) (refl, refl, refl) })
 
   pub accepted_turn : (body : List ℕ) (s t : State) (l : L) (q : State × L) (x : Shown) (ticket : ℕ) (xs : List Delivery) (r : Reply) → IsAsked v calls words session body s x t →
-      x.note ≡ note.Accepted ticket → AllSent v calls most_retries (t, l) xs q → IsSettled q.0 → flat_map (λ y. y.replies) xs ≡ r ∷ [] →
+      x.note ≡ note.Accepted ticket → AllSent v calls most_retries (t, l) xs q → HasNoWork q.0 → flat_map (λ y. y.replies) xs ≡ r ∷ [] →
       IsTurn v calls words session (s, l) (record { body = body; sendings = xs; reply = session_reply r.body }) q
-  accepted_turn body s t l q x ticket xs r asked is sent settled one =
+  accepted_turn body s t l q x ticket xs r asked is sent no_work one =
       let turn : Turn = record { body = body; sendings = xs; reply = session_reply r.body } in
-      inr (record { shown = x; begun = t; asked = asked; replied = subst (λ (n : Note). IsReply v calls words session n (t, l) turn q) (sym is) (sent, settled, r, one, refl) })
+      inr (record { shown = x; begun = t; asked = asked; replied = subst (λ (n : Note). IsReply v calls words session n (t, l) turn q) (sym is) (sent, no_work, r, one, refl) })
 
   pub at_work : (body : List ℕ) (s t : State) (l : L) (q : State × L) (x : Shown) (ticket : ℕ) (xs : List Delivery) → IsAsked v calls words session body s x t →
       x.note ≡ note.Accepted ticket → AllSent v calls most_retries (t, l) xs q → IsAtWork v calls words session (s, l) body q

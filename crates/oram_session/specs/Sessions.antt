@@ -7,7 +7,7 @@ use Rattle.oram_semantics.specs.Scheme.{Scheme}
 use Rattle.oram_semantics.specs.State.{State}
 use Rattle.oram_host.specs.Answered.{HasAnswered}
 use Rattle.oram_session.specs.Outcome.{Outcome}
-use Rattle.oram_session.specs.Settled.{IsSettled}
+use Rattle.oram_session.specs.CoreWork.{HasNoWork}
 use Rattle.oram_session.specs.Turns.{Turn, IsTurn, IsCutTurn}
 use Rattle.oram_host.specs.declared.serve_fault.ServeFault.{ServeFault}
 use Rattle.oram_host.specs.declared.serve_fault.ServeFault.TheVariants.{Read, Write, Frame, Truncated, Stalled, OutOfMemory}
@@ -21,11 +21,11 @@ reply_frame turn = frame (reply_body turn)
 
 -- the core is idle or has failed, unless a message stalled or memory ran out
 abbrev pub LeavesCore : Result ℕ ServeFault → State → Type 0
-LeavesCore (Ok count) s = IsSettled s
-LeavesCore (Err Read) s = IsSettled s
-LeavesCore (Err Write) s = IsSettled s
-LeavesCore (Err Frame) s = IsSettled s
-LeavesCore (Err Truncated) s = IsSettled s
+LeavesCore (Ok count) s = HasNoWork s
+LeavesCore (Err Read) s = HasNoWork s
+LeavesCore (Err Write) s = HasNoWork s
+LeavesCore (Err Frame) s = HasNoWork s
+LeavesCore (Err Truncated) s = HasNoWork s
 LeavesCore (Err Stalled) s = ⊤
 LeavesCore (Err OutOfMemory) s = ⊤
 

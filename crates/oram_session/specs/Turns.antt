@@ -17,7 +17,7 @@ use Rattle.oram_core.specs.Steps.{Steps}
 use Rattle.oram_session.specs.Exchanges.{Delivery, IsSent, IsCutOff, IsGivenUp, AllSent}
 use Rattle.oram_session.specs.Outcome.{Outcome}
 use Rattle.oram_session.specs.Requests.{IsRequest, IsNoRequest, command_of, session_reply}
-use Rattle.oram_session.specs.Settled.{IsSettled}
+use Rattle.oram_session.specs.CoreWork.{HasNoWork}
 
 -- A turn: a request's body, the messages that it needed, and the reply.
 pub record Turn : Type 0 where
@@ -47,7 +47,7 @@ module _ (v : Scheme) {L : Type 0} (calls : L → List ℕ → Outcome → L →
   -- how the turn goes on after this note of the core
   abbrev pub IsReply : Note → State × L → Turn → State × L → Type 0
   IsReply (note.Accepted ticket) p turn q =
-      AllSent v calls most_retries p turn.sendings q × IsSettled q.0
+      AllSent v calls most_retries p turn.sendings q × HasNoWork q.0
       × (x : Reply) × (flat_map (λ y. y.replies) turn.sendings ≡ x ∷ []) × (turn.reply ≡ session_reply x.body)
   IsReply (note.Refused why) p turn q = (turn.sendings ≡ []) × (turn.reply ≡ Refused (refusal_number why)) × (p ≡ q)
   IsReply note.Taken p turn q = ⊥

@@ -11,7 +11,7 @@ ghost use Rattle.oram_semantics.specs.declared.events.Event.TheVariants.{Submit}
 ghost use Rattle.oram_core.specs.Core.{IsSameDevice, scheme_of};
 ghost use Rattle.oram_core.specs.PlainSteps.{done};
 ghost use Rattle.oram_core.specs.Steps.{Steps};
-ghost use Rattle.oram_session.specs.Settled.{IsSettled, IsBegun};
+ghost use Rattle.oram_session.specs.CoreWork.{HasNoWork, IsBegun};
 ghost use Rattle.oram_session.specs.Turns.{Turn, IsTurn, IsStuck, IsCutTurn};
 ghost use Rattle.oram_session.specs.Sessions.{HasServed, IsLeft, LeavesCore, reply_frame};
 
@@ -35,7 +35,7 @@ pub fn submit<S: Sealer, T: Tape>(
     session: u32,
     command: Command,
 ) -> Result<Reaction, AllocError>
-    requires { IsSettled core.old.state }
+    requires { HasNoWork core.old.state }
     ensures kept { IsSameDevice core.old core.new }
     ensures ok { let v = scheme_of S.cipher core.old in
         IfOk result (λ r. Steps v core.old.state
@@ -64,12 +64,12 @@ fn take_turn<S: Sealer, L: Link, T: Tape>(
     session: u32,
     body: &[u8],
 ) -> Result<SessionReply, ServeFault>
-    requires { IsSettled core.old.state }
+    requires { HasNoWork core.old.state }
     ensures kept { IsSameDevice core.old core.new }
     ensures ok { let v = scheme_of S.cipher core.old in
         IfOk result (λ reply. (turn : Turn) × (turn.body ≡ body.now) × (turn.reply ≡ reply)
         × IsTurn v L.calls (T.words tape.old) session (core.old.state, link.old) turn (core.new.state, link.new)) }
-    ensures settled { OnOk result (IsSettled core.new.state) }
+    ensures no_work { OnOk result (HasNoWork core.new.state) }
     ensures spelled { IfOk result (λ reply. IsSessionReply reply × IsBody (session_reply_body reply)) }
     ensures stalled { let v = scheme_of S.cipher core.old in
         IsErrOf result ServeFault.Stalled
@@ -132,9 +132,9 @@ pub fn serve<S: Sealer, R: Read, W: Write, L: Link, T: Tape>(
     tape: &mut T,
     session: u32,
 ) -> Result<u64, ServeFault>
-    requires { IsSettled core.old.state }
+    requires { HasNoWork core.old.state }
     ensures kept { IsSameDevice core.old core.new }
-    ensures settled { LeavesCore result core.new.state }
+    ensures no_work { LeavesCore result core.new.state }
     ensures tape { T.words tape.new ≡ T.words tape.old }
     ensures ok { let v = scheme_of S.cipher core.old in
         IfOk result (λ k. (turns : List Turn) × (length turns ≡ k)

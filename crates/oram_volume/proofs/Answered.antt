@@ -16,7 +16,7 @@ use Rattle.oram_semantics.specs.declared.events.Reply.{Reply}
 use Rattle.oram_semantics.specs.declared.events.ReplyBody.{ReplyBody}
 use Rattle.oram_semantics.specs.declared.events.ReplyBody.TheVariants.{Failed}
 use Rattle.oram_semantics.specs.declared.events.Submission.{Submission}
-use Rattle.oram_session.specs.Settled.{IsSettled}
+use Rattle.oram_session.specs.CoreWork.{HasNoWork}
 use Rattle.oram_link_laws.specs.Runs.{Exchange}
 use Rattle.oram_nbd.proofs.Beside.{one_call}
 use Rattle.oram_rounds.specs.Batches.{BatchOutcome}
@@ -90,14 +90,14 @@ module _ {B K : Type 0} (batches : B → List (List ℕ) → BatchOutcome → Li
   AreRight may_lie ys replies array =
       (bodies replies ≡ bodies_from v.device (map (λ (y : Submission). y.command) ys) array) ⊎ ((may_lie ≡ true) × (NoneFailed replies → ⊥))
 
-  -- of a core that is settled and hasn't failed, to which commands were submitted
-  module _ (asked : List Asked) (acts : List Act) (session : ℕ) (s t : State) (l : Round B) (k : K) (q : Process B K) (replies : List Reply) (settled : IsSettled s) (alive : s.failure ≡ None)
+  -- of a core that has no work and hasn't failed, to which commands were submitted
+  module _ (asked : List Asked) (acts : List Act) (session : ℕ) (s t : State) (l : Round B) (k : K) (q : Process B K) (replies : List Reply) (no_work : HasNoWork s) (alive : s.failure ≡ None)
       (chain : AreAsked v words session s asked t) (does : DoesAll v batches reads_back (process t l k) acts q) (given : flat_map replies_of acts ≡ replies) (many : length replies ≡ length t.queue) where
     right_by : (may_lie : Bool) (ys : List Submission) → t.queue ≡ ys → (w later : HostBeside) (array : ℕ → List ℕ) → FoldsTo {P = HostBeside} {A = Exchange} (HostHears may_lie) w (flat_map exchanges_of acts) later
         → Holds batches reads_back are v words may_lie (process s l k) w array → AreRight may_lie ys replies array
     right_by may_lie ys queue w later array run h =
         let host : Host = w.host in
-        let idle : s.queue ≡ [] = resting s settled alive in
+        let idle : s.queue ≡ [] = resting s no_work alive in
         let far : Host = h.will_hold.0 in
         let served : (before : ℕ → List ℕ) × IsServed v s far before × (before ≡ array) = elim h.will_hold.2 [
           | inl will ↦ (will.0, will.1, ap (λ (xs : List Submission). after_all v.device xs will.0) (sym idle) ∙ will.2)

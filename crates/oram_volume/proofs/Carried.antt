@@ -21,7 +21,7 @@ use Rattle.oram_semantics.specs.declared.events.Reply.{Reply}
 use Rattle.oram_semantics.specs.declared.events.Submission.{Submission}
 use Rattle.oram_core.specs.Core.{CoreValue, IsSameDevice, scheme_of}
 use Rattle.oram_session.proofs.CoreSteps.{same_scheme, same_trans}
-use Rattle.oram_session.specs.Settled.{IsSettled}
+use Rattle.oram_session.specs.CoreWork.{HasNoWork}
 use Rattle.oram_link_laws.specs.Runs.{Exchange}
 use Rattle.oram_link_laws.proofs.Exchanged.{folds_join}
 use Rattle.oram_nbd.specs.Beside.{GoesOn, KeepsOn}
@@ -125,13 +125,13 @@ module _ {S B K T : Type 0} (cipher : S → Cipher) (words : T → ℕ → ℕ �
           (λ may_lie world array between later h first second. let k = first_ones array in (k.0, second ∙ ap (array_with old.core.device asked) first ∙ k.1)))
 
       -- all were accepted, and each has a reply
-      module _ (settled : IsSettled mid.core.state) (alive : mid.core.state.failure ≡ None) (replies : List Reply) (given : flat_map replies_of acts ≡ replies) (many : length replies ≡ length t.queue) where
+      module _ (no_work : HasNoWork mid.core.state) (alive : mid.core.state.failure ≡ None) (replies : List Reply) (given : flat_map replies_of acts ≡ replies) (many : length replies ≡ length t.queue) where
         abbrev pub Right : List Submission → Bool → (ℕ → List ℕ) → (ℕ → List ℕ) → Type 0
         Right ys may_lie array later = ((n : ℕ) × (later ≡ after_commands old.core.device (take n commands) array)) × (later ≡ array_with old.core.device asked array)
             × ((bodies replies ≡ bodies_from old.core.device (map (λ (y : Submission). y.command) ys) array) ⊎ ((may_lie ≡ true) × (NoneFailed replies → ⊥)))
 
         pub all_replied : (ys : List Submission) → t.queue ≡ ys → Goes (Right ys) new
-        all_replied ys queue = as_new (joined_calls resumed (replies_go_on batches reads_back are v tape_words asked acts 0 mid.core.state t mid.link mid.keeper there replies settled alive chain does given many ys queue)
+        all_replied ys queue = as_new (joined_calls resumed (replies_go_on batches reads_back are v tape_words asked acts 0 mid.core.state t mid.link mid.keeper there replies no_work alive chain does given many ys queue)
             (λ may_lie world array between later h first second.
             let k = first_ones array in (
               (k.0, second.0 ∙ ap (array_with old.core.device asked) first ∙ k.1),
@@ -240,7 +240,7 @@ module _ {S B K T : Type 0} (cipher : S → Cipher) (words : T → ℕ → ℕ �
           ],
         )
 
-    module _ (notes : List Note) (k : AllAsked notes) (settled : IsSettled mid.core.state) (alive : mid.core.state.failure ≡ None) (replies : List Reply) (given : flat_map replies_of acts ≡ replies)
+    module _ (notes : List Note) (k : AllAsked notes) (no_work : HasNoWork mid.core.state) (alive : mid.core.state.failure ≡ None) (replies : List Reply) (given : flat_map replies_of acts ≡ replies)
         (many : length replies ≡ length core.state.queue) where
       right : (ys : List Submission) → core.state.queue ≡ ys
           → GoesOn (Had batches reads_back) HostHears HoldsArray (running cipher words old)
@@ -249,7 +249,7 @@ module _ {S B K T : Type 0} (cipher : S → Cipher) (words : T → ℕ → ℕ �
       right ys queue =
           let f = front_of notes k in
           all_replied cipher words batches reads_back are old mid kept tape goes commands fits k.0 f.1 f.2 core.state (chain_under cipher words batches reads_back are old mid kept tape goes k.0 core.state k.3)
-          new (same_trans old.core core after kept_core kept_then) (same_tape ∙ tape) acts does_under settled alive replies given many ys queue
+          new (same_trans old.core core after kept_core kept_then) (same_tape ∙ tape) acts does_under no_work alive replies given many ys queue
 
       -- a reply says that the device failed: that was a lie
       pub lied : (NoneFailed replies → ⊥) → GoesOn (Had batches reads_back) HostHears HoldsArray (running cipher words old) (λ may_lie array later. SomeDone may_lie array later × (may_lie ≡ true)) (running cipher words new)
@@ -265,7 +265,7 @@ module _ {S B K T : Type 0} (cipher : S → Cipher) (words : T → ℕ → ℕ �
           let counted : accepted_in (scheme_of cipher old.core) (words old.tape) 0 k.0 ≡ count_by is_accepted notes = ap (λ (ns : List Note). count_by is_accepted ns) k.2 in
           let size : length k.0 ≡ length commands = sym (length-map k.0 (λ (a : Asked). a.command)) ∙ ap length k.1 in
           let whole = all_accepted (scheme_of cipher old.core) (words old.tape) 0 k.0 mid.core.state core.state here (omega (arith, counted, size, enough, many, count)) in
-          let queue : core.state.queue ≡ whole.0.waiting = whole.0.queue ∙ ap (λ (q : List Submission). q ++ whole.0.waiting) (resting mid.core.state settled alive) in
+          let queue : core.state.queue ≡ whole.0.waiting = whole.0.queue ∙ ap (λ (q : List Submission). q ++ whole.0.waiting) (resting mid.core.state no_work alive) in
           weaker (right whole.0.waiting queue) (λ may_lie world array later h step. (
             elim step.2 [
               | inl as_told ↦ as_told ∙ ap (λ (cs : List Command). bodies_from old.core.device cs array) (whole.0.commands ∙ k.1)

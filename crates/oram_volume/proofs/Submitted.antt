@@ -23,14 +23,14 @@ use Rattle.oram_semantics.specs.declared.events.Submission.{Submission}
 use Rattle.oram_core.specs.PlainSteps.{Done as Did, submitted_by}
 use Rattle.oram_core.specs.Steps.{Steps, did}
 use Rattle.oram_session.specs.Honesty.{HasFailed}
-use Rattle.oram_session.specs.Settled.{IsSettled, is_settled_by}
+use Rattle.oram_session.specs.CoreWork.{HasNoWork, has_no_work_in}
 use Rattle.oram_rounds.specs.Start.{AreAsked, Asked, IsAsked, array_if, array_with}
 use Rattle.oram_volume.specs.CarriedOut.{after_commands}
 use Rattle.oram_volume.specs.RangeCommands.{FitsDevice}
 
 -- in a failed core nothing waits
-pub failed_settles : (s : State) → HasFailed s → IsSettled s
-failed_settles s failed = ap (λ (f : Option Reason). is_settled_by (status_by f s.queue s.lost)) failed.1
+pub failed_settles : (s : State) → HasFailed s → HasNoWork s
+failed_settles s failed = ap (λ (f : Option Reason). has_no_work_in (status_by f s.queue s.lost)) failed.1
 
 pub not_failed : (s : State) → is_some s.failure ≡ false → HasFailed s → ⊥
 not_failed s is failed = let yes : true ≡ false = sym (ap (λ (f : Option Reason). is_some f) failed.1) ∙ is in cc

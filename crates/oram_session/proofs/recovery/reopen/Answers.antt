@@ -7,7 +7,7 @@ use Rattle.oram_semantics.specs.declared.events.Reaction.{Reaction}
 use Rattle.oram_core.specs.Core.{scheme_of}
 use Rattle.oram_core.specs.PlainSteps.{Done, done, lost_by}
 use Rattle.oram_session.specs.Exchanges.{Runs}
-use Rattle.oram_session.specs.Settled.{IsUnderWay}
+use Rattle.oram_session.specs.CoreWork.{IsUnderWay}
 use Rattle.oram_session.proofs.Resumed.{reopened, resent, resent_under_way, told_again, told_once, loss_is_free}
 use Rattle.oram_session.proofs.CoreSteps.{steps_under}
 use Rattle.oram_session.proofs.Turned.{IfOk-weaker}

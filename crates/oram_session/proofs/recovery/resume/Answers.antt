@@ -11,25 +11,25 @@ use Rattle.oram_session.proofs.recovery.resume.Goals as goal
 
 -- an idle or failed core
 
-pub returns-then-is_settled-clause-count : goal.returns-then-is_settled-clause-count
-returns-then-is_settled-clause-count g c = λ going. absurd (going (sym c.is_settled.ensures ∙ c.if-is_settled.true))
+pub returns-then-has_no_work-clause-count : goal.returns-then-has_no_work-clause-count
+returns-then-has_no_work-clause-count g c = λ going. absurd (going (sym c.has_no_work.ensures ∙ c.if-has_no_work.true))
 
-pub returns-then-is_settled-clause-ok : goal.returns-then-is_settled-clause-ok
-returns-then-is_settled-clause-ok g c = λ going. absurd (going (sym c.is_settled.ensures ∙ c.if-is_settled.true))
+pub returns-then-has_no_work-clause-ok : goal.returns-then-has_no_work-clause-ok
+returns-then-has_no_work-clause-ok g c = λ going. absurd (going (sym c.has_no_work.ensures ∙ c.if-has_no_work.true))
 
 -- any other core
 
 pub reopen-requires : goal.reopen-requires
-reopen-requires g c = λ settled. let e : false ≡ true = sym c.if-is_settled.false ∙ c.is_settled.ensures ∙ settled in cc
+reopen-requires g c = λ no_work. let e : false ≡ true = sym c.if-has_no_work.false ∙ c.has_no_work.ensures ∙ no_work in cc
 
 pub returns-in_err-reaction-clause-none : goal.returns-in_err-reaction-clause-none
-returns-in_err-reaction-clause-none g c = λ settled. let e : false ≡ true = sym c.if-is_settled.false ∙ c.is_settled.ensures ∙ settled in absurd cc
+returns-in_err-reaction-clause-none g c = λ no_work. let e : false ≡ true = sym c.if-has_no_work.false ∙ c.has_no_work.ensures ∙ no_work in absurd cc
 
 pub returns-in_err-reaction-clause-memory : goal.returns-in_err-reaction-clause-memory
 returns-in_err-reaction-clause-memory g c = λ e. inl (c.in_err-reaction.ensures.err, refl)
 
 pub returns-in_err-exchange_all-clause-none : goal.returns-in_err-exchange_all-clause-none
-returns-in_err-exchange_all-clause-none g c = λ settled. let e : false ≡ true = sym c.if-is_settled.false ∙ c.is_settled.ensures ∙ settled in absurd cc
+returns-in_err-exchange_all-clause-none g c = λ no_work. let e : false ≡ true = sym c.if-has_no_work.false ∙ c.has_no_work.ensures ∙ no_work in absurd cc
 
 pub returns-in_err-exchange_all-clause-stalled : goal.returns-in_err-exchange_all-clause-stalled
 returns-in_err-exchange_all-clause-stalled g c = λ e.
@@ -75,7 +75,7 @@ returns-in_err-exchange_all-clause-memory g c = λ e.
     })
 
 pub returns-clause-none : goal.returns-clause-none
-returns-clause-none g c = λ settled. let e : false ≡ true = sym c.if-is_settled.false ∙ c.is_settled.ensures ∙ settled in absurd cc
+returns-clause-none g c = λ no_work. let e : false ≡ true = sym c.if-has_no_work.false ∙ c.has_no_work.ensures ∙ no_work in absurd cc
 
 pub returns-clause-ok : goal.returns-clause-ok
 returns-clause-ok g c = λ _.

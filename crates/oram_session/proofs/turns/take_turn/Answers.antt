@@ -49,7 +49,7 @@ returns-in_ok-reply-in-Accepted-clause-ok g c =
       refl,
       sym c.session_reply.ensures,
       accepted_turn v g.L.Link.calls words c.args.session c.args.body.now c.args.core.now.state c.submit.new.core.state c.args.link.now (c.carry_out.new.core.state, c.carry_out.new.link) x c.in-Accepted.field-0 w.0 c.in_ok-reply-in-Accepted.reply
-          asked c.in-Accepted.is sent c.in_ok-reply-in-Accepted.ensures.settled w.2,
+          asked c.in-Accepted.is sent c.in_ok-reply-in-Accepted.ensures.no_work w.2,
     )
 
 pub returns-in_err-reply-in-Accepted-clause-stalled : goal.returns-in_err-reply-in-Accepted-clause-stalled
