@@ -308,31 +308,31 @@ module _ {L : Type 0} (calls : L → List ℕ → Outcome → L → Type 0) (hos
     abbrev After : State × L → (ℕ → List ℕ) → Turn → State × L → Type 0
     After p array turn q = (after : ℕ → List ℕ) × IsArrayTurn v.device array turn after × IsHeld v host_of q after
 
-    asked : (o : Option Refusal) (p q : State × L) (array : ℕ → List ℕ) (turn : Turn) (h : IsServed v calls words session p turn q)
+    accepted_or_not : (o : Option Refusal) (p q : State × L) (array : ℕ → List ℕ) (turn : Turn) (h : IsServed v calls words session p turn q)
         → IsHeld v host_of p array
-        → (let x : Submission = record { session = session; ticket = p.0.next; command = command_of h.asked.message; words = words p.0.next (2 * trees_of v.device) } in
+        → (let x : Submission = record { session = session; ticket = p.0.next; command = command_of h.begins.message; words = words p.0.next (2 * trees_of v.device) } in
         (did h.shown h.begun ≡ submitted_by v p.0 x o) × (refusal_of v.device (is_over (status_in p.0)) (length p.0.queue) p.0.next x.command x.words ≡ o))
         → After p array turn q
-    asked (Some e) p q array turn h held is =
+    accepted_or_not (Some e) p q array turn h held is =
         let note : h.shown.note ≡ _ = ap (λ (d : Did). d.note) is.0 in
         let reply = subst (λ (n : Note). IsReply v calls words session n (h.begun, p.1) turn q) note h.replied in
         let same : h.begun ≡ p.0 = ap (λ (d : Did). d.state) is.0 in
-        let c : Command = command_of h.asked.message in
+        let c : Command = command_of h.begins.message in
         let ws : List ℕ = words p.0.next (2 * trees_of v.device) in
         let none : refusal_of v.device false (length p.0.queue) p.0.next c ws ≡ Some e =
         sym (ap (λ (b : Bool). refusal_of v.device b (length p.0.queue) p.0.next c ws) (not_over p.0 held.alive)) ∙ is.1 in (
           array,
-          inr (h.asked.message, h.asked.request, inr (e, refused_for v.device (length p.0.queue) p.0.next c ws e none, reply.1, refl)),
+          inr (h.begins.message, h.begins.request, inr (e, refused_for v.device (length p.0.queue) p.0.next c ws e none, reply.1, refl)),
           subst (λ (z : State × L). IsHeld v host_of z array) reply.2 (subst (λ (s : State). IsHeld v host_of (s, p.1) array) (sym same) held),
         )
-    asked None p q array turn h held is =
-        let x : Submission = record { session = session; ticket = p.0.next; command = command_of h.asked.message; words = words p.0.next (2 * trees_of v.device) } in
+    accepted_or_not None p q array turn h held is =
+        let x : Submission = record { session = session; ticket = p.0.next; command = command_of h.begins.message; words = words p.0.next (2 * trees_of v.device) } in
         let note : h.shown.note ≡ _ = ap (λ (d : Did). d.note) is.0 in
         let reply = subst (λ (n : Note). IsReply v calls words session n (h.begun, p.1) turn q) note h.replied in
-        let w : IsBusy v host_of (h.begun, p.1) x array = accepted false calls host_of v heard_by device p session x.command x.words h.shown h.begun array held h.asked.step is.0 in
+        let w : IsBusy v host_of (h.begun, p.1) x array = accepted false calls host_of v heard_by device p session x.command x.words h.shown h.begun array held h.begins.step is.0 in
         let done = all_sent turn.sendings (h.begun, p.1) q x array reply.2 w reply.0 reply.3 in (
           array_after v.device x.command array,
-          inr (h.asked.message, h.asked.request, inl (reply.4 ∙ ap (λ (z : Reply). session_reply z.body) done.0, refl)),
+          inr (h.begins.message, h.begins.request, inl (reply.4 ∙ ap (λ (z : Reply). session_reply z.body) done.0, refl)),
           done.1,
         )
 
@@ -341,10 +341,10 @@ module _ {L : Type 0} (calls : L → List ℕ → Outcome → L → Type 0) (hos
     turned p q array turn held (inl h) =
         (array, inl (h.none, h.reply, refl), subst (λ (z : State × L). IsHeld v host_of z array) h.same held)
     turned p q array turn held (inr h) =
-        let c : Command = command_of h.asked.message in
+        let c : Command = command_of h.begins.message in
         let ws : List ℕ = words p.0.next (2 * trees_of v.device) in
         let why : Option Refusal = refusal_of v.device (is_over (status_in p.0)) (length p.0.queue) p.0.next c ws in
-        asked why p q array turn h held (h.asked.step.plain (submitted_by v p.0 (record { session = session; ticket = p.0.next; command = c; words = ws }) why) refl, refl)
+        accepted_or_not why p q array turn h held (h.begins.step.plain (submitted_by v p.0 (record { session = session; ticket = p.0.next; command = c; words = ws }) why) refl, refl)
 
     session_held : (turns : List Turn) (p q : State × L) (array : ℕ → List ℕ) → IsHeld v host_of p array
         → FoldsTo {P = State × L} (IsTurn v calls words session) p turns q

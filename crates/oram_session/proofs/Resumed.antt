@@ -74,13 +74,13 @@ resent_under_way s t y h e =
     subst IsUnderWay (sym e) there
 
 -- the two, one after the other
-pub told_again : (v : Scheme) (s u t : State) (x y : Shown) → Steps v s Reopen x u → Steps v u Retry y t → x.replies ≡ [] → y.replies ≡ [] → Runs v s (Reopen ∷ Retry ∷ []) [] t
-told_again v s u t x y first second none none' =
+pub reopened_and_retried : (v : Scheme) (s u t : State) (x y : Shown) → Steps v s Reopen x u → Steps v u Retry y t → x.replies ≡ [] → y.replies ≡ [] → Runs v s (Reopen ∷ Retry ∷ []) [] t
+reopened_and_retried v s u t x y first second none none' =
     (x, u, [], first, (y, t, [], second, (refl, refl), sym (append-nil y.replies ∙ none')), sym (append-nil x.replies ∙ none))
 
 -- only the reopening
-pub told_once : (v : Scheme) (s u : State) (x : Shown) → Steps v s Reopen x u → x.replies ≡ [] → Runs v s (Reopen ∷ []) [] u
-told_once v s u x step none = (x, u, [], step, (refl, refl), sym (append-nil x.replies ∙ none))
+pub only_reopened : (v : Scheme) (s u : State) (x : Shown) → Steps v s Reopen x u → x.replies ≡ [] → Runs v s (Reopen ∷ []) [] u
+only_reopened v s u x step none = (x, u, [], step, (refl, refl), sym (append-nil x.replies ∙ none))
 
 -- the effect of an answer
 

@@ -39,7 +39,7 @@ module _ (v : Scheme) {L : Type 0} (calls : L → List ℕ → Outcome → L →
     pub same : p ≡ q
 
   -- the core gets the command of the request, with the tape's words of the next ticket, and shows x
-  pub record IsAsked (body : List ℕ) (s : State) (x : Shown) (t : State) : Type 0 where
+  pub record BeginsTurn (body : List ℕ) (s : State) (x : Shown) (t : State) : Type 0 where
     pub message : SessionRequest
     pub request : IsRequest body message
     pub step : Steps v s (Submit session (command_of message) (words s.next (2 * trees_of v.device))) x t
@@ -59,7 +59,7 @@ module _ (v : Scheme) {L : Type 0} (calls : L → List ℕ → Outcome → L →
   pub record IsServed (p : State × L) (turn : Turn) (q : State × L) : Type 0 where
     pub shown : Shown
     pub begun : State
-    pub asked : IsAsked turn.body p.0 shown begun
+    pub begins : BeginsTurn turn.body p.0 shown begun
     pub replied : IsReply shown.note (begun, p.1) turn q
 
   abbrev pub IsTurn : State × L → Turn → State × L → Type 0
@@ -70,7 +70,7 @@ module _ (v : Scheme) {L : Type 0} (calls : L → List ℕ → Outcome → L →
     pub shown : Shown
     pub begun : State
     pub ticket : ℕ
-    pub asked : IsAsked body p.0 shown begun
+    pub begins : BeginsTurn body p.0 shown begun
     pub accepted : shown.note ≡ note.Accepted ticket
     pub sendings : List Delivery
     pub sent : AllSent v calls most_retries (begun, p.1) sendings q

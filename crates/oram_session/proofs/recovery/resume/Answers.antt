@@ -42,7 +42,7 @@ returns-in_err-exchange_all-clause-stalled g c = λ e.
       mid = w.1;
       went = record {
         reopened = c.reopen.new.core.state;
-        told = c.in_ok-reaction.ensures.ok;
+        resumes = c.in_ok-reaction.ensures.ok;
         sent = subst (λ (u : Scheme). AllSentFrom u g.L.Link.calls first_retries most_retries (c.reopen.new.core.state, c.args.link.now) w.0 w.1) same w.3;
       };
       last = w.2;
@@ -67,7 +67,7 @@ returns-in_err-exchange_all-clause-memory g c = λ e.
       mid = w.1;
       went = record {
         reopened = c.reopen.new.core.state;
-        told = c.in_ok-reaction.ensures.ok;
+        resumes = c.in_ok-reaction.ensures.ok;
         sent = subst (λ (u : Scheme). AllSentFrom u g.L.Link.calls first_retries most_retries (c.reopen.new.core.state, c.args.link.now) w.0 w.1) same w.3;
       };
       last = w.2;
@@ -85,7 +85,7 @@ returns-clause-ok g c = λ _.
       w.1 ∙ ap length c.in_ok-reaction.ensures.queue ∙ sym c.waiting-waiting.ensures,
       record {
         reopened = c.reopen.new.core.state;
-        told = c.in_ok-reaction.ensures.ok;
+        resumes = c.in_ok-reaction.ensures.ok;
         sent = subst (λ (u : Scheme). AllSentFrom u g.L.Link.calls first_retries most_retries (c.reopen.new.core.state, c.args.link.now) w.0 (c.exchange_all.new.core.state, c.exchange_all.new.link)) same w.3;
       },
     )
