@@ -8,7 +8,7 @@ use Rattle.oram_link_laws.specs.Examples.{new_core, new_host, one_block}
 use Rattle.oram_rounds.specs.Examples.{zero_array}
 use Rattle.oram_rounds.specs.Files.{IsFile, IsFileOf}
 use Rattle.oram_rounds.specs.Process.{IsKept, IsSafe, begun}
-use Rattle.oram_client.specs.declared.file_step.FileReason.TheVariants as reason
+use Rattle.oram_cli.specs.declared.file_faults.FileReason.TheVariants as reason
 use Rattle.oram_client.specs.declared.file_step.FileStep.TheVariants as step
 use Rattle.oram_client.specs.declared.kept_file.Head.{Head}
 use Rattle.oram_client.specs.declared.kept_file.SealerKind.TheVariants.{Plain}
@@ -122,7 +122,7 @@ having_failed bytes others = record {
   place = noting (Writes true (kept_file some_head others)) false (place_with bytes);
   head = some_head;
   sync = true;
-  failure = Some (record { step = step.Create; reason = reason.NoRoom });
+  failure = Some (record { step = step.Create; reason = reason.DiskFull });
 }
 
 -- the place of the next process, which has read the file
