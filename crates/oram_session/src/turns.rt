@@ -138,46 +138,108 @@ pub fn serve<S: Sealer, R: Read, W: Write, L: Link, T: Tape>(
     ensures tape { T.words tape.new ≡ T.words tape.old }
     ensures ok { let v = scheme_of S.cipher core.old in
         IfOk result (λ k. (turns : List Turn) × (length turns ≡ k)
-        × HasServed v L.calls (T.words tape.old) session (core.old.state, link.old) turns (core.new.state, link.new)
-        [] (R.remaining reader.old) (R.remaining reader.new) [] (W.contents writer.old) (W.contents writer.new)
+        × HasServed v L.calls (T.words tape.old) session (record {
+          before = (core.old.state, link.old);
+          turns = turns;
+          after = (core.new.state, link.new);
+          input = R.remaining reader.old;
+          part = [];
+          rest = R.remaining reader.new;
+          output = W.contents writer.old;
+          more = [];
+          written = W.contents writer.new;
+        })
         × IsAtEnd (R.remaining reader.new)) }
 
     // A frame's length is too great, the input ends inside a frame, or the reader fails before a frame is whole.
     ensures frame { let v = scheme_of S.cipher core.old in
         IsErrOf result ServeFault.Frame → (turns : List Turn) × (head : List ℕ) × (length head ≡ 4) × IsBroken head
-        × HasServed v L.calls (T.words tape.old) session (core.old.state, link.old) turns (core.new.state, link.new)
-        head (R.remaining reader.old) (R.remaining reader.new) [] (W.contents writer.old) (W.contents writer.new) }
+        × HasServed v L.calls (T.words tape.old) session (record {
+          before = (core.old.state, link.old);
+          turns = turns;
+          after = (core.new.state, link.new);
+          input = R.remaining reader.old;
+          part = head;
+          rest = R.remaining reader.new;
+          output = W.contents writer.old;
+          more = [];
+          written = W.contents writer.new;
+        }) }
     ensures truncated { let v = scheme_of S.cipher core.old in
         IsErrOf result ServeFault.Truncated → (turns : List Turn) × (part : List ℕ) × (0 < length part) × IsUnfinished part
-        × HasServed v L.calls (T.words tape.old) session (core.old.state, link.old) turns (core.new.state, link.new)
-        part (R.remaining reader.old) (R.remaining reader.new) [] (W.contents writer.old) (W.contents writer.new)
+        × HasServed v L.calls (T.words tape.old) session (record {
+          before = (core.old.state, link.old);
+          turns = turns;
+          after = (core.new.state, link.new);
+          input = R.remaining reader.old;
+          part = part;
+          rest = R.remaining reader.new;
+          output = W.contents writer.old;
+          more = [];
+          written = W.contents writer.new;
+        })
         × IsAtEnd (R.remaining reader.new) }
     ensures read { let v = scheme_of S.cipher core.old in
         IsErrOf result ServeFault.Read → (turns : List Turn) × (part : List ℕ) × IsUnfinished part
-        × HasServed v L.calls (T.words tape.old) session (core.old.state, link.old) turns (core.new.state, link.new)
-        part (R.remaining reader.old) (R.remaining reader.new) [] (W.contents writer.old) (W.contents writer.new) }
+        × HasServed v L.calls (T.words tape.old) session (record {
+          before = (core.old.state, link.old);
+          turns = turns;
+          after = (core.new.state, link.new);
+          input = R.remaining reader.old;
+          part = part;
+          rest = R.remaining reader.new;
+          output = W.contents writer.old;
+          more = [];
+          written = W.contents writer.new;
+        }) }
 
     // Only a beginning of the last reply was written, or all of it but not flushed.
     ensures write { let v = scheme_of S.cipher core.old in
         IsErrOf result ServeFault.Write → (turns : List Turn) × (mid : State × L) × (last : Turn) × (count : ℕ) × IsBody last.body
         × IsTurn v L.calls (T.words tape.old) session mid last (core.new.state, link.new)
-        × HasServed v L.calls (T.words tape.old) session (core.old.state, link.old) turns mid
-        (frame last.body) (R.remaining reader.old) (R.remaining reader.new)
-        (take count (reply_frame last)) (W.contents writer.old) (W.contents writer.new) }
+        × HasServed v L.calls (T.words tape.old) session (record {
+          before = (core.old.state, link.old);
+          turns = turns;
+          after = mid;
+          input = R.remaining reader.old;
+          part = frame last.body;
+          rest = R.remaining reader.new;
+          output = W.contents writer.old;
+          more = take count (reply_frame last);
+          written = W.contents writer.new;
+        }) }
 
     // One message of the last request stalled four times.
     ensures stalled { let v = scheme_of S.cipher core.old in
         IsErrOf result ServeFault.Stalled → (turns : List Turn) × (mid : State × L) × (body : List ℕ) × IsBody body
         × IsStuck v L.calls (T.words tape.old) session mid body (core.new.state, link.new)
-        × HasServed v L.calls (T.words tape.old) session (core.old.state, link.old) turns mid
-        (frame body) (R.remaining reader.old) (R.remaining reader.new) [] (W.contents writer.old) (W.contents writer.new) }
+        × HasServed v L.calls (T.words tape.old) session (record {
+          before = (core.old.state, link.old);
+          turns = turns;
+          after = mid;
+          input = R.remaining reader.old;
+          part = frame body;
+          rest = R.remaining reader.new;
+          output = W.contents writer.old;
+          more = [];
+          written = W.contents writer.new;
+        }) }
 
     // If memory runs out, everything done before stays done: these turns, and a last one as far as it came.
     ensures memory { let v = scheme_of S.cipher core.old in
         IsErrOf result ServeFault.OutOfMemory → (turns : List Turn) × (mid : State × L) × (part : List ℕ)
         × IsLeft v L.calls (T.words tape.old) session mid part (core.new.state, link.new)
-        × HasServed v L.calls (T.words tape.old) session (core.old.state, link.old) turns mid
-        part (R.remaining reader.old) (R.remaining reader.new) [] (W.contents writer.old) (W.contents writer.new) }
+        × HasServed v L.calls (T.words tape.old) session (record {
+          before = (core.old.state, link.old);
+          turns = turns;
+          after = mid;
+          input = R.remaining reader.old;
+          part = part;
+          rest = R.remaining reader.new;
+          output = W.contents writer.old;
+          more = [];
+          written = W.contents writer.new;
+        }) }
 {
     for served in 0..u64::MAX {
         let Some(body) = next_frame(alloc, reader)? else {
