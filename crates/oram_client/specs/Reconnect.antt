@@ -41,7 +41,7 @@ abbrev pub link_outcome : Attempt → BatchOutcome
 link_outcome (Ok answers) = Ok answers
 link_outcome (Err trouble) = Err (fault_of trouble)
 
--- what a program is told that asks whether the host is there: the host has answered, or this is why it hasn't
+-- what a program learns that asks whether its host is there: that the host has answered, or why it hasn't
 abbrev pub IsReached : {A : Type 0} → BatchOutcome → Option Trouble → Result A Trouble → Type 0
 IsReached outcome None result = MatchResult outcome (λ answers. IsOk result) (λ fault. result ≡ Err (OutOfReach fault))
 IsReached outcome (Some trouble) result = result ≡ Err trouble

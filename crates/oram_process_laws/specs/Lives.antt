@@ -32,7 +32,7 @@ pub record Happening : Type 0 where
   pub event : Event
   pub shown : Shown
 
--- a run of the core is_run it from one state to another
+-- the core goes from one state to another in this run
 abbrev pub IsRun : Scheme → State → List Happening → State → Type 0
 IsRun v s run t = FoldsTo {P = State} (λ a h b. Steps v a h.event h.shown b) s run t
 
@@ -126,12 +126,12 @@ module _ (v : Scheme) {B K : Type 0} (batches : B → List (List ℕ) → BatchO
   left_before core zero p lives = []
   left_before core (suc n) p lives = left_before core n lives.0 lives.3 ++ (left_by lives.1 ++ bodies_of lives.5.exchanges)
 
--- The run is_run from the formatted core to this one, and all that it shows is right.
+-- The run leads from the formatted core to this one, and all that it shows is right.
 abbrev pub IsRightRun : Setting → List Tree → List Happening → State → Type 0
 IsRightRun v trees run core =
     IsRun v.scheme (new_state v trees) run core × AllRight v [] (map (λ (h : Happening). h.event) run) (map (λ (h : Happening). h.shown) run)
 
--- However many processes there are, and wherever each ends: one run is_run from the formatted core to the one that the last
+-- However many processes there are, and wherever each ends: one run leads from the formatted core to the one that the last
 -- process begins with, and with all that happens to it this run goes on to its core, up to any moment. All that it shows
 -- is right: the replies, the places of the tape and the nonces.
 abbrev pub LivesAreOneRun : {B K : Type 0} → (B → List (List ℕ) → BatchOutcome → List Exchange → B → Type 0) → (K → List ℕ → Type 0) → Type 0

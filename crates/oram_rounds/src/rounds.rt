@@ -52,8 +52,8 @@ pub fn keep<S: Sealer, B, K: Keeper>(
 /// Keeps the commands that are at work, carries them out, and returns their replies in order. These may be given at once:
 /// what is kept has the commands, so a process that begins with it carries them out again, with the same effect.
 ///
-/// The first FETCH of each command goes ahead as soon as all of them are kept. So over one tree a round waits for the host
-/// once, and over more trees once, and then once for each command and each tree but the last.
+/// The first FETCH of each command goes ahead as soon as all of them are kept. So with one tree a round waits for the host
+/// once. With more trees it waits once, and then once more for each command and each tree but the last.
 pub fn perform<S: Sealer, B: BatchLink, K: Keeper>(
     alloc: Global,
     core: &mut Core<S>,
