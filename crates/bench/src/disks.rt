@@ -15,7 +15,7 @@ use oram_geometry::Device;
 use oram_host::Server;
 use oram_nbd::{Arrived, transmit};
 use oram_rounds::{KeepError, Keeper, OneByOne, RoundLink, perform, record_len};
-use oram_session::{ChaChaTape, Direct, is_settled, submit};
+use oram_session::{ChaChaTape, Direct, has_no_work, submit};
 use oram_volume::Volume;
 use requests::{Access, BLOCK_BYTES, BLOCKS, REQUESTS, said, some_accesses};
 use std::alloc::Global;
@@ -115,7 +115,7 @@ fn carry_out<K: Keeper + Drop>(
     disk: &mut KeptVolume<K>,
     command: Command,
 ) -> io::Result<()> {
-    if !is_settled(&disk.core) {
+    if !has_no_work(&disk.core) {
         return Err(failed());
     }
     let reaction = submit(alloc, &mut disk.core, &mut disk.tape, 0, command)?;

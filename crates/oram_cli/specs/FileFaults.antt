@@ -13,6 +13,7 @@ abbrev pub reason_of : ErrorKind → FileReason
 reason_of error.NotFound = reason.Missing
 reason_of error.AlreadyExists = reason.Exists
 reason_of error.PermissionDenied = reason.NotPermitted
+reason_of error.ReadOnlyFilesystem = reason.NotPermitted
 reason_of error.StorageFull = reason.DiskFull
 reason_of error.QuotaExceeded = reason.DiskFull
 reason_of error.IsADirectory = reason.Folder

@@ -50,13 +50,13 @@ impl From<AllocError> for FileFault {
 }
 
 /// Returns the reason for an error of this kind.
-fn reason_of(kind: ErrorKind) -> FileReason
+pub fn reason_of(kind: ErrorKind) -> FileReason
     ensures { result ≡ spec.reason_of kind }
 {
     match kind {
         ErrorKind::NotFound => FileReason::Missing,
         ErrorKind::AlreadyExists => FileReason::Exists,
-        ErrorKind::PermissionDenied => FileReason::NotPermitted,
+        ErrorKind::PermissionDenied | ErrorKind::ReadOnlyFilesystem => FileReason::NotPermitted,
         ErrorKind::StorageFull | ErrorKind::QuotaExceeded => FileReason::DiskFull,
         ErrorKind::IsADirectory => FileReason::Folder,
         _ => FileReason::Other,

@@ -19,7 +19,7 @@ mod tables;
 mod writer;
 
 pub use command_line::{arguments, read_named, texts_of, word_taker};
-pub use file_faults::{FileFault, FileReason, call_fault, file_fault};
+pub use file_faults::{FileFault, FileReason, call_fault, file_fault, reason_of};
 pub use files::{
     AtomicFile, bytes_in, create_for_owner, folder_of, new_name, sync_folder, text_in,
 };

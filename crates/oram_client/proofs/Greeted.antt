@@ -41,4 +41,4 @@ module _ {S : Type 0} (remaining contents : S → Option (List ℕ)) where
   -- The connection may be any.
   pub somewhere : (reader writer : S) (identity : List ℕ) (trouble : Trouble) → IsUngreetedOver remaining contents reader writer identity trouble
       → IsUngreeted remaining contents identity trouble
-  somewhere reader writer identity trouble shown = inr (reader, writer, shown)
+  somewhere reader writer identity trouble shows = inr (reader, writer, shows)

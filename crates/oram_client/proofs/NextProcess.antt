@@ -1,5 +1,5 @@
 -- The next process reads what was kept.
-use Rattle.std.proofs.Common.{◌≡◌, inl, inr, refl, ℕ, ◌<◌, ◌^◌, arith, Bool, true, false, List, [], ◌∷◌, ◌++◌, length, Option, None, Some, sym, ◌∙◌, ap, subst, codes, take, drop, slice_index}
+use Rattle.std.proofs.Common.{◌≡◌, inl, inr, refl, ℕ, arith, Bool, true, false, List, [], ◌∷◌, ◌++◌, length, Option, None, Some, sym, ◌∙◌, ap, subst, codes, take, drop, slice_index}
 use Rattle.std.specs.Prelude.{◌↔◌}
 use Rattle.std.proofs.lemmas.List.{append_cancel_left, drop_at, take_at}
 use Rattle.oram_link_laws.specs.Examples.{new_core, one_block}
@@ -57,7 +57,7 @@ one_disk disk other file t overhead u =
     subst (λ (n : ℕ). IsFileOf n other.device u.process other.stores other.core) overhead u.decoded in
     let here : IsFileOf disk.overhead other.device t.process other.stores other.core =
     subst (λ (b : List ℕ). IsFileOf disk.overhead other.device b other.stores other.core) (sym same.1) theirs in
-    let one = one_process disk.overhead other.device disk.device t.process other.stores disk.stores other.core disk.core t.short here t.decoded in
+    let one = one_process disk.overhead other.device disk.device t.process other.stores disk.stores other.core disk.core here t.decoded in
     let head : other.head ≡ disk.head = sym same.0 in
     λ k. record { head = head k; overhead = overhead k; device = one.1 k; stores = one.0 k; core = one.2 k }
 
@@ -96,9 +96,9 @@ module _ {P : Type 0} (does : P → FileDeed → Bool → P → Type 0) (may_be 
   }
 
   pub unkept_leaves_one : UnkeptLeavesOne does may_be
-  unkept_leaves_one k m before process old disk told lasts t synced keeps d possible n left =
+  unkept_leaves_one k m before process old disk before_tells lasts t synced keeps d possible n left =
       elim (either_lasting does may_be folders_after some_folder k m process synced before lasts keeps.head k.failure keeps.kept d possible n left) [
-        | inl is ↦ inl (record { file = kept_file k.head before; is_found = of_head k m before (found n) keeps.head is; tells = tells_only (kept_file k.head before) old told })
+        | inl is ↦ inl (record { file = kept_file k.head before; is_found = of_head k m before (found n) keeps.head is; tells = tells_only (kept_file k.head before) old before_tells })
         | inr is ↦ inr (record { file = kept_file k.head process; is_found = of_head k m process (found n) keeps.head is; tells = tells_only (kept_file k.head process) disk t })
       ]
 
@@ -141,8 +141,8 @@ found_may_be_lost p q head sync bytes notes lasts =
 
 -- the example
 
-told : (bytes : List ℕ) → length bytes < 2 ^ 64 → IsFile one_block bytes [] new_core → TellsOf (kept_file some_head bytes) new_disk
-told bytes short file = record { is_head = record { salt = refl; key_check = refl }; process = bytes; short = short; whole = refl; decoded = file }
+tells_of_new : (bytes : List ℕ) → IsFile one_block bytes [] new_core → TellsOf (kept_file some_head bytes) new_disk
+tells_of_new bytes file = record { is_head = record { salt = refl; key_check = refl }; process = bytes; whole = refl; decoded = file }
 
 noted_by : (p : FilePlaceState) (deed : FileDeed) (done : Bool) → NotesDeed p deed done (noting deed done p)
 noted_by p deed done = record { name = refl; noted = refl }
@@ -163,8 +163,8 @@ place_after : (p : FilePlaceState) (deed : FileDeed) (d : Bool) (q : FilePlaceSt
 place_after p deed d q notes = possible_after p.notes deed d q.notes notes.noted
 
 pub next_process_example : NextProcessExample
-next_process_example bytes short file = (
-  told bytes short file,
+next_process_example bytes file = (
+  tells_of_new bytes file,
   first_kept bytes,
   lasting NotesDeed PlaceMayBe place_after (λ p. some_possible p.notes) (first_keeper empty_place some_head true) (having_kept bytes) bytes refl (first_kept bytes),
   (λ others. record { head = refl; sync = refl; kept = inl (noted_by (place_with bytes) (Writes true (kept_file some_head others)) false, inl refl) }),

@@ -10,7 +10,7 @@ use Rattle.oram_link_laws.proofs.Exchanged.{folds_join, folds_split}
 use Rattle.oram_rounds.specs.Batches.{BatchOutcome, IsBatch, answered}
 use Rattle.oram_rounds.specs.CatchUp.{IsPlainCall, PlainRun}
 use Rattle.oram_client.specs.OneHost.{AnswersAreTheHosts, AreTries, ExchangesAreOfTheTries, FaultsAreOfMemory, TriesRun}
-use Rattle.oram_client.specs.Reconnect.{Attempt, IsDelayed, IsTried, IsTroubleIn, MakesTries, IsGivenUp, ReconnectState, VainTry, NextTry, link_outcome}
+use Rattle.oram_client.specs.Reconnect.{Attempt, DialerKind, IsDelayed, IsGivenUp, IsTried, IsTroubleIn, MakesTries, NextTry, ReconnectState, VainTry, link_outcome}
 use Rattle.oram_session.specs.declared.link.LinkFault.{LinkFault}
 use Rattle.oram_session.specs.declared.link.LinkFault.TheVariants.{Io, Closed, TooLong, TooLarge, OutOfMemory}
 use Rattle.oram_client.specs.Dialer.{fault_of, lacks_memory}
@@ -71,19 +71,18 @@ unretried (Ok answers) fault trouble says shows none = cc
 unretried (Err why) fault None says shows none = memory_fault why fault (err_same fault (fault_of why) says) shows
 unretried (Err why) fault (Some trouble) says shows none = cc
 
-module _ {D L : Type 0} (opens : D → Limits → L → D → Type 0) (fails : D → Limits → Trouble → D → Type 0) (pauses : D → ℕ → D → Type 0)
-    (reads : D → Option ℕ → D → Type 0) (batches : L → List (List ℕ) → BatchOutcome → List Exchange → L → Type 0) where
+module _ {D L : Type 0} (kind : DialerKind D L) where
   one_try : (dialer dialer' : D) (line line' : Option L) (limits : Limits) (bodies : List (List ℕ)) (came : Attempt) (exchanges : List Exchange)
-      → IsTried opens fails batches dialer line limits bodies came exchanges dialer' line' → AreTries batches bodies (exchanges ∷ [])
+      → IsTried kind.opens kind.fails kind.batches dialer line limits bodies came exchanges dialer' line' → AreTries kind.batches bodies (exchanges ∷ [])
   one_try dialer dialer' line line' limits bodies came exchanges (inl unopened) = (inl unopened.unsent, tt)
   one_try dialer dialer' line line' limits bodies came exchanges (inr called) = (inr (called.way, called.way', called.outcome, called.called), tt)
 
-  tries_more : (bodies : List (List ℕ)) (first second : List (List Exchange)) → AreTries batches bodies first → AreTries batches bodies second → AreTries batches bodies (first ++ second)
+  tries_more : (bodies : List (List ℕ)) (first second : List (List Exchange)) → AreTries kind.batches bodies first → AreTries kind.batches bodies second → AreTries kind.batches bodies (first ++ second)
   tries_more bodies [] second one two = two
   tries_more bodies (xs ∷ first) second one two = (one.0, tries_more bodies first second one.1 two)
 
   vain_tries : (reconnect_timeout : ℕ) (begin : Option ℕ) (bodies : List (List ℕ)) (w x : NextTry D L) (vain : List VainTry)
-      → FoldsTo (IsDelayed opens fails pauses reads batches reconnect_timeout begin bodies) w vain x → AreTries batches bodies (lists_of vain)
+      → FoldsTo (IsDelayed kind reconnect_timeout begin bodies) w vain x → AreTries kind.batches bodies (lists_of vain)
   vain_tries reconnect_timeout begin bodies w x [] folds = tt
   vain_tries reconnect_timeout begin bodies w x (v ∷ vain) folds =
       let one = folds.1 in
@@ -92,10 +91,10 @@ module _ {D L : Type 0} (opens : D → Limits → L → D → Type 0) (fails : D
 
   -- the exchanges are those of the tries
   abbrev Divided : List (List ℕ) → List Exchange → Type 0
-  Divided bodies exchanges = (tries : List (List Exchange)) × AreTries batches bodies tries × (exchanges ≡ flat_map (λ (xs : List Exchange). xs) tries)
+  Divided bodies exchanges = (tries : List (List Exchange)) × AreTries kind.batches bodies tries × (exchanges ≡ flat_map (λ (xs : List Exchange). xs) tries)
 
   divided : (gave_up : Option Trouble) (l m : ReconnectState D L) (bodies : List (List ℕ)) (o : BatchOutcome) (exchanges : List Exchange)
-      → MatchOption gave_up (MakesTries opens fails pauses reads batches l bodies o exchanges m) (λ why. IsGivenUp opens fails pauses reads batches l o exchanges m)
+      → MatchOption gave_up (MakesTries kind l bodies o exchanges m) (λ why. IsGivenUp kind l o exchanges m)
       → Divided bodies exchanges
   divided None l m bodies o exchanges h = (
     lists_of h.vain ++ h.heard ∷ [],
@@ -105,7 +104,7 @@ module _ {D L : Type 0} (opens : D → Limits → L → D → Type 0) (fails : D
   )
   divided (Some why) l m bodies o exchanges h = ([], tt, h.unsent)
 
-  pub exchanges_are_of_the_tries : ExchangesAreOfTheTries opens fails pauses reads batches
+  pub exchanges_are_of_the_tries : ExchangesAreOfTheTries kind
   exchanges_are_of_the_tries l m bodies o exchanges h =
       let parts : Divided bodies exchanges = divided l.trouble l m bodies o exchanges h.passed in (
         parts.0,
@@ -124,24 +123,24 @@ module _ {D L : Type 0} (opens : D → Limits → L → D → Type 0) (fails : D
   with_room (Err why) answers trouble says shows none = cc
 
   roomy : (gave_up : Option Trouble) (l m : ReconnectState D L) (bodies answers : List (List ℕ)) (exchanges : List Exchange)
-      → MatchOption gave_up (MakesTries opens fails pauses reads batches l bodies (Ok answers) exchanges m)
-      (λ why. IsGivenUp opens fails pauses reads batches l (Ok answers) exchanges m)
+      → MatchOption gave_up (MakesTries kind l bodies (Ok answers) exchanges m)
+      (λ why. IsGivenUp kind l (Ok answers) exchanges m)
       → m.trouble ≡ None → ¬ IsAmong no_room_answer answers
   roomy None l m bodies answers exchanges h none = with_room h.came answers m.trouble h.says h.shows none
   roomy (Some why) l m bodies answers exchanges h none = let says = h.says in cc
 
-  pub answers_are_the_hosts : AnswersAreTheHosts opens fails pauses reads batches
+  pub answers_are_the_hosts : AnswersAreTheHosts kind
   answers_are_the_hosts law may_lie v l m bodies answers exchanges host after h run =
-      let batch : IsBatch bodies (Ok answers) exchanges = reconnects_are_batches opens fails pauses reads batches law l m bodies (Ok answers) exchanges h in
+      let batch : IsBatch bodies (Ok answers) exchanges = reconnects_are_batches kind law l m bodies (Ok answers) exchanges h in
       let whole : PlainRun may_lie v host (batch.1 ++ answered bodies answers) after = subst (λ (es : List Exchange). PlainRun may_lie v host es after) batch.3 run in
       (batch.1, batch.2, folds_split {P = Host} {A = Exchange} (Calls may_lie v) host after batch.1 (answered bodies answers) whole, roomy l.trouble l m bodies answers exchanges h.passed)
 
   faulty : (gave_up : Option Trouble) (l m : ReconnectState D L) (bodies : List (List ℕ)) (fault : LinkFault) (exchanges : List Exchange)
-      → MatchOption gave_up (MakesTries opens fails pauses reads batches l bodies (Err fault) exchanges m)
-      (λ why. IsGivenUp opens fails pauses reads batches l (Err fault) exchanges m)
+      → MatchOption gave_up (MakesTries kind l bodies (Err fault) exchanges m)
+      (λ why. IsGivenUp kind l (Err fault) exchanges m)
       → gave_up ≡ None → m.trouble ≡ None → fault ≡ OutOfMemory
   faulty None l m bodies fault exchanges h begun none = unretried h.came fault m.trouble h.says h.shows none
   faulty (Some why) l m bodies fault exchanges h begun none = cc
 
-  pub faults_are_of_memory : FaultsAreOfMemory opens fails pauses reads batches
+  pub faults_are_of_memory : FaultsAreOfMemory kind
   faults_are_of_memory l m bodies fault exchanges h begun none = faulty l.trouble l m bodies fault exchanges h.passed begun none

@@ -8,7 +8,7 @@ use Rattle.oram_link_laws.proofs.Exchanged.{folds_join}
 use Rattle.oram_rounds.specs.Batches.{BatchOutcome}
 use Rattle.oram_rounds.specs.CatchUp.{IsPlainCall, PlainRun}
 use Rattle.oram_client.specs.OneHost.{ExchangesAreOfOneHost, LeadToOneHost}
-use Rattle.oram_client.specs.Reconnect.{Attempt, HasLine, IsDelayed, IsGivenUp, IsTimedOut, IsTried, MakesTries, ReconnectState, VainTry, NextTry}
+use Rattle.oram_client.specs.Reconnect.{Attempt, DialerKind, HasLine, IsDelayed, IsGivenUp, IsTimedOut, IsTried, MakesTries, NextTry, ReconnectState, VainTry}
 use Rattle.oram_client.specs.declared.dialer.Limits.{Limits}
 use Rattle.oram_client.specs.declared.dialer.Trouble.{Trouble}
 use Rattle.oram_client.specs.declared.dialer.Trouble.TheVariants.{OutOfReach}
@@ -18,10 +18,9 @@ pub plain_run : (may_lie : Bool) (v : Scheme) (exchanges : List Exchange) (host 
 plain_run may_lie v [] host after run = run
 plain_run may_lie v (e ∷ exchanges) host after run = (run.0, inl run.1, plain_run may_lie v exchanges run.0 after run.2)
 
-module _ {D L : Type 0} (opens : D → Limits → L → D → Type 0) (fails : D → Limits → Trouble → D → Type 0) (pauses : D → ℕ → D → Type 0)
-    (reads : D → Option ℕ → D → Type 0) (batches : L → List (List ℕ) → BatchOutcome → List Exchange → L → Type 0)
+module _ {D L : Type 0} (kind : DialerKind D L)
     (may_lie : Bool) (v : Scheme) (bodies : List (List ℕ)) (host_of : D → Option L → Option Host)
-    (law : LeadToOneHost opens fails pauses reads batches may_lie v bodies host_of) where
+    (law : LeadToOneHost kind may_lie v bodies host_of) where
   abbrev Calls : Host → Exchange → Host → Type 0
   Calls h e g = IsPlainCall may_lie v h e.0 e.1 g
 
@@ -32,14 +31,14 @@ module _ {D L : Type 0} (opens : D → Limits → L → D → Type 0) (fails : D
   none_heard : (host : Host) (exchanges : List Exchange) → exchanges ≡ [] → PlainRun may_lie v host exchanges host
   none_heard host exchanges unsent = subst (λ (es : List Exchange). PlainRun may_lie v host es host) (sym unsent) refl
 
-  has_line : (line : Option L) (dialer dialer' : D) (limits : Limits) (way : L) (host : Host) → host_of dialer line ≡ Some host → HasLine opens fails batches dialer line limits way dialer'
+  has_line : (line : Option L) (dialer dialer' : D) (limits : Limits) (way : L) (host : Host) → host_of dialer line ≡ Some host → HasLine kind.opens kind.fails kind.batches dialer line limits way dialer'
       → host_of dialer' (Some way) ≡ Some host
   has_line None dialer dialer' limits way host is had = law.opened dialer dialer' limits way host is had
   has_line (Some held) dialer dialer' limits way host is had =
       ap (λ (d : D). host_of d (Some way)) had.1 ∙ ap (λ (l : L). host_of dialer (Some l)) had.0 ∙ is
 
   called_over : (outcome : BatchOutcome) (dialer : D) (way way' : L) (line' : Option L) (came : Attempt) (exchanges : List Exchange) (host : Host) → host_of dialer (Some way) ≡ Some host
-      → batches way bodies outcome exchanges way'
+      → kind.batches way bodies outcome exchanges way'
       → MatchResult outcome (λ answers. (came ≡ Ok answers) × (line' ≡ Some way')) (λ fault. (came ≡ Err (OutOfReach fault)) × (line' ≡ None))
       → Reached host exchanges dialer line'
   called_over (Ok answers) dialer way way' line' came exchanges host is called after =
@@ -50,7 +49,7 @@ module _ {D L : Type 0} (opens : D → Limits → L → D → Type 0) (fails : D
       (done.0, done.1, ap (λ (l : Option L). host_of dialer l) after.1 ∙ done.2)
 
   tried_once : (dialer dialer' : D) (line line' : Option L) (limits : Limits) (came : Attempt) (exchanges : List Exchange) (host : Host) → host_of dialer line ≡ Some host
-      → IsTried opens fails batches dialer line limits bodies came exchanges dialer' line' → Reached host exchanges dialer' line'
+      → IsTried kind.opens kind.fails kind.batches dialer line limits bodies came exchanges dialer' line' → Reached host exchanges dialer' line'
   tried_once dialer dialer' line line' limits came exchanges host is (inl unopened) =
       let before : host_of dialer None ≡ Some host = ap (λ (l : Option L). host_of dialer l) (sym unopened.none) ∙ is in (
         host,
@@ -65,7 +64,7 @@ module _ {D L : Type 0} (opens : D → Limits → L → D → Type 0) (fails : D
   joined first second host mid after one two = folds_join {P = Host} {A = Exchange} Calls host mid after first second one two
 
   tries_before : (reconnect_timeout : ℕ) (begin : Option ℕ) (w x : NextTry D L) (vain : List VainTry) (host : Host) → host_of w.dialer w.line ≡ Some host
-      → FoldsTo (IsDelayed opens fails pauses reads batches reconnect_timeout begin bodies) w vain x
+      → FoldsTo (IsDelayed kind reconnect_timeout begin bodies) w vain x
       → Reached host (flat_map (λ (u : VainTry). u.exchanges) vain) x.dialer x.line
   tries_before reconnect_timeout begin w x [] host is folds = (host, refl, subst (λ (y : NextTry D L). host_of y.dialer y.line ≡ Some host) folds is)
   tries_before reconnect_timeout begin w x (u ∷ vain) host is folds =
@@ -78,12 +77,12 @@ module _ {D L : Type 0} (opens : D → Limits → L → D → Type 0) (fails : D
       (later.0, joined u.exchanges (flat_map (λ (t : VainTry). t.exchanges) vain) host here.0 later.0 here.1 later.1, later.2)
 
   ended : (trouble : Option Trouble) (reconnect_timeout left : ℕ) (begin : Option ℕ) (mid dialer : D) (line : Option L) (host : Host) → host_of mid line ≡ Some host
-      → MatchOption trouble (dialer ≡ mid) (λ why. IsTimedOut pauses reads reconnect_timeout begin mid left why dialer) → host_of dialer line ≡ Some host
+      → MatchOption trouble (dialer ≡ mid) (λ why. IsTimedOut kind.pauses kind.reads reconnect_timeout begin mid left why dialer) → host_of dialer line ≡ Some host
   ended None reconnect_timeout left begin mid dialer line host is ends = ap (λ (d : D). host_of d line) ends ∙ is
   ended (Some why) reconnect_timeout left begin mid dialer line host is ends = law.clock_read mid dialer line ends.now host is ends.read
 
   passed : (gave_up : Option Trouble) (l m : ReconnectState D L) (o : BatchOutcome) (exchanges : List Exchange) (host : Host) → host_of l.dialer l.line ≡ Some host
-      → MatchOption gave_up (MakesTries opens fails pauses reads batches l bodies o exchanges m) (λ why. IsGivenUp opens fails pauses reads batches l o exchanges m)
+      → MatchOption gave_up (MakesTries kind l bodies o exchanges m) (λ why. IsGivenUp kind l o exchanges m)
       → Reached host exchanges m.dialer m.line
   passed None l m o exchanges host is h =
       let begun : host_of h.first l.line ≡ Some host = law.clock_read l.dialer h.first l.line h.begin host is h.read in
@@ -100,7 +99,6 @@ module _ {D L : Type 0} (opens : D → Limits → L → D → Type 0) (fails : D
     ap (λ (d : D). host_of d m.line) h.same_dialer ∙ ap (λ (line : Option L). host_of l.dialer line) h.same_line ∙ is,
   )
 
-pub exchanges_are_of_one_host : {D L : Type 0} (opens : D → Limits → L → D → Type 0) (fails : D → Limits → Trouble → D → Type 0) (pauses : D → ℕ → D → Type 0)
-    (reads : D → Option ℕ → D → Type 0) (batches : L → List (List ℕ) → BatchOutcome → List Exchange → L → Type 0) → ExchangesAreOfOneHost opens fails pauses reads batches
-exchanges_are_of_one_host opens fails pauses reads batches may_lie v bodies host_of law l m o exchanges host is h =
-    passed opens fails pauses reads batches may_lie v bodies host_of law l.trouble l m o exchanges host is h.passed
+pub exchanges_are_of_one_host : {D L : Type 0} (kind : DialerKind D L) → ExchangesAreOfOneHost kind
+exchanges_are_of_one_host kind may_lie v bodies host_of law l m o exchanges host is h =
+    passed kind may_lie v bodies host_of law l.trouble l m o exchanges host is h.passed

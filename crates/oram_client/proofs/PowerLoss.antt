@@ -30,8 +30,8 @@ placed_found : (file : List ℕ) (m : Names) → m.kept ≡ Some file → found 
 placed_found file m placed = ap (λ (kept : Option (List ℕ)). first_of kept m.aside) placed
 
 -- The rename is on the disk, or it isn't.
-settled_found : (file : List ℕ) (d : FolderHistory) (old : Option (List ℕ)) (m : Names) → IsSure d old → IsLeftByLoss (after_deed (after_deed d (Writes true file)) Renames) m → (found m ≡ old) ⊎ (found m ≡ Some file)
-settled_found file d old m sure left =
+no_work_found : (file : List ℕ) (d : FolderHistory) (old : Option (List ℕ)) (m : Names) → IsSure d old → IsLeftByLoss (after_deed (after_deed d (Writes true file)) Renames) m → (found m ≡ old) ⊎ (found m ≡ Some file)
+no_work_found file d old m sure left =
     elim left.kept [
       | inl placed ↦ inr (placed_found file m placed)
       | inr before ↦ inl (sure_found d old m sure (unchanged before) (unchanged (unchanged left.aside)))
@@ -51,7 +51,7 @@ cleared_found file d m left =
 meanwhile : (file : List ℕ) (old : Option (List ℕ)) (d : FolderHistory) → IsSure d old → (m : Names) → LosesPowerIn d (deeds_of true file) m → (found m ≡ old) ⊎ (found m ≡ Some file)
 meanwhile file old d sure m (inl left) = inl (written_found d old m false file sure left)
 meanwhile file old d sure m (inr (inl left)) = inl (written_found d old m true file sure left)
-meanwhile file old d sure m (inr (inr (inl left))) = settled_found file d old m sure left
+meanwhile file old d sure m (inr (inr (inl left))) = no_work_found file d old m sure left
 meanwhile file old d sure m (inr (inr (inr (inl left)))) = inr (synced_found file d m left)
 meanwhile file old d sure m (inr (inr (inr (inr left)))) = inr (cleared_found file d m left)
 

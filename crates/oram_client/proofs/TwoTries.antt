@@ -24,7 +24,7 @@ use Rattle.oram_rounds.specs.Batches.{BatchOutcome}
 use Rattle.oram_rounds.specs.CatchUp.{PlainRun}
 use Rattle.oram_rounds.proofs.KeptPaths.{serves_fetch}
 use Rattle.oram_client.specs.OneHost.{AnswersFirst, Bytes, LeadToOneHost, LeadsToHost, NeverFails, OpensNext, PausesBetween, ReadsNoClock, TwoTriesExample, comes_over, done_frame, done_link, emptied, fresh, host_after, host_now, host_over, messages, ones, ones_host, path_frame, two_tries}
-use Rattle.oram_client.specs.Reconnect.{IsDelayed, ReconnectBatch, first_pause}
+use Rattle.oram_client.specs.Reconnect.{IsDelayed, ReconnectBatch, dialer_kind, first_pause}
 use Rattle.oram_client.specs.StreamBatches.{StreamBatch, connection}
 use Rattle.oram_client.specs.declared.dialer.Limits.{Limits}
 use Rattle.oram_client.specs.declared.dialer.Trouble.TheVariants.{OutOfReach}
@@ -184,7 +184,7 @@ module _ (may_lie : Bool) where
   opened count more limits line host e opens =
       ap (λ (n : ℕ). host_now n (Some line)) opens.1 ∙ ap (λ (l : Bytes). host_over count l.closed l.reader) opens.0 ∙ opened_over count ∙ e
 
-  one_host : LeadToOneHost OpensNext NeverFails PausesBetween ReadsNoClock (StreamBatch known known) may_lie one_block messages host_now
+  one_host : LeadToOneHost (dialer_kind OpensNext NeverFails PausesBetween ReadsNoClock (StreamBatch known known)) may_lie one_block messages host_now
   one_host = record {
     opened = opened;
     unopened = λ d e limits trouble host is failed. absurd failed;
@@ -248,7 +248,7 @@ second_batch = record {
   );
 }
 
-first_try : IsDelayed OpensNext NeverFails PausesBetween ReadsNoClock (StreamBatch known known) 1000 None messages
+first_try : IsDelayed (dialer_kind OpensNext NeverFails PausesBetween ReadsNoClock (StreamBatch known known)) 1000 None messages
     (record { dialer = 0; line = None; pause = first_pause; left = 1000 })
     (record { trouble = OutOfReach Closed; exchanges = first_exchanges })
     (record { dialer = 1; line = None; pause = 200; left = 900 })
@@ -280,7 +280,7 @@ not_full (inl e) = cc
 not_full (inr (inl e)) = cc
 not_full (inr (inr none)) = none
 
-batch : ReconnectBatch OpensNext NeverFails PausesBetween ReadsNoClock (StreamBatch known known) fresh messages (Ok (done_answer ∷ payload_answer ones ∷ [])) two_tries done_link
+batch : ReconnectBatch (dialer_kind OpensNext NeverFails PausesBetween ReadsNoClock (StreamBatch known known)) fresh messages (Ok (done_answer ∷ payload_answer ones ∷ [])) two_tries done_link
 batch = record {
   passed = record {
     begin = None;

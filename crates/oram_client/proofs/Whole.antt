@@ -20,8 +20,8 @@ written sync file n m made = record { same = ap found made; fresh = ap (λ (k : 
 set_aside : (file : List ℕ) (n k m : Names) → IsReady n file k → Makes k SetsAside m → IsReady n file m
 set_aside file n k m ready made = record { same = ap found made ∙ ready.same; fresh = ap (λ (k : Names). k.fresh) made ∙ ready.fresh }
 
-settled : (file : List ℕ) (n k m : Names) → IsReady n file k → Makes k Renames m → IsPlaced file m
-settled file n k m ready made = ap (λ (k : Names). k.kept) made ∙ ap (λ (fresh : Option (List ℕ)). first_of fresh k.kept) ready.fresh
+in_place : (file : List ℕ) (n k m : Names) → IsReady n file k → Makes k Renames m → IsPlaced file m
+in_place file n k m ready made = ap (λ (k : Names). k.kept) made ∙ ap (λ (fresh : Option (List ℕ)). first_of fresh k.kept) ready.fresh
 
 cleared : (file : List ℕ) (k m : Names) → IsPlaced file k → Makes k Clears m → IsPlaced file m
 cleared file k m placed made = ap (λ (k : Names). k.kept) made ∙ placed
@@ -40,15 +40,15 @@ ends_syncing file k m placed (inr more) = ends_clearing file more.0 m (stays fil
 
 ends_settling : (file : List ℕ) (n k m : Names) → IsReady n file k → Leaves k Renames m → (found m ≡ found n) ⊎ (found m ≡ Some file)
 ends_settling file n k m ready (inl same) = inl (ap found same ∙ ready.same)
-ends_settling file n k m ready (inr made) = inr (found_placed file m (settled file n k m ready made))
+ends_settling file n k m ready (inr made) = inr (found_placed file m (in_place file n k m ready made))
 
 ends_replacing : (file : List ℕ) (n k m : Names) → IsReady n file k → EndsIn k (Renames ∷ SyncsFolder ∷ Clears ∷ []) m → (found m ≡ found n) ⊎ (found m ≡ Some file)
 ends_replacing file n k m ready (inl left) = ends_settling file n k m ready left
-ends_replacing file n k m ready (inr more) = inr (found_placed file m (ends_syncing file more.0 m (settled file n k more.0 ready more.1) more.2))
+ends_replacing file n k m ready (inr more) = inr (found_placed file m (ends_syncing file more.0 m (in_place file n k more.0 ready more.1) more.2))
 
 ends_renaming : (file : List ℕ) (n k m : Names) → IsReady n file k → EndsIn k (Renames ∷ Clears ∷ []) m → (found m ≡ found n) ⊎ (found m ≡ Some file)
 ends_renaming file n k m ready (inl left) = ends_settling file n k m ready left
-ends_renaming file n k m ready (inr more) = inr (found_placed file m (ends_clearing file more.0 m (settled file n k more.0 ready more.1) more.2))
+ends_renaming file n k m ready (inr more) = inr (found_placed file m (ends_clearing file more.0 m (in_place file n k more.0 ready more.1) more.2))
 
 ends_moving : (file : List ℕ) (n k m : Names) → IsReady n file k → EndsIn k (SetsAside ∷ Renames ∷ Clears ∷ []) m → (found m ≡ found n) ⊎ (found m ≡ Some file)
 ends_moving file n k m ready (inl (inl same)) = inl (ap found same ∙ ready.same)
@@ -72,6 +72,6 @@ files_outlast_failures sync file n m at broken = files_stay_whole sync file n m 
 
 pub files_are_kept : FilesAreKept
 files_are_kept true file n m (a, wrote, (b, moved, (c, synced, (d, clears, last)))) =
-    found_placed file m (stays file d m (cleared file c d (stays file b c (settled file n a b (written true file n a wrote) moved) synced) clears) last)
+    found_placed file m (stays file d m (cleared file c d (stays file b c (in_place file n a b (written true file n a wrote) moved) synced) clears) last)
 files_are_kept false file n m (a, wrote, (b, aside, (c, moved, (d, clears, last)))) =
-    found_placed file m (stays file d m (cleared file c d (settled file n b c (set_aside file n a b (written false file n a wrote) aside) moved) clears) last)
+    found_placed file m (stays file d m (cleared file c d (in_place file n b c (set_aside file n a b (written false file n a wrote) aside) moved) clears) last)

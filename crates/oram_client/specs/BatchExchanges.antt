@@ -12,7 +12,7 @@ use Rattle.oram_client.specs.Dialer.{fault_of}
 use Rattle.oram_client.specs.declared.dialer.Limits.{Limits}
 use Rattle.oram_client.specs.declared.dialer.Trouble.{Trouble}
 use Rattle.oram_client.specs.declared.dialer.Trouble.TheVariants.{OutOfReach}
-use Rattle.oram_client.specs.Reconnect.{Attempt, IsDelayed, IsGivenUp, IsTried, MakesTries, ReconnectBatch, ReconnectState, VainTry, NextTry, link_outcome}
+use Rattle.oram_client.specs.Reconnect.{Attempt, DialerKind, IsDelayed, IsGivenUp, IsTried, MakesTries, NextTry, ReconnectBatch, ReconnectState, VainTry, link_outcome}
 use Rattle.oram_client.specs.StreamBatches.{Carries, Connection, IsClosed, StreamBatch, cut_short}
 
 -- the messages of two lists of exchanges
@@ -58,10 +58,9 @@ module _ {R W : Type 0} (remaining : R → Option (List ℕ)) (contents : W → 
       → StreamBatch remaining contents l bodies o exchanges m → IsBatch bodies o exchanges
   streams_are_batches l m bodies o exchanges h = carried l.closed l m bodies o exchanges h.carried
 
-module _ {D L : Type 0} (opens : D → Limits → L → D → Type 0) (fails : D → Limits → Trouble → D → Type 0) (pauses : D → ℕ → D → Type 0)
-    (reads : D → Option ℕ → D → Type 0) (batches : L → List (List ℕ) → BatchOutcome → List Exchange → L → Type 0) (law : AreBatches batches) where
+module _ {D L : Type 0} (kind : DialerKind D L) (law : AreBatches kind.batches) where
   tried_among : (dialer dialer' : D) (line line' : Option L) (limits : Limits) (bodies : List (List ℕ)) (came : Attempt) (exchanges : List Exchange)
-      → IsTried opens fails batches dialer line limits bodies came exchanges dialer' line' → AreAmong (bodies_of exchanges) bodies
+      → IsTried kind.opens kind.fails kind.batches dialer line limits bodies came exchanges dialer' line' → AreAmong (bodies_of exchanges) bodies
   tried_among dialer dialer' line line' limits bodies came exchanges (inl unopened) =
       subst (λ (es : List Exchange). AreAmong (bodies_of es) bodies) (sym unopened.unsent) tt
   tried_among dialer dialer' line line' limits bodies came exchanges (inr called) =
@@ -69,7 +68,7 @@ module _ {D L : Type 0} (opens : D → Limits → L → D → Type 0) (fails : D
 
   -- the messages of all tries that failed
   pub vain_among : (reconnect_timeout : ℕ) (begin : Option ℕ) (bodies : List (List ℕ)) (w x : NextTry D L) (vain : List VainTry)
-      → FoldsTo (IsDelayed opens fails pauses reads batches reconnect_timeout begin bodies) w vain x → AreAmong (bodies_of (flat_map (λ v. v.exchanges) vain)) bodies
+      → FoldsTo (IsDelayed kind reconnect_timeout begin bodies) w vain x → AreAmong (bodies_of (flat_map (λ v. v.exchanges) vain)) bodies
   vain_among reconnect_timeout begin bodies w x [] folds = tt
   vain_among reconnect_timeout begin bodies w x (v ∷ vain) folds =
       let one = folds.1 in
@@ -95,7 +94,7 @@ module _ {D L : Type 0} (opens : D → Limits → L → D → Type 0) (fails : D
       faulty bodies o fault exchanges (before ++ heard) fault_is all (among_both bodies before heard among batch)
 
   made : (l m : ReconnectState D L) (bodies : List (List ℕ)) (o : BatchOutcome) (exchanges : List Exchange)
-      → MakesTries opens fails pauses reads batches l bodies o exchanges m → IsBatch bodies o exchanges
+      → MakesTries kind l bodies o exchanges m → IsBatch bodies o exchanges
   made l m bodies o exchanges h =
       let before = flat_map (λ (v : VainTry). v.exchanges) h.vain in
       let among : AreAmong (bodies_of before) bodies = vain_among l.reconnect_timeout h.begin bodies _ h.last h.vain h.delays in
@@ -109,12 +108,12 @@ module _ {D L : Type 0} (opens : D → Limits → L → D → Type 0) (fails : D
       ]
 
   passed : (gave_up : Option Trouble) (l m : ReconnectState D L) (bodies : List (List ℕ)) (o : BatchOutcome) (exchanges : List Exchange)
-      → MatchOption gave_up (MakesTries opens fails pauses reads batches l bodies o exchanges m) (λ why. IsGivenUp opens fails pauses reads batches l o exchanges m)
+      → MatchOption gave_up (MakesTries kind l bodies o exchanges m) (λ why. IsGivenUp kind l o exchanges m)
       → IsBatch bodies o exchanges
   passed None l m bodies o exchanges h = made l m bodies o exchanges h
   passed (Some why) l m bodies o exchanges h = faulty bodies o Closed exchanges [] h.says h.unsent tt
 
   -- A batch over a link that tries again has the exchanges of a batch: those of its earlier tries may have come to anything.
   pub reconnects_are_batches : (l m : ReconnectState D L) (bodies : List (List ℕ)) (o : BatchOutcome) (exchanges : List Exchange)
-      → ReconnectBatch opens fails pauses reads batches l bodies o exchanges m → IsBatch bodies o exchanges
+      → ReconnectBatch kind l bodies o exchanges m → IsBatch bodies o exchanges
   reconnects_are_batches l m bodies o exchanges h = passed l.trouble l m bodies o exchanges h.passed

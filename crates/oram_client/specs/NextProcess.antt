@@ -1,5 +1,5 @@
 -- What the next process reads of the file that it finds.
-use Rattle.std.specs.Prelude.{◌≡◌, ◌⊎◌, ℕ, ◌<◌, ◌^◌, Bool, true, false, List, [], ◌∷◌, None, Some, codes, length, replicate}
+use Rattle.std.specs.Prelude.{◌≡◌, ◌⊎◌, ℕ, Bool, true, false, List, [], ◌∷◌, None, Some, codes, replicate}
 use Rattle.oram_geometry.specs.declared.Sizes.{Sizes}
 use Rattle.oram_host.specs.Host.{Host}
 use Rattle.oram_semantics.specs.Scheme.{Scheme}
@@ -8,7 +8,7 @@ use Rattle.oram_link_laws.specs.Examples.{new_core, new_host, one_block}
 use Rattle.oram_rounds.specs.Examples.{zero_array}
 use Rattle.oram_rounds.specs.Files.{IsFile, IsFileOf}
 use Rattle.oram_rounds.specs.Process.{IsKept, IsSafe, begun}
-use Rattle.oram_client.specs.declared.file_step.FileReason.TheVariants as reason
+use Rattle.oram_cli.specs.declared.file_faults.FileReason.TheVariants as reason
 use Rattle.oram_client.specs.declared.file_step.FileStep.TheVariants as step
 use Rattle.oram_client.specs.declared.kept_file.Head.{Head}
 use Rattle.oram_client.specs.declared.kept_file.SealerKind.TheVariants.{Plain}
@@ -32,7 +32,6 @@ pub record KeptDisk : Type 0 where
 pub record TellsOf (file : List ℕ) (disk : KeptDisk) : Type 0 where
   pub is_head : IsHead disk.head
   pub process : List ℕ
-  pub short : length process < 2 ^ 64
   pub whole : file ≡ kept_file disk.head process
   pub decoded : IsFileOf disk.overhead disk.device process disk.stores disk.core
 
@@ -123,7 +122,7 @@ having_failed bytes others = record {
   place = noting (Writes true (kept_file some_head others)) false (place_with bytes);
   head = some_head;
   sync = true;
-  failure = Some (record { step = step.Create; reason = reason.NoRoom });
+  failure = Some (record { step = step.Create; reason = reason.DiskFull });
 }
 
 -- the place of the next process, which has read the file
@@ -132,7 +131,7 @@ next_place bytes = record { name = codes "disk"; notes = Found (Some (kept_file 
 
 -- With the bytes that `encode_kept` makes of this disk, all of these premises hold.
 abbrev pub NextProcessExample : Type 0
-NextProcessExample = (bytes : List ℕ) → length bytes < 2 ^ 64 → IsFile one_block bytes [] new_core
+NextProcessExample = (bytes : List ℕ) → IsFile one_block bytes [] new_core
     → TellsOf (kept_file some_head bytes) new_disk
     × KeepsFile NotesDeed (first_keeper empty_place some_head true) bytes true (having_kept bytes)
     × IsLasting PlaceMayBe (having_kept bytes) bytes

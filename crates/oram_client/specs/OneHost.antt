@@ -17,7 +17,7 @@ use Rattle.oram_link_laws.specs.Streamed.{Supplies}
 use Rattle.oram_rounds.specs.Batches.{BatchOutcome, answered}
 use Rattle.oram_rounds.specs.CatchUp.{PlainRun}
 use Rattle.oram_rounds.specs.Law.{AreBatches}
-use Rattle.oram_client.specs.Reconnect.{ReconnectBatch, ReconnectState}
+use Rattle.oram_client.specs.Reconnect.{DialerKind, ReconnectBatch, ReconnectState, dialer_kind}
 use Rattle.oram_client.specs.StreamBatches.{Connection, StreamBatch, connection}
 use Rattle.oram_client.specs.declared.dialer.Limits.{Limits}
 use Rattle.oram_client.specs.declared.dialer.Trouble.{Trouble}
@@ -31,22 +31,21 @@ abbrev pub AreTries : {L : Type 0} → (L → List (List ℕ) → BatchOutcome �
 AreTries {L} batches bodies tries = AllByRecursion (λ exchanges. (exchanges ≡ []) ⊎ ((from to : L) × (o : BatchOutcome) × batches from bodies o exchanges to)) tries
 
 -- for dialers and connections with these relations
-module _ {D L : Type 0} (opens : D → Limits → L → D → Type 0) (fails : D → Limits → Trouble → D → Type 0) (pauses : D → ℕ → D → Type 0)
-    (reads : D → Option ℕ → D → Type 0) (batches : L → List (List ℕ) → BatchOutcome → List Exchange → L → Type 0) where
+module _ {D L : Type 0} (kind : DialerKind D L) where
   -- The exchanges are those of the tries, and no others: a host stands beside the one exactly where it stands beside the
   -- other.
   abbrev pub ExchangesAreOfTheTries : Type 0
   ExchangesAreOfTheTries = (l m : ReconnectState D L) (bodies : List (List ℕ)) (o : BatchOutcome) (exchanges : List Exchange)
-      → ReconnectBatch opens fails pauses reads batches l bodies o exchanges m
-      → (tries : List (List Exchange)) × AreTries batches bodies tries
+      → ReconnectBatch kind l bodies o exchanges m
+      → (tries : List (List Exchange)) × AreTries kind.batches bodies tries
       × ((may_lie : Bool) (v : Scheme) (host after : Host) → TriesRun may_lie v host tries after ↔ PlainRun may_lie v host exchanges after)
 
   -- The answers that the caller receives are the host's, to all messages in their order, after the host received any of the
   -- messages in tries that failed. None of them is that the host has no room, unless the link has given up.
   abbrev pub AnswersAreTheHosts : Type 0
-  AnswersAreTheHosts = AreBatches batches
+  AnswersAreTheHosts = AreBatches kind.batches
       → (may_lie : Bool) (v : Scheme) (l m : ReconnectState D L) (bodies answers : List (List ℕ)) (exchanges : List Exchange) (host after : Host)
-      → ReconnectBatch opens fails pauses reads batches l bodies (Ok answers) exchanges m → PlainRun may_lie v host exchanges after
+      → ReconnectBatch kind l bodies (Ok answers) exchanges m → PlainRun may_lie v host exchanges after
       → (vain : List Exchange) × AreAmong (bodies_of vain) bodies
       × ((mid : Host) × PlainRun may_lie v host vain mid × PlainRun may_lie v mid (answered bodies answers) after)
       × (m.trouble ≡ None → ¬ IsAmong no_room_answer answers)
@@ -54,27 +53,27 @@ module _ {D L : Type 0} (opens : D → Limits → L → D → Type 0) (fails : D
   -- A link that returns a fault and hasn't given up has no memory.
   abbrev pub FaultsAreOfMemory : Type 0
   FaultsAreOfMemory = (l m : ReconnectState D L) (bodies : List (List ℕ)) (fault : LinkFault) (exchanges : List Exchange)
-      → ReconnectBatch opens fails pauses reads batches l bodies (Err fault) exchanges m → l.trouble ≡ None → m.trouble ≡ None → fault ≡ OutOfMemory
+      → ReconnectBatch kind l bodies (Err fault) exchanges m → l.trouble ≡ None → m.trouble ≡ None → fault ≡ OutOfMemory
 
   -- All connections lead to one host. `host_of` gives that host as it is now, for a dialer and the open connection if there is
   -- one; it gives `None` for a dialer and a connection that don't lead to it. Whatever happens to the link while it carries
   -- these messages, what it has then leads to the host again, as the host is then.
   pub record LeadToOneHost (may_lie : Bool) (v : Scheme) (bodies : List (List ℕ)) (host_of : D → Option L → Option Host) : Type 0 where
-    pub opened : (d e : D) (limits : Limits) (line : L) (host : Host) → host_of d None ≡ Some host → opens d limits line e → host_of e (Some line) ≡ Some host
-    pub unopened : (d e : D) (limits : Limits) (trouble : Trouble) (host : Host) → host_of d None ≡ Some host → fails d limits trouble e → host_of e None ≡ Some host
+    pub opened : (d e : D) (limits : Limits) (line : L) (host : Host) → host_of d None ≡ Some host → kind.opens d limits line e → host_of e (Some line) ≡ Some host
+    pub unopened : (d e : D) (limits : Limits) (trouble : Trouble) (host : Host) → host_of d None ≡ Some host → kind.fails d limits trouble e → host_of e None ≡ Some host
     pub answered_over : (d : D) (line way : L) (answers : List (List ℕ)) (exchanges : List Exchange) (host : Host) → host_of d (Some line) ≡ Some host
-        → batches line bodies (Ok answers) exchanges way → (after : Host) × PlainRun may_lie v host exchanges after × (host_of d (Some way) ≡ Some after)
+        → kind.batches line bodies (Ok answers) exchanges way → (after : Host) × PlainRun may_lie v host exchanges after × (host_of d (Some way) ≡ Some after)
     pub broken_off : (d : D) (line way : L) (fault : LinkFault) (exchanges : List Exchange) (host : Host) → host_of d (Some line) ≡ Some host
-        → batches line bodies (Err fault) exchanges way → (after : Host) × PlainRun may_lie v host exchanges after × (host_of d None ≡ Some after)
-    pub paused : (d e : D) (line : Option L) (milliseconds : ℕ) (host : Host) → host_of d line ≡ Some host → pauses d milliseconds e → host_of e line ≡ Some host
-    pub clock_read : (d e : D) (line : Option L) (now : Option ℕ) (host : Host) → host_of d line ≡ Some host → reads d now e → host_of e line ≡ Some host
+        → kind.batches line bodies (Err fault) exchanges way → (after : Host) × PlainRun may_lie v host exchanges after × (host_of d None ≡ Some after)
+    pub paused : (d e : D) (line : Option L) (milliseconds : ℕ) (host : Host) → host_of d line ≡ Some host → kind.pauses d milliseconds e → host_of e line ≡ Some host
+    pub clock_read : (d e : D) (line : Option L) (now : Option ℕ) (host : Host) → host_of d line ≡ Some host → kind.reads d now e → host_of e line ≡ Some host
 
   -- Then the exchanges of a batch over the link are those of the host, from connection to connection, and afterwards all
   -- connections lead to it again.
   abbrev pub ExchangesAreOfOneHost : Type 0
   ExchangesAreOfOneHost = (may_lie : Bool) (v : Scheme) (bodies : List (List ℕ)) (host_of : D → Option L → Option Host) → LeadToOneHost may_lie v bodies host_of
       → (l m : ReconnectState D L) (o : BatchOutcome) (exchanges : List Exchange) (host : Host) → host_of l.dialer l.line ≡ Some host
-      → ReconnectBatch opens fails pauses reads batches l bodies o exchanges m
+      → ReconnectBatch kind l bodies o exchanges m
       → (after : Host) × PlainRun may_lie v host exchanges after × (host_of m.dialer m.line ≡ Some after)
 
 -- If the reader's bytes are known to be a server's answers to the messages, then, whatever the outcome of a batch, also a
@@ -185,8 +184,8 @@ done_link = record { dialer = 2; line = Some emptied; reconnect_timeout = 1000; 
 
 -- The batch sends both messages again, and all connections lead to the host, which is honest in all exchanges.
 abbrev pub TwoTriesExample : Type 0
-TwoTriesExample = ((may_lie : Bool) → LeadToOneHost OpensNext NeverFails PausesBetween ReadsNoClock (StreamBatch known known) may_lie one_block messages host_now)
+TwoTriesExample = ((may_lie : Bool) → LeadToOneHost (dialer_kind OpensNext NeverFails PausesBetween ReadsNoClock (StreamBatch known known)) may_lie one_block messages host_now)
     × (host_now fresh.dialer fresh.line ≡ Some new_host)
-    × ReconnectBatch OpensNext NeverFails PausesBetween ReadsNoClock (StreamBatch known known) fresh messages (Ok (done_answer ∷ payload_answer ones ∷ [])) two_tries done_link
+    × ReconnectBatch (dialer_kind OpensNext NeverFails PausesBetween ReadsNoClock (StreamBatch known known)) fresh messages (Ok (done_answer ∷ payload_answer ones ∷ [])) two_tries done_link
     × HostRun new_host two_tries ones_host
     × Supplies ones_host messages (comes_over 1) × LeadsToHost new_host messages (comes_over 0) ones_host

@@ -41,7 +41,7 @@ abbrev pub link_outcome : Attempt → BatchOutcome
 link_outcome (Ok answers) = Ok answers
 link_outcome (Err trouble) = Err (fault_of trouble)
 
--- what a program is told that asks whether the host is there: the host has answered, or this is why it hasn't
+-- what a program learns that asks whether its host is there: that the host has answered, or why it hasn't
 abbrev pub IsReached : {A : Type 0} → BatchOutcome → Option Trouble → Result A Trouble → Type 0
 IsReached outcome None result = MatchResult outcome (λ answers. IsOk result) (λ fault. result ≡ Err (OutOfReach fault))
 IsReached outcome (Some trouble) result = result ≡ Err trouble
@@ -128,32 +128,44 @@ pub record VainTry : Type 0 where
   pub trouble : Trouble
   pub exchanges : List Exchange
 
--- for dialers and connections that do all of this by these relations
-module _ {D L : Type 0} (opens : D → Limits → L → D → Type 0) (fails : D → Limits → Trouble → D → Type 0) (pauses : D → ℕ → D → Type 0)
-    (reads : D → Option ℕ → D → Type 0) (batches : L → List (List ℕ) → BatchOutcome → List Exchange → L → Type 0) where
+-- A kind of dialer, in the words of the trait `Dial`: how it opens a connection or fails to, how it pauses and reads its clock,
+-- and how a connection carries a batch.
+pub record DialerKind (D L : Type 0) : Type 1 where
+  pub opens : D → Limits → L → D → Type 0
+  pub fails : D → Limits → Trouble → D → Type 0
+  pub pauses : D → ℕ → D → Type 0
+  pub reads : D → Option ℕ → D → Type 0
+  pub batches : L → List (List ℕ) → BatchOutcome → List Exchange → L → Type 0
+
+abbrev pub dialer_kind : {D L : Type 0} → (D → Limits → L → D → Type 0) → (D → Limits → Trouble → D → Type 0) → (D → ℕ → D → Type 0) → (D → Option ℕ → D → Type 0)
+    → (L → List (List ℕ) → BatchOutcome → List Exchange → L → Type 0) → DialerKind D L
+dialer_kind opens fails pauses reads batches = record { opens = opens; fails = fails; pauses = pauses; reads = reads; batches = batches }
+
+-- for dialers and connections of this kind
+module _ {D L : Type 0} (kind : DialerKind D L) where
   -- A try fails, and there is a pause.
   pub record IsDelayed (reconnect_timeout : ℕ) (begin : Option ℕ) (bodies : List (List ℕ)) (w : NextTry D L) (vain : VainTry) (x : NextTry D L) : Type 0 where
     pub came : Attempt
     pub mid : D
-    pub tried : IsTried opens fails batches w.dialer w.line (limits reconnect_timeout w.left) bodies came vain.exchanges mid x.line
+    pub tried : IsTried kind.opens kind.fails kind.batches w.dialer w.line (limits reconnect_timeout w.left) bodies came vain.exchanges mid x.line
     pub shows : IsTroubleIn came (Some vain.trouble)
-    pub paused : IsPaused pauses reads reconnect_timeout begin mid w.pause w.left vain.trouble x.dialer x.pause x.left
+    pub paused : IsPaused kind.pauses kind.reads reconnect_timeout begin mid w.pause w.left vain.trouble x.dialer x.pause x.left
 
   -- All messages are tried again and again, with a pause after each try but the last. The last one brings answers to give, or
   -- memory ran out in it, or no time is left after it.
   pub record MakesTries (l : ReconnectState D L) (bodies : List (List ℕ)) (outcome : BatchOutcome) (exchanges : List Exchange) (m : ReconnectState D L) : Type 0 where
     pub begin : Option ℕ
     pub first : D
-    pub read : reads l.dialer begin first
+    pub read : kind.reads l.dialer begin first
     pub vain : List VainTry
     pub last : NextTry D L
     pub delays : FoldsTo (IsDelayed l.reconnect_timeout begin bodies) (record { dialer = first; line = l.line; pause = first_pause; left = l.reconnect_timeout }) vain last
     pub came : Attempt
     pub heard : List Exchange  -- those of the last try
     pub mid : D
-    pub tried : IsTried opens fails batches last.dialer last.line (limits l.reconnect_timeout last.left) bodies came heard mid m.line
+    pub tried : IsTried kind.opens kind.fails kind.batches last.dialer last.line (limits l.reconnect_timeout last.left) bodies came heard mid m.line
     pub shows : IsTroubleIn came m.trouble
-    pub ends : MatchOption m.trouble (m.dialer ≡ mid) (λ why. IsTimedOut pauses reads l.reconnect_timeout begin mid last.left why m.dialer)
+    pub ends : MatchOption m.trouble (m.dialer ≡ mid) (λ why. IsTimedOut kind.pauses kind.reads l.reconnect_timeout begin mid last.left why m.dialer)
     pub says : outcome ≡ link_outcome came
     pub all : exchanges ≡ flat_map (λ v. v.exchanges) vain ++ heard
 

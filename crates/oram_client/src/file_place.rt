@@ -4,8 +4,10 @@
 //! record that only contracts read, and that record defines what a reader may find. [`FilePlace::read`] notes the file
 //! that it has read there. The prover can't check that a method really makes the calls of the deed that it notes, or that
 //! the file which is noted is the one in the folder: for that, read the code here.
-ghost use Rattle.std.specs.Prelude.{◌≡◌, ◌⊎◌, ◌++◌, [], None, Some, codes, string_bytes, IfErr, IfOk, IfSome, MatchOption, OnErr};
-ghost use Rattle.oram_client.specs.FilePlace.{NotesFound};
+ghost use Rattle.std.specs.IoError.{error_kind};
+ghost use Rattle.std.specs.Prelude.{◌≡◌, ◌≢◌, ◌⊎◌, ◌++◌, [], None, Some, codes, false, true, string_bytes, IfErr, IfOk, IfSome, IsErrAnd, MatchOption, MatchResult, OnErr};
+ghost use Rattle.oram_cli.specs.FileFaults.{IsFaultOf};
+ghost use Rattle.oram_client.specs.FilePlace.{IsNotLookedUp, IsUnknown, NotesFound};
 ghost use Rattle.oram_client.specs.KeptFile.{kept_file};
 ghost use Rattle.oram_client.specs.Replacement.{IsStepOf, Writes};
 
@@ -15,7 +17,7 @@ use crate::kept_file::{Head, put_kept_file};
 use crate::place::Place;
 use oram_cli::{FileFault, call_fault, create_for_owner, folder_of, new_name, sync_folder};
 use std::alloc::{AllocError, Global};
-use std::fs::OpenFile;
+use std::fs::{Metadata, OpenFile};
 use std::io::ErrorKind;
 use std::marker::Model;
 use std::rt::Files;
@@ -100,13 +102,14 @@ impl<R: Files + AllocGlobal> FilePlace<R> {
         Ok(file)
     }
 
-    /// Returns the name under which the file is found now, as [`kept_name`] does. If it is found under none, the place
-    /// notes that readers find no file. Nobody else may make one from then on.
-    pub fn kept_name(&mut self) -> Result<Option<String>, AllocError>
+    /// Returns the name under which the file is found now, as [`kept_name`] does. If both were looked up and it has neither,
+    /// the place notes that readers find no file. Nobody else may make one from then on.
+    pub fn kept_name(&mut self) -> Result<Option<String>, FileFault>
         ensures ok { IfOk result (λ name. MatchOption name (NotesFound self.old None self.new) (λ _. self.new ≡ self.old)) }
         ensures err { OnErr result (self.new ≡ self.old) }
+        ensures fault { IfErr result (IsNotLookedUp self.old.name) }
     {
-        let name = kept_name(&self.rt, self.rt.alloc(), self.name.as_str())?;
+        let name = kept_name(&self.rt, self.name.as_str())?;
         if name.is_none() {
             self.history.note_not_found();
         }
@@ -187,14 +190,42 @@ impl<R: Files> Place for FilePlace<R> {
     }
 }
 
-/// Returns the name under which the kept file `name` is found now: its own, or that of the file that was set aside.
-pub fn kept_name<R: Files>(rt: &R, alloc: Global, name: &str) -> Result<Option<String>, AllocError>
-    ensures { IfOk result (λ found. IfSome found (λ it. (string_bytes it ≡ name.now) ⊎ (string_bytes it ≡ name.now ++ codes ".aside"))) }
+/// Returns whether there is a file of the name that was looked up, from what the system gave for it. Only the error
+/// `NotFound` says that there is none. After any other one, as that its folder may not be searched, nothing is known of the
+/// file.
+fn is_there(alloc: Global, looked_up: io::Result<Metadata>, name: &str) -> Result<bool, FileFault>
+    ensures ok { IfOk result (λ there. MatchResult looked_up (λ _. there ≡ true) (λ error. (there ≡ false) × (error_kind error ≡ ErrorKind.NotFound))) }
+    ensures err { IfErr result (λ why. IsErrAnd looked_up (λ error. (error_kind error ≢ ErrorKind.NotFound) × IsFaultOf name.now (error_kind error) why)) }
+    ensures fault { IfErr result (IsUnknown name.now) }
 {
-    for found in [String::from_str(alloc, name)?, aside_name(alloc, name)?] {
-        if fs::symlink_metadata(rt, found.as_str()).is_ok() {
-            return Ok(Some(found));
+    match looked_up {
+        Ok(_) => Ok(true),
+        Err(error) => {
+            if error.kind() == ErrorKind::NotFound {
+                Ok(false)
+            } else {
+                Err(call_fault(alloc, name, &error))
+            }
         }
+    }
+}
+
+/// Returns the name under which the kept file `name` is found now: its own, or that of the file that was set aside. A link
+/// counts as the file even if what it leads to is missing, as on a disk that isn't mounted.
+///
+/// Fails if one of the two names can't be looked up, with the system's reason, or if memory runs out.
+pub fn kept_name<R: Files + AllocGlobal>(rt: &R, name: &str) -> Result<Option<String>, FileFault>
+    ensures found { IfOk result (λ found. IfSome found (λ it. (string_bytes it ≡ name.now) ⊎ (string_bytes it ≡ name.now ++ codes ".aside"))) }
+    ensures fault { IfErr result (IsNotLookedUp name.now) }
+{
+    let alloc = rt.alloc();
+    if is_there(alloc, fs::symlink_metadata(rt, name), name)? {
+        return Ok(Some(String::from_str(alloc, name)?));
+    }
+    let aside_name = aside_name(alloc, name)?;
+    let aside = fs::symlink_metadata(rt, aside_name.as_str());
+    if is_there(alloc, aside, aside_name.as_str())? {
+        return Ok(Some(aside_name));
     }
     Ok(None)
 }

@@ -1,7 +1,9 @@
 //! The steps that keep a file, and why a step failed.
-ghost use Rattle.std.specs.Prelude.{◌≡◌, IfErr, IfOk, Ok};
+ghost use Rattle.std.specs.IoError.{error_kind};
+ghost use Rattle.std.specs.Prelude.{◌≡◌, IfErr, IfOk, IsErrAnd, Ok};
+ghost use Rattle.oram_cli.specs.FileFaults as fault;
 
-use std::io::ErrorKind;
+use oram_cli::{FileReason, reason_of};
 use std::{fmt, io};
 
 /// A step of keeping a file. They come in this order.
@@ -30,38 +32,6 @@ impl fmt::Display for FileStep {
     }
 }
 
-/// Why a step failed.
-#[derive(Clone, Copy, Debug, PartialEq, Eq)]
-pub enum FileReason {
-    NoRoom,
-    Forbidden,
-    Missing,
-    /// Another reason, such as a disk that fails.
-    Failed,
-}
-
-impl From<io::Error> for FileReason {
-    fn from(error: io::Error) -> FileReason {
-        match error.kind() {
-            ErrorKind::StorageFull | ErrorKind::QuotaExceeded => FileReason::NoRoom,
-            ErrorKind::PermissionDenied | ErrorKind::ReadOnlyFilesystem => FileReason::Forbidden,
-            ErrorKind::NotFound => FileReason::Missing,
-            _ => FileReason::Failed,
-        }
-    }
-}
-
-impl fmt::Display for FileReason {
-    fn fmt<W: fmt::Write>(&self, f: &mut fmt::Formatter<W>) -> fmt::Result {
-        f.write_str(match self {
-            FileReason::NoRoom => "there is no room",
-            FileReason::Forbidden => "it is not allowed",
-            FileReason::Missing => "there is no such folder",
-            FileReason::Failed => "the system failed",
-        })
-    }
-}
-
 /// Why a file was not kept.
 #[derive(Clone, Copy, Debug, PartialEq, Eq)]
 pub struct FileFailure {
@@ -71,7 +41,10 @@ pub struct FileFailure {
 
 impl fmt::Display for FileFailure {
     fn fmt<W: fmt::Write>(&self, f: &mut fmt::Formatter<W>) -> fmt::Result {
-        write!(f, "{}: {}", self.step, self.reason)
+        match self.reason {
+            FileReason::Other => write!(f, "{}: the system failed", self.step),
+            reason => write!(f, "{}: {}", self.step, reason),
+        }
     }
 }
 
@@ -79,12 +52,13 @@ impl fmt::Display for FileFailure {
 pub(crate) fn step_result<T>(step: FileStep, given: io::Result<T>) -> Result<T, FileFailure>
     ensures ok { IfOk result (λ value. given ≡ Ok value) }
     ensures err { IfErr result (λ failure. failure.step ≡ step) }
+    ensures reason { IfErr result (λ failure. IsErrAnd given (λ error. failure.reason ≡ fault.reason_of (error_kind error))) }
 {
     match given {
         Ok(value) => Ok(value),
         Err(error) => Err(FileFailure {
             step,
-            reason: FileReason::from(error),
+            reason: reason_of(error.kind()),
         }),
     }
 }

@@ -1,5 +1,6 @@
 //! Laws about batches over connections that lead to one host.
 ghost use Rattle.oram_client.specs.OneHost.{AnswersAreTheHosts, ExchangesAreOfOneHost, ExchangesAreOfTheTries, FaultsAreOfMemory, StreamBatchesAreRun, StreamBatchesReachTheHost, TwoTriesExample};
+ghost use Rattle.oram_client.specs.Reconnect.{dialer_kind};
 
 use crate::dialer::Dial;
 use std::io::{Read, Write};
@@ -8,26 +9,26 @@ use std::io::{Read, Write};
 /// each a batch over one connection. So if all connections lead to one host, which stands beside the tries one after the
 /// other, that host stands beside the whole batch, and the laws about links and their hosts hold of it.
 pub fn exchanges_are_of_the_tries<D: Dial>()
-    ensures { ExchangesAreOfTheTries D.opens D.fails D.pauses D.reads D.Line.batches }
+    ensures { ExchangesAreOfTheTries (dialer_kind D.opens D.fails D.pauses D.reads D.Line.batches) }
 {}
 
 /// A law about definitions: the answers that such a link gives are those of the host beside it, to all messages of the
 /// batch in their order. In the tries before, the host may have received any of these messages, and no others. No answer
 /// is that the host has no room, unless the link has given up.
 pub fn answers_are_the_hosts<D: Dial>()
-    ensures { AnswersAreTheHosts D.opens D.fails D.pauses D.reads D.Line.batches }
+    ensures { AnswersAreTheHosts (dialer_kind D.opens D.fails D.pauses D.reads D.Line.batches) }
 {}
 
 /// A law about definitions: such a link returns a fault only if it has given up, or if memory ran out.
 pub fn faults_are_of_memory<D: Dial>()
-    ensures { FaultsAreOfMemory D.opens D.fails D.pauses D.reads D.Line.batches }
+    ensures { FaultsAreOfMemory (dialer_kind D.opens D.fails D.pauses D.reads D.Line.batches) }
 {}
 
 /// A law about definitions: all connections that a [`ReconnectLink`](crate::ReconnectLink) opens lead to one host, also
 /// those that break off. Then the exchanges of a batch over it are those of that host, from connection to connection, and
 /// afterwards the link leads to the host again.
 pub fn exchanges_are_of_one_host<D: Dial>()
-    ensures { ExchangesAreOfOneHost D.opens D.fails D.pauses D.reads D.Line.batches }
+    ensures { ExchangesAreOfOneHost (dialer_kind D.opens D.fails D.pauses D.reads D.Line.batches) }
 {}
 
 /// A law about definitions: a batch goes over a [`StreamBatches`](crate::StreamBatches) whose reader is known to give a

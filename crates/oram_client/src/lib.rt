@@ -41,7 +41,7 @@ pub use disk_keys::{Keys, WrongKey, keys_for};
 pub use faults::FormattingFault;
 pub use file_keeper::FileKeeper;
 pub use file_place::{FilePlace, kept_bytes, kept_name};
-pub use file_step::{FileFailure, FileReason, FileStep};
+pub use file_step::{FileFailure, FileStep};
 pub use identity::{IDENTITY_LEN, IDENTITY_TREE};
 pub use kept_file::{Head, KeptFault, KeptFile, SealerKind, put_kept_file, read_kept_file};
 pub use keys::{

@@ -4,7 +4,7 @@ ghost use Rattle.oram_wire.specs.HostMessages.{no_room_answer};
 ghost use Rattle.oram_link_laws.specs.Repair.{IsAmong};
 ghost use Rattle.oram_link_laws.specs.Runs.{Exchange};
 ghost use Rattle.oram_rounds.specs.Batches.{BatchOutcome, batch_outcome_of, texts};
-ghost use Rattle.oram_client.specs.Reconnect.{HasLine, IsPaused, IsReached, IsTimedOut, IsTried, IsTroubleIn, MakesTries, ReconnectBatch, attempt_of, elapsed, limits, link_outcome, time_left};
+ghost use Rattle.oram_client.specs.Reconnect.{HasLine, IsPaused, IsReached, IsTimedOut, IsTried, IsTroubleIn, MakesTries, ReconnectBatch, attempt_of, dialer_kind, elapsed, limits, link_outcome, time_left};
 
 use crate::dialer::{Dial, HostWatch, Limits, Trouble};
 use oram_host::HostRefusal;
@@ -216,7 +216,7 @@ impl<D: Dial, W: HostWatch> ReconnectLink<D, W> {
     /// up, or if memory ran out.
     pub fn reach(&mut self, alloc: Global) -> Result<(), Trouble>
         ensures { (outcome : BatchOutcome) × (exchanges : List Exchange)
-            × ReconnectBatch D.opens D.fails D.pauses D.reads D.Line.batches self.old ([] ∷ []) outcome exchanges self.new
+            × ReconnectBatch (dialer_kind D.opens D.fails D.pauses D.reads D.Line.batches) self.old ([] ∷ []) outcome exchanges self.new
             × IsReached outcome self.new.trouble result }
     {
         let answers = self.call_all(alloc, &[], &[Vec::new(alloc)]);
@@ -330,7 +330,7 @@ impl<D: Dial, W: HostWatch> ReconnectLink<D, W> {
         last: &[Vec<u8>],
     ) -> Result<Vec<Vec<u8>>, LinkFault>
         requires { self.old.trouble ≡ None }
-        ensures tried { (exchanges : List Exchange) × MakesTries D.opens D.fails D.pauses D.reads D.Line.batches
+        ensures tried { (exchanges : List Exchange) × MakesTries (dialer_kind D.opens D.fails D.pauses D.reads D.Line.batches)
             self.old (texts first.now ++ texts last.now) (batch_outcome_of result) exchanges self.new }
         ensures reconnect_timeout { self.new.reconnect_timeout ≡ self.old.reconnect_timeout }
     {
@@ -360,7 +360,7 @@ impl<D: Dial, W: HostWatch> ReconnectLink<D, W> {
 impl<D: Dial, W: HostWatch> BatchLink for ReconnectLink<D, W> {
     ghost use Rattle.oram_client.specs.BatchExchanges.{reconnects_are_batches};
 
-    ghost batches = { λ l bodies o exchanges m. ReconnectBatch D.opens D.fails D.pauses D.reads D.Line.batches l bodies o exchanges m };
+    ghost batches = { λ l bodies o exchanges m. ReconnectBatch (dialer_kind D.opens D.fails D.pauses D.reads D.Line.batches) l bodies o exchanges m };
 
     fn call_all(
         &mut self,
@@ -375,5 +375,5 @@ impl<D: Dial, W: HostWatch> BatchLink for ReconnectLink<D, W> {
     }
 
     ghost are_batches = { λ l m bodies o exchanges h.
-        reconnects_are_batches D.opens D.fails D.pauses D.reads D.Line.batches D.Line.are_batches l m bodies o exchanges h };
+        reconnects_are_batches (dialer_kind D.opens D.fails D.pauses D.reads D.Line.batches) D.Line.are_batches l m bodies o exchanges h };
 }

@@ -4,6 +4,7 @@ use Rattle.std.specs.Prelude.{◌≡◌, ◌⊎◌, ℕ, List, String, ⊤, stri
 use Rattle.oram_cli.specs.declared.file_faults.FileFault.{FileFault}
 use Rattle.oram_cli.specs.declared.file_faults.FileFault.TheVariants as file
 use Rattle.oram_cli.specs.declared.file_faults.FileReason.TheVariants as reason
+use Rattle.oram_client.specs.FilePlace.{IsNotLookedUp}
 use Rattle.oram_disk_host.specs.Faults.{file_fault}
 use Rattle.oram_disk_host.specs.declared.faults.Fault.{Fault}
 use Rattle.oram_disk_host.specs.declared.faults.Fault.TheVariants.{About, OutOfMemory}
@@ -19,7 +20,9 @@ abbrev pub IsMissing : FileFault → Type 0
 IsMissing (file.File name reason.Missing) = ⊤
 IsMissing any_other = ⊥
 
--- The fault for a kept file that can't be read: the file's, or that the disk of these settings isn't formatted yet. The latter
--- comes only if the file doesn't exist.
-abbrev pub IsUnreadFor : FileFault → List ℕ → Fault → Type 0
-IsUnreadFor why settings fault = (fault ≡ file_fault why) ⊎ (fault ≡ OutOfMemory) ⊎ (IsMissing why × IsAbout kind.Unformatted settings fault)
+-- The fault for a kept file that can't be read: the file's own; or if the file doesn't exist, that the disk of these settings
+-- isn't formatted yet, or why the names of the file couldn't be looked up.
+abbrev pub IsUnreadFor : FileFault → List ℕ → List ℕ → Fault → Type 0
+IsUnreadFor why state settings fault =
+    (fault ≡ file_fault why)
+    ⊎ (IsMissing why × (IsAbout kind.Unformatted settings fault ⊎ ((other : FileFault) × IsNotLookedUp state other × (fault ≡ file_fault other))))

@@ -69,7 +69,7 @@ fn is_missing(fault: &FileFault) -> bool
 }
 
 /// Returns the bytes that were read of the kept file `state` of the disk whose settings are in the file `settings`. Fails
-/// with [`FaultKind::Unformatted`] if there is no kept file.
+/// with [`FaultKind::Unformatted`] if there is no kept file, and with the system's reason if that can't be found out.
 pub fn state_bytes<R: Files + AllocGlobal>(
     rt: &R,
     read: Result<Vec<u8>, FileFault>,
@@ -77,7 +77,7 @@ pub fn state_bytes<R: Files + AllocGlobal>(
     settings: &str,
 ) -> Result<Vec<u8>, Fault>
     ensures ok { IfOk result (λ bytes. read ≡ Ok bytes) }
-    ensures fault { (why : FileFault) → read ≡ Err why → IfErr result (λ fault. IsUnreadFor why settings.now fault) }
+    ensures fault { (why : FileFault) → read ≡ Err why → IfErr result (λ fault. IsUnreadFor why state.now settings.now fault) }
 {
     let fault = match read {
         Ok(bytes) => return Ok(bytes),
@@ -85,7 +85,7 @@ pub fn state_bytes<R: Files + AllocGlobal>(
     };
     let alloc = rt.alloc();
     // A link has the file's name even if what it leads to is missing, as on a disk that isn't mounted.
-    if is_missing(&fault) && kept_name(rt, alloc, state)?.is_none() {
+    if is_missing(&fault) && kept_name(rt, state)?.is_none() {
         Err(named(alloc, FaultKind::Unformatted, settings))
     } else {
         Err(fault.into())

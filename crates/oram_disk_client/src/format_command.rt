@@ -171,7 +171,8 @@ fn new_salt<R: RandomSource>(rt: &R) -> Result<Salt, Fault> {
     }
 }
 
-/// Returns a place of a kept file after no such file was found there. Fails with [`FaultKind::Formatted`] if there is one.
+/// Returns a place of a kept file after no such file was found there. Fails with [`FaultKind::Formatted`] if there is one, and
+/// with the system's reason if that can't be found out.
 fn free_place<R: Files + AllocGlobal + Drop>(mut place: FilePlace<R>) -> Result<FilePlace<R>, Fault>
     ensures { IfOk result (λ free. NotesFound place None free) }
 {
@@ -182,7 +183,7 @@ fn free_place<R: Files + AllocGlobal + Drop>(mut place: FilePlace<R>) -> Result<
 }
 
 /// Formats the disk whose settings are in the file `name`. Refuses a disk that already has a kept file, and leaves that
-/// as it is.
+/// as it is. Refuses also a disk whose kept file can't be looked up.
 pub fn format_disk(rt: &HostRuntime, name: String) -> Result<(), Fault> {
     let alloc = rt.alloc();
     let (settings, device) = disk_in(rt, name.as_str())?;

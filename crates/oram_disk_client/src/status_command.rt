@@ -50,8 +50,8 @@ pub fn print_status(rt: &HostRuntime, name: String) -> Result<(), Fault> {
 }
 
 /// Lets the failed disk whose settings are in the file `name` be tried again: the next process that serves it goes on
-/// from its kept state. Fails with [`FaultKind::NotFailed`] if the disk hasn't failed, and with [`FaultKind::Unformatted`] if
-/// it isn't formatted yet.
+/// from its kept state. Fails with [`FaultKind::NotFailed`] if the disk hasn't failed, with [`FaultKind::Unformatted`] if it
+/// isn't formatted yet, and with the system's reason if that can't be found out.
 pub fn retry(rt: &HostRuntime, name: String) -> Result<(), Fault> {
     let (settings, _) = disk_in(rt, name.as_str())?;
     let state = settings.state;
@@ -60,7 +60,7 @@ pub fn retry(rt: &HostRuntime, name: String) -> Result<(), Fault> {
         let _passed_over = rt.print("oramdisk serve goes on from the kept state\n");
         return Ok(());
     }
-    match kept_name(rt, rt.alloc(), state.as_str())? {
+    match kept_name(rt, state.as_str())? {
         Some(_) => Err(Fault::About(FaultKind::NotFailed, state)),
         None => Err(Fault::About(FaultKind::Unformatted, name)),
     }

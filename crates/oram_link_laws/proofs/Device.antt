@@ -210,7 +210,7 @@ held =
     let s : Setting = record { scheme = one_block; format = formed.0 } in
     let new : IsNewHosted one_block (new_state s (tree ∷ [])) (world_of s []) new_host =
     new_hosts_serve s (tree ∷ []) new_host is_device (omega arith) are_made formed.1 in
-    record { settled = refl; alive = refl; world = world_of s []; serving = new.serving; hosts = new.hosts }
+    record { no_work = refl; alive = refl; world = world_of s []; serving = new.serving; hosts = new.hosts }
 
 pub session_example : SessionExample
 session_example = (

@@ -121,7 +121,7 @@ module _ (v : Scheme) {L M : Type 0} (calls : L → List ℕ → Outcome → L �
     turn_over p q turn l m (inr s) run = inr (record {
       shown = s.shown;
       begun = s.begun;
-      asked = record { message = s.asked.message; request = s.asked.request; step = s.asked.step };
+      begins = record { message = s.begins.message; request = s.begins.request; step = s.begins.step };
       replied = replied_over s.shown.note (s.begun, p.1) q turn l m s.replied run;
     })
 

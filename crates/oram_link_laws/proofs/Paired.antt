@@ -47,12 +47,12 @@ beside_is_heard may_lie v calls l m body o call = call.1
 as_pair : (v : Scheme) {L : Type 0} (s : State) (l : L) (host : Host) (array : ℕ → List ℕ) → IsHeldBy v s host array
     → IsHeld v {L = L × Host} (λ x. x.1) (s, (l, host)) array
 as_pair v s l host array held =
-    record { settled = held.settled; alive = held.alive; world = held.world; serving = held.serving; hosts = held.hosts }
+    record { no_work = held.no_work; alive = held.alive; world = held.world; serving = held.serving; hosts = held.hosts }
 
 as_host : (v : Scheme) {L : Type 0} (s : State) (l : L) (host : Host) (array : ℕ → List ℕ) → IsHeld v {L = L × Host} (λ x. x.1) (s, (l, host)) array
     → IsHeldBy v s host array
 as_host v s l host array held =
-    record { settled = held.settled; alive = held.alive; world = held.world; serving = held.serving; hosts = held.hosts }
+    record { no_work = held.no_work; alive = held.alive; world = held.world; serving = held.serving; hosts = held.hosts }
 
 pub sessions_are_the_arrays_beside : {L : Type 0} (calls : L → List ℕ → Outcome → L → Type 0) → SessionsAreTheArraysBeside calls
 sessions_are_the_arrays_beside {L} calls v words session p q turns host left array device held fold run =

@@ -36,18 +36,18 @@ module _ {L : Type 0} (calls : L → List ℕ → Outcome → L → Type 0) wher
   pub beside_gives_inside : BesideGivesInside calls
   beside_gives_inside law host_of honest v words session p q turns array device held fold =
       let by_host : IsHeldBy v p.0 (host_of p.1) array =
-      record { settled = held.settled; alive = held.alive; world = held.world; serving = held.serving; hosts = held.hosts } in
+      record { no_work = held.no_work; alive = held.alive; world = held.world; serving = held.serving; hosts = held.hosts } in
       let done = law v words session p q turns (host_of p.1) (host_of q.1) array device by_host fold
       (honest_links_are_run host_of honest v words session p q turns fold) in
       let k : IsHeldBy v q.0 (host_of q.1) done.0 = done.2 in
-      (done.0, done.1, record { settled = k.settled; alive = k.alive; world = k.world; serving = k.serving; hosts = k.hosts })
+      (done.0, done.1, record { no_work = k.no_work; alive = k.alive; world = k.world; serving = k.serving; hosts = k.hosts })
 
   pub new_devices_hold_zeros_beside : NewDevicesHoldZerosBeside calls
   new_devices_hold_zeros_beside v from to s host light k run =
       let setting : Setting = record { scheme = v; format = k.format } in
       let puts : PutsAll Takes [] k.format host = puts_each k.format [] host (taken_each k.format [] host run) in
       let new : IsNewHosted v (new_state setting k.trees) (world_of setting []) host = new_hosts_serve setting k.trees host k.ranges light k.formatted puts in
-      rw k.state (record { settled = refl; alive = refl; world = world_of setting []; serving = new.serving; hosts = new.hosts })
+      rw k.state (record { no_work = refl; alive = refl; world = world_of setting []; serving = new.serving; hosts = new.hosts })
 
   pub sessions_beside_heard_hosts : SessionsBesideHeardHosts calls
   sessions_beside_heard_hosts may_lie v words session p q turns host left fold run = record {

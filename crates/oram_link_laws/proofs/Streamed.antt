@@ -79,7 +79,7 @@ module _ {R W : Type 0} (remaining : R → Option (List ℕ)) (contents : W → 
       → MatchBool closed ((o ≡ Err Closed) × (m.reader ≡ l.reader) × (m.writer ≡ l.writer)) (Asks remaining contents l.reader l.writer body o m.reader m.writer)
       → Gave m bytes o
   gave l m body bytes o true known a = inl (Closed, a.0)
-  gave l m body bytes o false known (inl unsent) = inl (unsent.fault, unsent.told)
+  gave l m body bytes o false known (inl unsent) = inl (unsent.fault, unsent.outcome_is)
   gave l m body bytes o false known (inr delivered) =
       let P : Option (List ℕ) → Type 0 = λ old. Receives old (remaining m.reader) o in
       received m bytes o (subst P known delivered.read)

@@ -24,7 +24,7 @@ use Rattle.oram_process_laws.specs.KeptCommands.{KeptCommandsFixMessages, NextFe
 use Rattle.oram_semantics.specs.State.{State}
 use Rattle.oram_semantics.proofs.NextEntries.{next_fetches_are_entries}
 use Rattle.oram_rounds.specs.Process.{next_bodies}
-use Rattle.oram_process_laws.specs.Lives.{Happening, Leads, SubmitsNone, is_submission, sends_of}
+use Rattle.oram_process_laws.specs.Lives.{Happening, IsRun, SubmitsNone, is_submission, sends_of}
 use Rattle.oram_process_laws.proofs.Sends.{among_back, among_either}
 use Rattle.oram_rounds.proofs.Tries.{among_front}
 
@@ -113,15 +113,15 @@ module _ (v : Setting) where
 
   -- one of the messages that ask for entries
 
-  asked : (past : List Step) (s n : ℕ) (xs : List (List ℕ)) (b : List ℕ) → AskFor v past (range_with_len s n) xs → IsAmong b xs
+  asked_for : (past : List Step) (s n : ℕ) (xs : List (List ℕ)) (b : List ℕ) → AskFor v past (range_with_len s n) xs → IsAmong b xs
       → (m : ℕ) × (s ≤ m) × (m < s + n) × IsMessage v.scheme (entry_at v past m) b
-  asked past s zero [] b ask among = absurd among
-  asked past s zero (x ∷ xs) b ask among = absurd ask
-  asked past s (suc n) [] b ask among = absurd among
-  asked past s (suc n) (x ∷ xs) b ask (inl same) =
+  asked_for past s zero [] b ask among = absurd among
+  asked_for past s zero (x ∷ xs) b ask among = absurd ask
+  asked_for past s (suc n) [] b ask among = absurd among
+  asked_for past s (suc n) (x ∷ xs) b ask (inl same) =
       (s, omega arith, omega arith, subst (λ (y : List ℕ). IsMessage v.scheme (entry_at v past s) y) (sym same) ask.0)
-  asked past s (suc n) (x ∷ xs) b ask (inr later) =
-      let k = asked past (s + 1) n xs b ask.1 later in
+  asked_for past s (suc n) (x ∷ xs) b ask (inr later) =
+      let k = asked_for past (s + 1) n xs b ask.1 later in
       let low = k.1 in
       let high = k.2 in
       (k.0, omega (arith, low), omega (arith, high), k.3)
@@ -143,7 +143,7 @@ module _ (v : Setting) where
   now_sent past step n false are a right b among =
       let low : ℕ = entries_sent v past in
       let high : ℕ = entries_sent v (step ∷ past) in
-      let k = asked (step ∷ past) low (high - low) step.sends b right among in
+      let k = asked_for (step ∷ past) low (high - low) step.sends b right among in
       let least = k.1 in
       let most = k.2 in
       let few : high ≤ entries v (step ∷ past) = omega arith in
@@ -217,10 +217,10 @@ kept_commands_fix_messages v trees early since core right apart = (
 
 -- the steps of a run, as the law of next FETCHes has them
 
-steps_to : (v : Setting) (run : List Happening) (past : List Step) (s t : State) → Leads v.scheme s run t → ShowsNoPair v past run
+steps_to : (v : Setting) (run : List Happening) (past : List Step) (s t : State) → IsRun v.scheme s run t → ShowsNoPair v past run
     → StepsTo v past s (map (λ (h : Happening). h.event) run) (map (λ (h : Happening). h.shown) run) (past_after past run) t
-steps_to v [] past s t leads apart = (refl, sym leads)
-steps_to v (h ∷ run) past s t leads apart = (leads.0, leads.1.moves, apart.0, steps_to v run (step_of h.event h.shown ∷ past) leads.0 t leads.2 apart.1)
+steps_to v [] past s t is_run apart = (refl, sym is_run)
+steps_to v (h ∷ run) past s t is_run apart = (is_run.0, is_run.1.moves, apart.0, steps_to v run (step_of h.event h.shown ∷ past) is_run.0 t is_run.2 apart.1)
 
 among_all : (P : List ℕ → Type 0) (xs : List (List ℕ)) (b : List ℕ) → All P xs → IsAmong b xs → P b
 among_all P [] b all among = absurd among

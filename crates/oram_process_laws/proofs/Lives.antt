@@ -15,7 +15,7 @@ use Rattle.oram_tree.specs.State.{State as Tree}
 use Rattle.oram_core.specs.Steps.{Steps}
 use Rattle.oram_session.specs.Exchanges.{event_of}
 use Rattle.oram_session.specs.Outcome.{Outcome}
-use Rattle.oram_session.specs.Settled.{outstanding}
+use Rattle.oram_session.specs.CoreWork.{outstanding}
 use Rattle.oram_link_laws.specs.Repair.{IsAmong}
 use Rattle.oram_link_laws.specs.Runs.{Exchange, bodies_of}
 use Rattle.oram_rounds.specs.Batches.{BatchOutcome}
@@ -23,8 +23,8 @@ use Rattle.oram_rounds.specs.Files.{IsFile}
 use Rattle.oram_rounds.specs.Law.{AreBatches}
 use Rattle.oram_rounds.specs.PathMessages.{IsPathFetch}
 use Rattle.oram_rounds.specs.ProcessSteps.{DoesStep, DoesSteps, ProcessStep}
-use Rattle.oram_process_laws.specs.Lives.{BeginsWith, Ends, Follows, Happening, HasSentStores, IsKeptOnRun, IsOfRun, IsRightRun, IsRunBefore, KeepsToRun, Leads, Lives, LivesAreOneRun, MessagesAreOfOneRun, SubmitsNone, happens_at, is_all_kept, is_all_kept_after, is_submission, leaves_at, left_before, left_by, run_of, sends_of}
-use Rattle.oram_rounds.specs.ProcessSteps.ProcessStep.{Acts, Asks}
+use Rattle.oram_process_laws.specs.Lives.{BeginsWith, Ends, Follows, Happening, HasSentStores, IsKeptOnRun, IsOfRun, IsRightRun, IsRunBefore, KeepsToRun, IsRun, Lives, LivesAreOneRun, MessagesAreOfOneRun, SubmitsNone, happens_at, is_all_kept, is_all_kept_after, is_submission, leaves_at, left_before, left_by, run_of, sends_of}
+use Rattle.oram_rounds.specs.ProcessSteps.ProcessStep.{Acts, Takes}
 use Rattle.oram_rounds.specs.Process.{Act, AreSentAhead, Does, EndsIn, IsSent, Process, exchanges_of, next_bodies}
 use Rattle.oram_rounds.specs.Process.Act.{Calls, GoesAhead, Hears, Keeps, Misses}
 use Rattle.oram_rounds.specs.Rounds.{Round, RoundCall, WentAhead, waiting}
@@ -35,10 +35,10 @@ use Rattle.oram_process_laws.proofs.Sends.{among_all, among_back, among_either, 
 use Rattle.oram_rounds.proofs.Tries.{among_front}
 
 -- a run steps by the local rule
-along : (v : Scheme) (run : List Happening) (s t : State) → Leads v s run t
+along : (v : Scheme) (run : List Happening) (s t : State) → IsRun v s run t
     → StepsAlong v s (map (λ (h : Happening). h.event) run) (map (λ (h : Happening). h.shown) run)
-along v [] s t leads = tt
-along v (h ∷ run) s t leads = (leads.0, leads.1.moves, along v run leads.0 t leads.2)
+along v [] s t is_run = tt
+along v (h ∷ run) s t is_run = (is_run.0, is_run.1.moves, along v run is_run.0 t is_run.2)
 
 -- no command is submitted in a longer run
 
@@ -46,24 +46,24 @@ pub none_more : (run : List Happening) (h : Happening) → SubmitsNone run → i
 none_more [] h none last = (last, tt)
 none_more (first ∷ run) h none last = (none.0, none_more run h none.1 last)
 
-pub told_is_none : (event : Event) → (event ≡ Reopen) ⊎ (event ≡ Retry) → is_submission event ≡ false
-told_is_none event (inl is) = ap is_submission is
-told_is_none event (inr is) = ap is_submission is
+pub resuming_is_none : (event : Event) → (event ≡ Reopen) ⊎ (event ≡ Retry) → is_submission event ≡ false
+resuming_is_none event (inl is) = ap is_submission is
+resuming_is_none event (inr is) = ap is_submission is
 
 pub outcome_is_none : (o : Outcome) → is_submission (event_of o) ≡ false
 outcome_is_none (Ok bytes) = refl
 outcome_is_none (Err fault) = refl
 
 module _ (v : Setting) (trees : List Tree) (device : IsDevice v.scheme.device) (made : IsFormatted v trees) where
-  pub right_by : (run : List Happening) (core : State) → Leads v.scheme (new_state v trees) run core → IsRightRun v trees run core
-  right_by run core leads = (
-    leads,
-    steps_are_right v trees (map (λ (h : Happening). h.event) run) (map (λ (h : Happening). h.shown) run) device made (along v.scheme run (new_state v trees) core leads),
+  pub right_by : (run : List Happening) (core : State) → IsRun v.scheme (new_state v trees) run core → IsRightRun v trees run core
+  right_by run core is_run = (
+    is_run,
+    steps_are_right v trees (map (λ (h : Happening). h.event) run) (map (λ (h : Happening). h.shown) run) device made (along v.scheme run (new_state v trees) core is_run),
   )
 
-  pub leads_on : (run : List Happening) (s t : State) (h : Happening) → Leads v.scheme (new_state v trees) run s → Steps v.scheme s h.event h.shown t
-      → Leads v.scheme (new_state v trees) (run ++ h ∷ []) t
-  leads_on run s t h leads step = FoldsTo-push (λ a k b. Steps v.scheme a k.event k.shown b) (new_state v trees) run s h t leads step
+  pub runs_on : (run : List Happening) (s t : State) (h : Happening) → IsRun v.scheme (new_state v trees) run s → Steps v.scheme s h.event h.shown t
+      → IsRun v.scheme (new_state v trees) (run ++ h ∷ []) t
+  runs_on run s t h is_run step = FoldsTo-push (λ a k b. Steps v.scheme a k.event k.shown b) (new_state v trees) run s h t is_run step
 
   -- what is read back is of a longer run too, and covers less
 
@@ -105,16 +105,16 @@ module _ (v : Setting) (trees : List Tree) (device : IsDevice v.scheme.device) (
   }
 
   kept_now : (run : List Happening) (core : State) (stores left leaving : List (List ℕ)) (all_kept : Bool) (bytes : List ℕ) → IsFile v.scheme bytes stores core
-      → Leads v.scheme (new_state v trees) run core → ((b : List ℕ) → IsAmong b stores → IsAmong b (sends_of run)) → HasSentStores v run left
+      → IsRun v.scheme (new_state v trees) run core → ((b : List ℕ) → IsAmong b stores → IsAmong b (sends_of run)) → HasSentStores v run left
       → ((b : List ℕ) → IsAmong b leaving → IsAmong b stores) → IsKeptOnRun v trees run left leaving all_kept bytes
-  kept_now run core stores left leaving all_kept bytes file leads sent left_sent covers = record {
+  kept_now run core stores left leaving all_kept bytes file is_run sent left_sent covers = record {
     stores = stores;
     core = core;
     file = file;
     early = run;
     since = [];
     whole = sym (append-nil run);
-    right = right_by run core leads;
+    right = right_by run core is_run;
     sent = sent;
     left_sent = left_sent;
     covers = covers;
@@ -125,7 +125,7 @@ module _ (v : Setting) (trees : List Tree) (device : IsDevice v.scheme.device) (
     -- The run has led to the core, has sent what waits and the STOREs that have left, and has led to what is read back.
     record IsOfOneRun (run : List Happening) (left : List (List ℕ)) (all : Bool) (p : Process B K) : Type 0 where
       device_is : p.link.device ≡ v.scheme.device
-      leads : Leads v.scheme (new_state v trees) run p.core
+      is_run : IsRun v.scheme (new_state v trees) run p.core
       sent : (b : List ℕ) → IsAmong b (waiting p.link) → IsAmong b (sends_of run)
       left_sent : HasSentStores v run left
       kept : (bytes : List ℕ) → reads_back p.keeper bytes → IsKeptOnRun v trees run left p.link.kept all bytes
@@ -133,7 +133,7 @@ module _ (v : Setting) (trees : List Tree) (device : IsDevice v.scheme.device) (
     handed : (run : List Happening) (left : List (List ℕ)) (all : Bool) (p : Process B K) → IsOfOneRun run left all p → (bytes : List ℕ)
         → IsFile v.scheme bytes (waiting p.link) p.core ⊎ reads_back p.keeper bytes → IsKeptOnRun v trees run left p.link.kept all bytes
     handed run left all p is bytes (inl file) =
-        kept_now run p.core (waiting p.link) left p.link.kept all bytes file is.leads is.sent is.left_sent (λ b among. among_front p.link.kept p.link.held b among)
+        kept_now run p.core (waiting p.link) left p.link.kept all bytes file is.is_run is.sent is.left_sent (λ b among. among_front p.link.kept p.link.held b among)
     handed run left all p is bytes (inr back) = is.kept bytes back
 
     -- what leaves
@@ -141,7 +141,7 @@ module _ (v : Setting) (trees : List Tree) (device : IsDevice v.scheme.device) (
     message_sent : (run : List Happening) (left : List (List ℕ)) (all : Bool) (p : Process B K) (message b : List ℕ) → IsOfOneRun run left all p → outstanding p.core ≡ Some message → b ≡ message
         → IsAmong b (sends_of run)
     message_sent run left all p message b is out same =
-        subst (λ (m : List ℕ). IsAmong m (sends_of run)) (sym same) (outstanding_sent v.scheme run (new_state v trees) p.core message refl is.leads out)
+        subst (λ (m : List ℕ). IsAmong m (sends_of run)) (sym same) (outstanding_sent v.scheme run (new_state v trees) p.core message refl is.is_run out)
 
     none_leaves : (run : List Happening) (p : Process B K) (exchanges : List Exchange) → exchanges ≡ [] → (b : List ℕ) → IsAmong b (bodies_of exchanges) → IsOfRun v.scheme run p b
     none_leaves run p exchanges none b among = absurd (subst (λ (xs : List Exchange). IsAmong b (bodies_of xs)) none among)
@@ -210,7 +210,7 @@ module _ (v : Setting) (trees : List Tree) (device : IsDevice v.scheme.device) (
         → IsOfOneRun (run ++ h ∷ []) left later q
     stepped run left all later p q h is quiet step link keeper = record {
       device_is = ap (λ (l : Round B). l.device) link ∙ is.device_is;
-      leads = leads_on run p.core q.core h is.leads step;
+      is_run = runs_on run p.core q.core h is.is_run step;
       sent = λ b among. sends_more run (h ∷ []) b (is.sent b (subst (λ (l : Round B). IsAmong b (waiting l)) link among));
       left_sent = λ b among. elim (is.left_sent b among) [ inl sent ↦ inl (sends_more run (h ∷ []) b sent) | inr fetch ↦ inr fetch ];
       kept = λ bytes back.
@@ -226,7 +226,7 @@ module _ (v : Setting) (trees : List Tree) (device : IsDevice v.scheme.device) (
         leaves run left all p message exchanges is out (sent_by batches p.link q.link message o exchanges call are) in
         record {
           device_is = call.device ∙ is.device_is;
-          leads = subst (Leads v.scheme (new_state v trees) run) (sym core) is.leads;
+          is_run = subst (IsRun v.scheme (new_state v trees) run) (sym core) is.is_run;
           sent = λ b among. elim (waits_still batches p.link q.link message o exchanges call b among) [
             | inl was ↦ is.sent b was
             | inr same ↦ message_sent run left all p message b is out same
@@ -248,7 +248,7 @@ module _ (v : Setting) (trees : List Tree) (device : IsDevice v.scheme.device) (
         gone run left all p exchanges is (ahead_sent batches are p.link q.link bodies exchanges went) in
         record {
           device_is = went.device ∙ is.device_is;
-          leads = subst (Leads v.scheme (new_state v trees) run) (sym core) is.leads;
+          is_run = subst (IsRun v.scheme (new_state v trees) run) (sym core) is.is_run;
           sent = λ b among. is.sent b (elim (among_either q.link.kept q.link.held b among) [
             | inl kept ↦ among_front p.link.kept p.link.held b (ahead_fewer batches p.link q.link bodies exchanges went b kept)
             | inr held ↦ among_back p.link.kept p.link.held b (subst (IsAmong b) went.held held)
@@ -268,11 +268,11 @@ module _ (v : Setting) (trees : List Tree) (device : IsDevice v.scheme.device) (
         let same : waiting q.link ≡ waiting p.link = ap (λ (l : Round B). waiting l) does.2 ∙ append-nil (waiting p.link) in
         record {
           device_is = ap (λ (l : Round B). l.device) does.2 ∙ is.device_is;
-          leads = subst (Leads v.scheme (new_state v trees) run) (sym does.1) is.leads;
+          is_run = subst (IsRun v.scheme (new_state v trees) run) (sym does.1) is.is_run;
           sent = λ b among. is.sent b (subst (IsAmong b) same among);
           left_sent = is.left_sent;
           kept = λ bytes back.
-              kept_now run p.core (waiting p.link) left q.link.kept true bytes (does.0 bytes back) is.leads is.sent is.left_sent
+              kept_now run p.core (waiting p.link) left q.link.kept true bytes (does.0 bytes back) is.is_run is.sent is.left_sent
               (λ b among. subst (IsAmong b) (ap (λ (l : Round B). l.kept) does.2) among);
         }
 
@@ -280,7 +280,7 @@ module _ (v : Setting) (trees : List Tree) (device : IsDevice v.scheme.device) (
         → IsOfOneRun run left all q
     unkept run left all p q is does = record {
       device_is = ap (λ (l : Round B). l.device) does.2 ∙ is.device_is;
-      leads = subst (Leads v.scheme (new_state v trees) run) (sym does.1) is.leads;
+      is_run = subst (IsRun v.scheme (new_state v trees) run) (sym does.1) is.is_run;
       sent = λ b among. is.sent b (subst (λ (l : Round B). IsAmong b (waiting l)) does.2 among);
       left_sent = is.left_sent;
       kept = λ bytes back.
@@ -295,12 +295,12 @@ module _ (v : Setting) (trees : List Tree) (device : IsDevice v.scheme.device) (
 
     step_done : (run : List Happening) (left : List (List ℕ)) (all : Bool) (step : ProcessStep) (p q : Process B K) → IsOfOneRun run left all p → DoesStep v.scheme batches reads_back p step q
         → IsOfOneRun (run ++ happens_at step) (left ++ leaves_at step) (is_all_kept_after all step) q
-    step_done run left all (Asks a) p q is does =
+    step_done run left all (Takes a) p q is does =
         let h : Happening = record { event = Submit a.session a.command a.words; shown = a.shown } in
         none_left (run ++ h ∷ []) left false q (stepped run left all false p q h is (λ e. absurd cc) does.0 does.1 does.2)
     step_done run left all (Acts (Hears event x)) p q is does =
         let h : Happening = record { event = event; shown = x } in
-        none_left (run ++ h ∷ []) left all q (stepped run left all all p q h is (λ e. (e, told_is_none event does.0.0)) does.0.1 does.0.2 does.1)
+        none_left (run ++ h ∷ []) left all q (stepped run left all all p q h is (λ e. (e, resuming_is_none event does.0.0)) does.0.1 does.0.2 does.1)
     step_done run left all (Acts (Calls o exchanges x)) p q is does =
         let mid : Process B K = record { core = p.core; link = q.link; keeper = p.keeper } in
         stepped run (left ++ bodies_of exchanges) all all mid q (record { event = event_of o; shown = x })
@@ -349,17 +349,17 @@ module _ (v : Setting) (trees : List Tree) (device : IsDevice v.scheme.device) (
         (λ b among. among) (kept_back run left all p bytes exchanges is ends)
 
     begins : (run : List Happening) (left stores : List (List ℕ)) (core : State) (p : Process B K) → BeginsWith v.scheme reads_back stores core p
-        → Leads v.scheme (new_state v trees) run core → ((b : List ℕ) → IsAmong b stores → IsAmong b (sends_of run)) → HasSentStores v run left → IsOfOneRun run left true p
-    begins run left stores core p with_it leads sent left_sent =
+        → IsRun v.scheme (new_state v trees) run core → ((b : List ℕ) → IsAmong b stores → IsAmong b (sends_of run)) → HasSentStores v run left → IsOfOneRun run left true p
+    begins run left stores core p with_it is_run sent left_sent =
         let same : waiting p.link ≡ stores = ap (λ (r : Process B K). waiting r.link) with_it.0 ∙ append-nil stores in
         let kept : p.link.kept ≡ stores = ap (λ (r : Process B K). r.link.kept) with_it.0 in
         record {
           device_is = ap (λ (r : Process B K). r.link.device) with_it.0;
-          leads = subst (Leads v.scheme (new_state v trees) run) (sym (ap (λ (r : Process B K). r.core) with_it.0)) leads;
+          is_run = subst (IsRun v.scheme (new_state v trees) run) (sym (ap (λ (r : Process B K). r.core) with_it.0)) is_run;
           sent = λ b among. sent b (subst (IsAmong b) same among);
           left_sent = left_sent;
           kept = λ bytes back.
-              kept_now run core stores left p.link.kept true bytes (with_it.1 bytes back) leads sent left_sent (λ b among. subst (IsAmong b) kept among);
+              kept_now run core stores left p.link.kept true bytes (with_it.1 bytes back) is_run sent left_sent (λ b among. subst (IsAmong b) kept among);
         }
 
     follows : (run : List Happening) (left : List (List ℕ)) (all : Bool) (last p : Process B K) → IsOfOneRun run left all last → (f : Follows v.scheme batches reads_back last p)
@@ -367,11 +367,11 @@ module _ (v : Setting) (trees : List Tree) (device : IsDevice v.scheme.device) (
     follows run left all last p is f =
         let gone : List (List ℕ) = left ++ bodies_of f.exchanges in
         let k : IsKeptOnRun v trees run gone last.link.kept all f.bytes = kept_at_end run left all last f.bytes f.exchanges is f.ends in
-        let same = one_process v.scheme.cipher.overhead v.scheme.device v.scheme.device f.bytes k.stores f.stores k.core f.core f.few k.file f.file in (
+        let same = one_process v.scheme.cipher.overhead v.scheme.device v.scheme.device f.bytes k.stores f.stores k.core f.core k.file f.file in (
           k.early,
           k.since,
           k.whole,
-          begins k.early gone f.stores f.core p f.begins (subst (Leads v.scheme (new_state v trees) k.early) same.2 k.right.0)
+          begins k.early gone f.stores f.core p f.begins (subst (IsRun v.scheme (new_state v trees) k.early) same.2 k.right.0)
               (λ b among. k.sent b (subst (IsAmong b) (sym same.0) among)) k.left_sent,
         )
 
@@ -391,7 +391,7 @@ module _ (v : Setting) (trees : List Tree) (device : IsDevice v.scheme.device) (
 
     keeps_to : (run : List Happening) (left : List (List ℕ)) (all : Bool) (p : Process B K) → IsOfOneRun run left all p → KeepsToRun v trees batches reads_back run left all p
     keeps_to run left all p is = record {
-      right = right_by run p.core is.leads;
+      right = right_by run p.core is.is_run;
       left_sent = is.left_sent;
       waits = is.sent;
       acts = λ act q does. act_leaves run left all p q act is does;

@@ -31,11 +31,11 @@ use Rattle.oram_rounds.specs.Rounds.{waiting}
 use Rattle.oram_rounds.proofs.KeptText.{one_process}
 use Rattle.oram_process_laws.specs.KeptCommands.{ShowsNoPair, past_after}
 use Rattle.oram_rounds.specs.ProcessSteps.{DoesStep, DoesSteps, ProcessStep}
-use Rattle.oram_process_laws.specs.Lives.{BeginsWith, Ends, Follows, Happening, IsRunBefore, Leads, Lives, SubmitsNone, happens_at, is_all_kept, is_all_kept_after, is_submission, run_of}
-use Rattle.oram_rounds.specs.ProcessSteps.ProcessStep.{Acts, Asks}
+use Rattle.oram_process_laws.specs.Lives.{BeginsWith, Ends, Follows, Happening, IsRunBefore, IsRun, Lives, SubmitsNone, happens_at, is_all_kept, is_all_kept_after, is_submission, run_of}
+use Rattle.oram_rounds.specs.ProcessSteps.ProcessStep.{Acts, Takes}
 use Rattle.oram_process_laws.specs.Replied.{AreRepliesIn, IsReplyIn, OneTicketHasOneReply, RepliesAreOfOneRun, ShowedNoPair, given_at, given_before, given_by}
 use Rattle.oram_process_laws.proofs.KeptCommands.{accepted_same, past_join}
-use Rattle.oram_process_laws.proofs.Lives.{leads_on, none_more, outcome_is_none, right_by, told_is_none}
+use Rattle.oram_process_laws.proofs.Lives.{runs_on, none_more, outcome_is_none, right_by, resuming_is_none}
 
 -- each of these
 
@@ -191,8 +191,8 @@ module _ (v : Setting) (trees : List Tree) (device : IsDevice v.scheme.device) (
   abbrev d : Sizes
   d = v.scheme.device
 
-  abbrev Led : List Happening → State → Type 0
-  Led run core = Leads v.scheme (new_state v trees) run core
+  abbrev IsRunTo : List Happening → State → Type 0
+  IsRunTo run core = IsRun v.scheme (new_state v trees) run core
 
   -- The bytes have a core that the run has led to on its way, and these replies are to the commands that it had accepted by
   -- then, unless an answer showed two records with the same digest.
@@ -203,48 +203,48 @@ module _ (v : Setting) (trees : List Tree) (device : IsDevice v.scheme.device) (
     early : List Happening
     since : List Happening
     whole : run ≡ early ++ since
-    leads : Led early core
+    is_run : IsRunTo early core
     commands : all ≡ true → SubmitsNone since
     replied : N → AreRepliesIn d (commands_of early) replies
 
   record HasGiven (N : Type 0) (run : List Happening) (replies : List Reply) (all : Bool) (p : Process B K) : Type 0 where
-    leads : Led run p.core
+    is_run : IsRunTo run p.core
     now : N → AreRepliesIn d (commands_of run) replies
     kept : (bytes : List ℕ) → reads_back p.keeper bytes → IsKeptWith N run replies all bytes
 
-  kept_now : (N : Type 0) (run : List Happening) (replies : List Reply) (all : Bool) (bytes : List ℕ) (stores : List (List ℕ)) (core : State) → IsFile v.scheme bytes stores core → Led run core
+  kept_now : (N : Type 0) (run : List Happening) (replies : List Reply) (all : Bool) (bytes : List ℕ) (stores : List (List ℕ)) (core : State) → IsFile v.scheme bytes stores core → IsRunTo run core
       → (N → AreRepliesIn d (commands_of run) replies) → IsKeptWith N run replies all bytes
-  kept_now N run replies all bytes stores core file leads now = record {
+  kept_now N run replies all bytes stores core file is_run now = record {
     stores = stores;
     core = core;
     file = file;
     early = run;
     since = [];
     whole = sym (append-nil run);
-    leads = leads;
+    is_run = is_run;
     commands = λ e. tt;
     replied = now;
   }
 
   handed : (N : Type 0) (run : List Happening) (replies : List Reply) (all : Bool) (p : Process B K) → HasGiven N run replies all p → (bytes : List ℕ)
       → IsFile v.scheme bytes (waiting p.link) p.core ⊎ reads_back p.keeper bytes → IsKeptWith N run replies all bytes
-  handed N run replies all p g bytes (inl file) = kept_now N run replies all bytes (waiting p.link) p.core file g.leads g.now
+  handed N run replies all p g bytes (inl file) = kept_now N run replies all bytes (waiting p.link) p.core file g.is_run g.now
   handed N run replies all p g bytes (inr back) = g.kept bytes back
 
   weaker : (M N : Type 0) (run : List Happening) (replies : List Reply) (all : Bool) (p : Process B K) → (M → N) → HasGiven N run replies all p → HasGiven M run replies all p
   weaker M N run replies all p gives g = record {
-    leads = g.leads;
+    is_run = g.is_run;
     now = λ m. g.now (gives m);
     kept = λ bytes back.
         let k : IsKeptWith N run replies all bytes = g.kept bytes back in
-        record { stores = k.stores; core = k.core; file = k.file; early = k.early; since = k.since; whole = k.whole; leads = k.leads; commands = k.commands; replied = λ m. k.replied (gives m) };
+        record { stores = k.stores; core = k.core; file = k.file; early = k.early; since = k.since; whole = k.whole; is_run = k.is_run; commands = k.commands; replied = λ m. k.replied (gives m) };
   }
 
   -- one step of the core
   stepped : (N : Type 0) (run : List Happening) (replies : List Reply) (all later : Bool) (p q : Process B K) (h : Happening) → HasGiven N run replies all p
       → (later ≡ true → (all ≡ true) × (is_submission h.event ≡ false)) → Steps v.scheme p.core h.event h.shown q.core → q.keeper ≡ p.keeper → HasGiven N (run ++ h ∷ []) replies later q
   stepped N run replies all later p q h g quiet step keeper = record {
-    leads = leads_on v trees device made run p.core q.core h g.leads step;
+    is_run = runs_on v trees device made run p.core q.core h g.is_run step;
     now = λ n. replied_on d run h replies (g.now n);
     kept = λ bytes back.
         let k : IsKeptWith N run replies all bytes = g.kept bytes (subst (λ (j : K). reads_back j bytes) keeper back) in
@@ -255,7 +255,7 @@ module _ (v : Setting) (trees : List Tree) (device : IsDevice v.scheme.device) (
           early = k.early;
           since = k.since ++ h ∷ [];
           whole = ap (λ (r : List Happening). r ++ h ∷ []) k.whole ∙ append_assoc k.early k.since (h ∷ []);
-          leads = k.leads;
+          is_run = k.is_run;
           commands = λ e. none_more k.since h (k.commands (quiet e).0) (quiet e).1;
           replied = k.replied;
         };
@@ -265,7 +265,7 @@ module _ (v : Setting) (trees : List Tree) (device : IsDevice v.scheme.device) (
   gives_more : (N : Type 0) (run : List Happening) (replies more : List Reply) (p : Process B K) → HasGiven N run replies true p → (N → AreRepliesIn d (commands_of run) more)
       → HasGiven N run (replies ++ more) true p
   gives_more N run replies more p g are = record {
-    leads = g.leads;
+    is_run = g.is_run;
     now = λ n. all_join (IsReplyIn d (commands_of run)) replies more (g.now n) (are n);
     kept = λ bytes back.
         let k : IsKeptWith N run replies true bytes = g.kept bytes back in
@@ -278,7 +278,7 @@ module _ (v : Setting) (trees : List Tree) (device : IsDevice v.scheme.device) (
           early = k.early;
           since = k.since;
           whole = k.whole;
-          leads = k.leads;
+          is_run = k.is_run;
           commands = k.commands;
           replied = λ n. all_join (IsReplyIn d (commands_of k.early)) replies more (k.replied n) (subst (λ (commands : List Submission). AreRepliesIn d commands more) same (are n));
         };
@@ -288,7 +288,7 @@ module _ (v : Setting) (trees : List Tree) (device : IsDevice v.scheme.device) (
   rests : (N : Type 0) (run : List Happening) (replies : List Reply) (all : Bool) (p q : Process B K) → HasGiven N run replies all p → q.core ≡ p.core → q.keeper ≡ p.keeper
       → HasGiven N run replies all q
   rests N run replies all p q g core keeper = record {
-    leads = subst (Led run) (sym core) g.leads;
+    is_run = subst (IsRunTo run) (sym core) g.is_run;
     now = g.now;
     kept = λ bytes back. g.kept bytes (subst (λ (j : K). reads_back j bytes) keeper back);
   }
@@ -311,33 +311,33 @@ module _ (v : Setting) (trees : List Tree) (device : IsDevice v.scheme.device) (
       none_more_given N (run ++ h ∷ []) replies [] false q refl (stepped N run replies false false p q h g (λ e. (e, event)) step keeper)
   heard N run replies true p q h g event step keeper apart =
       let next = stepped N run replies true true p q h g (λ e. (e, event)) step keeper in
-      let right : Right v [] (run ++ h ∷ []) = (right_by v trees device made (run ++ h ∷ []) q.core next.leads).1 in
+      let right : Right v [] (run ++ h ∷ []) = (right_by v trees device made (run ++ h ∷ []) q.core next.is_run).1 in
       gives_more N (run ++ h ∷ []) replies h.shown.replies q next
       (λ n. replied_on d run h h.shown.replies (right_replies v (past_after [] run) h.event h.shown (right_at v [] run h right (apart n))))
 
   step_done : (N : Type 0) (run : List Happening) (replies : List Reply) (all : Bool) (step : ProcessStep) (p q : Process B K) → (N → ShowsNoPair v [] (run ++ happens_at step))
       → HasGiven N run replies all p → DoesStep v.scheme batches reads_back p step q
       → HasGiven N (run ++ happens_at step) (replies ++ given_at all step) (is_all_kept_after all step) q
-  step_done N run replies all (Asks a) p q apart g does =
+  step_done N run replies all (Takes a) p q apart g does =
       let h : Happening = record { event = Submit a.session a.command a.words; shown = a.shown } in
       none_more_given N (run ++ h ∷ []) replies [] false q refl (stepped N run replies all false p q h g (λ e. absurd cc) does.0 does.2)
   step_done N run replies all (Acts (Hears event x)) p q apart g does =
       let h : Happening = record { event = event; shown = x } in
       none_more_given N (run ++ h ∷ []) replies (if all then [] else []) all q (none_given all)
-      (stepped N run replies all all p q h g (λ e. (e, told_is_none event does.0.0)) does.0.1 does.1)
+      (stepped N run replies all all p q h g (λ e. (e, resuming_is_none event does.0.0)) does.0.1 does.1)
   step_done N run replies all (Acts (Calls o exchanges x)) p q apart g does =
       heard N run replies all p q (record { event = event_of o; shown = x }) g (outcome_is_none o) does.0.3 does.1 apart
   step_done N run replies all (Acts (Misses o exchanges)) p q apart g does = quiet N run replies all q (rests N run replies all p q g does.0.3 does.1)
   step_done N run replies all (Acts (GoesAhead exchanges)) p q apart g does = quiet N run replies all q (rests N run replies all p q g does.0.1 does.1)
   step_done N run replies all (Acts (Keeps true)) p q apart g does =
       quiet N run replies true q (record {
-        leads = subst (Led run) (sym does.1) g.leads;
+        is_run = subst (IsRunTo run) (sym does.1) g.is_run;
         now = g.now;
-        kept = λ bytes back. kept_now N run replies true bytes (waiting p.link) p.core (does.0 bytes back) g.leads g.now;
+        kept = λ bytes back. kept_now N run replies true bytes (waiting p.link) p.core (does.0 bytes back) g.is_run g.now;
       })
   step_done N run replies all (Acts (Keeps false)) p q apart g does =
       quiet N run replies all q (record {
-        leads = subst (Led run) (sym does.1) g.leads;
+        is_run = subst (IsRunTo run) (sym does.1) g.is_run;
         now = g.now;
         kept = λ bytes back. handed N run replies all p g bytes (does.0 bytes back);
       })
@@ -372,20 +372,20 @@ module _ (v : Setting) (trees : List Tree) (device : IsDevice v.scheme.device) (
   kept_back N run replies all p bytes exchanges g (inl now) = g.kept bytes now.0
   kept_back N run replies all p bytes exchanges g (inr act) = kept_in N run replies all p bytes act.0 exchanges g act.1
 
-  begins : (N : Type 0) (run : List Happening) (replies : List Reply) (stores : List (List ℕ)) (core : State) (p : Process B K) → BeginsWith v.scheme reads_back stores core p → Led run core
+  begins : (N : Type 0) (run : List Happening) (replies : List Reply) (stores : List (List ℕ)) (core : State) (p : Process B K) → BeginsWith v.scheme reads_back stores core p → IsRunTo run core
       → (N → AreRepliesIn d (commands_of run) replies) → HasGiven N run replies true p
-  begins N run replies stores core p with_it leads now = record {
-    leads = subst (Led run) (sym (ap (λ (r : Process B K). r.core) with_it.0)) leads;
+  begins N run replies stores core p with_it is_run now = record {
+    is_run = subst (IsRunTo run) (sym (ap (λ (r : Process B K). r.core) with_it.0)) is_run;
     now = now;
-    kept = λ bytes back. kept_now N run replies true bytes stores core (with_it.1 bytes back) leads now;
+    kept = λ bytes back. kept_now N run replies true bytes stores core (with_it.1 bytes back) is_run now;
   }
 
   follows : (N : Type 0) (run : List Happening) (replies : List Reply) (all : Bool) (last p : Process B K) → HasGiven N run replies all last → Follows v.scheme batches reads_back last p
       → (before : List Happening) × (since : List Happening) × (run ≡ before ++ since) × HasGiven N before replies true p
   follows N run replies all last p g f =
       let k : IsKeptWith N run replies all f.bytes = kept_back N run replies all last f.bytes f.exchanges g f.ends in
-      let same = one_process v.scheme.cipher.overhead v.scheme.device v.scheme.device f.bytes k.stores f.stores k.core f.core f.few k.file f.file in
-      (k.early, k.since, k.whole, begins N k.early replies f.stores f.core p f.begins (subst (Led k.early) same.2 k.leads) k.replied)
+      let same = one_process v.scheme.cipher.overhead v.scheme.device v.scheme.device f.bytes k.stores f.stores k.core f.core k.file f.file in
+      (k.early, k.since, k.whole, begins N k.early replies f.stores f.core p f.begins (subst (IsRunTo k.early) same.2 k.is_run) k.replied)
 
   abbrev Before : (n : ℕ) (p : Process B K) → Lives v.scheme batches reads_back (new_state v trees) n p → Type 0
   Before n p lives = (before : List Happening) × (is : IsRunBefore v.scheme batches reads_back (new_state v trees) n p lives before)
@@ -414,7 +414,7 @@ replies_are_of_one_run {B} {K} batches reads_back v trees n first device made li
           let M : Type 0 = N × ShowsNoPair v [] (all.0 ++ run_of steps) in
           let g = all_done v trees device made batches reads_back M all.0 given true steps first p (λ m. m.1)
           (weaker v trees device made batches reads_back M N all.0 given true first (λ m. m.0) all.2) goes in
-          (right_by v trees device made (all.0 ++ run_of steps) p.core g.leads, λ none apart. g.now (none, apart)),
+          (right_by v trees device made (all.0 ++ run_of steps) p.core g.is_run, λ none apart. g.now (none, apart)),
     )
 
 -- two replies with one ticket
@@ -431,13 +431,13 @@ one_place (z ∷ xs) (w ∷ ys) x y more other same long =
     (ap (λ (s : Submission). s ∷ xs) heads ∙ ap (λ (l : List Submission). w ∷ l) rest.0, rest.1)
 
 -- a reply that doesn't say that the device has failed
-pub told_reply : (d : Sizes) (commands : List Submission) (reply : Reply) (r : IsReplyIn d commands reply) → reply.body ≢ Failed → reply ≡ reply_of d r.earlier r.command
-told_reply d commands reply r told = elim r.either [ inl is ↦ is | inr failed ↦ absurd (told (ap (λ (q : Reply). q.body) failed)) ]
+pub answered_reply : (d : Sizes) (commands : List Submission) (reply : Reply) (r : IsReplyIn d commands reply) → reply.body ≢ Failed → reply ≡ reply_of d r.earlier r.command
+answered_reply d commands reply r answers = elim r.either [ inl is ↦ is | inr failed ↦ absurd (answers (ap (λ (q : Reply). q.body) failed)) ]
 
 pub one_ticket_has_one_reply : OneTicketHasOneReply
-one_ticket_has_one_reply d commands one other r q ticket told told_too =
-    let first = told_reply d commands one r told in
-    let second = told_reply d commands other q told_too in
+one_ticket_has_one_reply d commands one other r q ticket answers answers_too =
+    let first = answered_reply d commands one r answers in
+    let second = answered_reply d commands other q answers_too in
     let tickets : r.command.ticket ≡ q.command.ticket = sym (ap (λ (k : Reply). k.ticket) first) ∙ ticket ∙ ap (λ (k : Reply). k.ticket) second in
     let long : length r.earlier ≡ length q.earlier = sym r.ticket ∙ tickets ∙ q.ticket in
     let same = one_place r.earlier q.earlier r.command q.command r.later q.later (sym r.place ∙ q.place) long in

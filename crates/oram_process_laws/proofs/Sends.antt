@@ -18,14 +18,14 @@ use Rattle.oram_core.specs.PlainSteps.{Done as Did, accepted_by, finished_by, fi
 use Rattle.oram_core.specs.Steps.{Heard, Steps, did}
 use Rattle.oram_session.specs.Exchanges.{is_stall}
 use Rattle.oram_session.specs.Outcome.{Outcome}
-use Rattle.oram_session.specs.Settled.{outstanding}
+use Rattle.oram_session.specs.CoreWork.{outstanding}
 use Rattle.oram_session.proofs.CoreSteps.{heard_is, stalled}
 use Rattle.oram_session.proofs.Honesty.{waits_by}
 use Rattle.oram_link_laws.specs.Repair.{AreAmong, IsAmong}
 use Rattle.oram_link_laws.specs.Runs.{Exchange, bodies_of}
 use Rattle.oram_rounds.specs.Batches.{BatchOutcome}
 use Rattle.oram_rounds.specs.Law.{AreBatches}
-use Rattle.oram_process_laws.specs.Lives.{Happening, Leads, sends_of}
+use Rattle.oram_process_laws.specs.Lives.{Happening, IsRun, sends_of}
 use Rattle.oram_rounds.specs.PathMessages.{IsPathFetch}
 use Rattle.oram_rounds.specs.Process.{IsSent}
 use Rattle.oram_rounds.specs.Rounds.{Gives, Round, RoundCall, waiting}
@@ -133,12 +133,12 @@ module _ (sent : List (List ℕ)) (s : State) (was : HasSent sent s) where
   step_sent v t Reopen x step = subst (WillHaveSent sent) (sym (step.plain (lost_by s (status_in s)) refl)) (lost_sent (status_in s))
   step_sent v t Retry x step = subst (WillHaveSent sent) (sym (step.plain (retried_by s (status_in s)) refl)) (retried_sent (status_in s))
 
-run_sent : (v : Scheme) (sent : List (List ℕ)) (run : List Happening) (s t : State) → HasSent sent s → Leads v s run t → HasSent (sent ++ sends_of run) t
-run_sent v sent [] s t was leads =
-    subst (λ (all : List (List ℕ)). HasSent all t) (sym (append-nil sent)) (subst (HasSent sent) leads was)
-run_sent v sent (h ∷ run) s t was leads =
+run_sent : (v : Scheme) (sent : List (List ℕ)) (run : List Happening) (s t : State) → HasSent sent s → IsRun v s run t → HasSent (sent ++ sends_of run) t
+run_sent v sent [] s t was is_run =
+    subst (λ (all : List (List ℕ)). HasSent all t) (sym (append-nil sent)) (subst (HasSent sent) is_run was)
+run_sent v sent (h ∷ run) s t was is_run =
     subst (λ (all : List (List ℕ)). HasSent all t) (append_assoc sent h.shown.sends (sends_of run))
-    (run_sent v (sent ++ h.shown.sends) run leads.0 t (step_sent sent s was v leads.0 h.event h.shown leads.1) leads.2)
+    (run_sent v (sent ++ h.shown.sends) run is_run.0 t (step_sent sent s was v is_run.0 h.event h.shown is_run.1) is_run.2)
 
 -- a core that waits for an answer has a command
 some_waits : (f : Option Reason) (queue : List Submission) (lost : Bool) → status_by f queue lost ≡ Waiting → (y : Submission) × (rest : List Submission) × (queue ≡ y ∷ rest)
@@ -147,13 +147,13 @@ some_waits None [] lost waits = absurd cc
 some_waits None (y ∷ rest) lost waits = (y, rest, refl)
 
 -- The message that a core waits for an answer to is one that its run has sent.
-pub outstanding_sent : (v : Scheme) (run : List Happening) (s t : State) (message : List ℕ) → s.queue ≡ [] → Leads v s run t → outstanding t ≡ Some message
+pub outstanding_sent : (v : Scheme) (run : List Happening) (s t : State) (message : List ℕ) → s.queue ≡ [] → IsRun v s run t → outstanding t ≡ Some message
     → IsAmong message (sends_of run)
-outstanding_sent v run s t message idle leads out =
+outstanding_sent v run s t message idle is_run out =
     let waits = waits_by t (status_in t) message refl out in
     let some = some_waits t.failure t.queue t.lost waits.0 in
     let was : HasSent [] s = λ y rest e. absurd (let both = sym idle ∙ e in cc) in
-    subst (λ (m : List ℕ). IsAmong m (sends_of run)) (sym waits.1) (run_sent v [] run s t was leads some.0 some.1 some.2)
+    subst (λ (m : List ℕ). IsAmong m (sends_of run)) (sym waits.1) (run_sent v [] run s t was is_run some.0 some.1 some.2)
 
 -- what a link lets go
 

@@ -1,6 +1,6 @@
 -- Each process begins with what is read back after the one before. One run of the core goes through all of them, and each
 -- message belongs to it.
-use Rattle.std.specs.Prelude.{◌≡◌, ◌⊎◌, ℕ, zero, suc, ◌<◌, ◌^◌, Bool, true, false, List, [], ◌∷◌, ◌++◌, length, map, Some}
+use Rattle.std.specs.Prelude.{◌≡◌, ◌⊎◌, ℕ, zero, suc, Bool, true, false, List, [], ◌∷◌, ◌++◌, map, Some}
 use Rattle.std.specs.List.{AllByRecursion, FoldsTo, flat_map}
 use Rattle.oram_geometry.specs.Sizes.{IsDevice}
 use Rattle.oram_semantics.specs.Formatting.{IsFormatted}
@@ -14,7 +14,7 @@ use Rattle.oram_semantics.specs.declared.events.Event.TheVariants.{Answer, Lost,
 use Rattle.oram_tree.specs.State.{State as Tree}
 use Rattle.oram_core.specs.Steps.{Steps}
 use Rattle.oram_session.specs.Exchanges.{event_of}
-use Rattle.oram_session.specs.Settled.{outstanding}
+use Rattle.oram_session.specs.CoreWork.{outstanding}
 use Rattle.oram_link_laws.specs.Repair.{IsAmong}
 use Rattle.oram_link_laws.specs.Runs.{Exchange, bodies_of}
 use Rattle.oram_rounds.specs.Batches.{BatchOutcome}
@@ -25,16 +25,16 @@ use Rattle.oram_rounds.specs.Process.{Act, Does, EndsIn, Process, begun, exchang
 use Rattle.oram_rounds.specs.Process.Act.{Calls, GoesAhead, Hears, Keeps, Misses}
 use Rattle.oram_rounds.specs.Rounds.{waiting}
 use Rattle.oram_rounds.specs.ProcessSteps.{DoesSteps, ProcessStep, exchanges_in}
-use Rattle.oram_rounds.specs.ProcessSteps.ProcessStep.{Acts, Asks}
+use Rattle.oram_rounds.specs.ProcessSteps.ProcessStep.{Acts, Takes}
 
 -- an event of the core, and what it showed
 pub record Happening : Type 0 where
   pub event : Event
   pub shown : Shown
 
--- a run of the core leads it from one state to another
-abbrev pub Leads : Scheme → State → List Happening → State → Type 0
-Leads v s run t = FoldsTo {P = State} (λ a h b. Steps v a h.event h.shown b) s run t
+-- the core goes from one state to another in this run
+abbrev pub IsRun : Scheme → State → List Happening → State → Type 0
+IsRun v s run t = FoldsTo {P = State} (λ a h b. Steps v a h.event h.shown b) s run t
 
 -- no command is submitted in the run
 abbrev pub is_submission : Event → Bool
@@ -53,7 +53,7 @@ sends_of run = flat_map (λ h. h.shown.sends) run
 
 -- what the core of a process hears and shows in a step
 abbrev pub happens_at : ProcessStep → List Happening
-happens_at (Asks a) = (record { event = Submit a.session a.command a.words; shown = a.shown }) ∷ []
+happens_at (Takes a) = (record { event = Submit a.session a.command a.words; shown = a.shown }) ∷ []
 happens_at (Acts (Hears event x)) = (record { event = event; shown = x }) ∷ []
 happens_at (Acts (Calls o exchanges x)) = (record { event = event_of o; shown = x }) ∷ []
 happens_at (Acts (Misses o exchanges)) = []
@@ -75,7 +75,7 @@ left_by steps = flat_map leaves_at steps
 -- Whether what is kept has all commands: none was submitted since it was kept. A keeping after which the keeper failed
 -- doesn't count.
 abbrev pub is_all_kept_after : Bool → ProcessStep → Bool
-is_all_kept_after now (Asks a) = false
+is_all_kept_after now (Takes a) = false
 is_all_kept_after now (Acts (Hears event x)) = now
 is_all_kept_after now (Acts (Calls o exchanges x)) = now
 is_all_kept_after now (Acts (Misses o exchanges)) = now
@@ -102,7 +102,6 @@ module _ (v : Scheme) {B K : Type 0} (batches : B → List (List ℕ) → BatchO
   -- A process begins with the file that is read back where the one before ends.
   pub record Follows (last p : Process B K) : Type 0 where
     pub bytes : List ℕ
-    pub few : length bytes < 2 ^ 64
     pub exchanges : List Exchange
     pub ends : Ends last bytes exchanges
     pub stores : List (List ℕ)
@@ -130,7 +129,7 @@ module _ (v : Scheme) {B K : Type 0} (batches : B → List (List ℕ) → BatchO
 -- The run leads from the formatted core to this one, and all that it shows is right.
 abbrev pub IsRightRun : Setting → List Tree → List Happening → State → Type 0
 IsRightRun v trees run core =
-    Leads v.scheme (new_state v trees) run core × AllRight v [] (map (λ (h : Happening). h.event) run) (map (λ (h : Happening). h.shown) run)
+    IsRun v.scheme (new_state v trees) run core × AllRight v [] (map (λ (h : Happening). h.event) run) (map (λ (h : Happening). h.shown) run)
 
 -- However many processes there are, and wherever each ends: one run leads from the formatted core to the one that the last
 -- process begins with, and with all that happens to it this run goes on to its core, up to any moment. All that it shows

@@ -10,32 +10,32 @@ use Rattle.oram_semantics.specs.Progress.{Setting}
 use Rattle.oram_tree.specs.State.{State as Tree}
 use Rattle.oram_link_laws.specs.Examples.{new_core, one_block}
 use Rattle.oram_rounds.specs.Examples.{DirectBatches, zero_array}
-use Rattle.oram_rounds.specs.AskedExample.{asked_acts, asked_core, one_read, process_with, reads, reads_kept}
+use Rattle.oram_rounds.specs.ReadingExample.{reading_acts, reading_core, one_read, process_with, reads, reads_kept}
 use Rattle.oram_rounds.specs.Law.{AreBatches}
 use Rattle.oram_process_laws.specs.KeptCommands.{ShowsNoPair}
 use Rattle.oram_rounds.specs.ProcessSteps.{DoesSteps, ProcessStep}
 use Rattle.oram_process_laws.specs.Lives.{IsRightRun, Lives, SubmitsNone, run_of}
-use Rattle.oram_rounds.specs.ProcessSteps.ProcessStep.{Acts, Asks}
+use Rattle.oram_rounds.specs.ProcessSteps.ProcessStep.{Acts, Takes}
 use Rattle.oram_process_laws.specs.Replied.{IsReplyIn}
 use Rattle.oram_rounds.specs.Process.{Act, next_bodies}
 use Rattle.oram_rounds.specs.Process.Act.{Keeps}
 
--- The first process is asked to read the block, and keeps itself.
+-- A read of the block is submitted to the first process, which keeps itself.
 abbrev pub first_steps : List ProcessStep
-first_steps = Asks reads ∷ Acts (Keeps true) ∷ []
+first_steps = Takes reads ∷ Acts (Keeps true) ∷ []
 
 -- The second one begins with its file, and acts.
 abbrev pub second_steps : List ProcessStep
-second_steps = map (λ (act : Act). Acts act) asked_acts
+second_steps = map (λ (act : Act). Acts act) reading_acts
 
 -- The run of both is right, and the array's reply to the command, zeros, is a reply in it.
 abbrev pub TwoLivesExample : Type 0
 TwoLivesExample = (format : List (List ℕ)) × (trees : List Tree) × (let v : Setting = record { scheme = one_block; format = format } in
     AreBatches DirectBatches × IsDevice one_block.device × IsFormatted v trees
-    × DoesSteps one_block DirectBatches reads_kept (process_with new_core new_core) first_steps (process_with asked_core asked_core)
-    × Lives one_block DirectBatches reads_kept (new_state v trees) 1 (process_with asked_core asked_core)
-    × DoesSteps one_block DirectBatches reads_kept (process_with asked_core asked_core) second_steps (process_with asked_core asked_core)
-    × IsRightRun v trees (run_of first_steps ++ run_of second_steps) asked_core
+    × DoesSteps one_block DirectBatches reads_kept (process_with new_core new_core) first_steps (process_with reading_core reading_core)
+    × Lives one_block DirectBatches reads_kept (new_state v trees) 1 (process_with reading_core reading_core)
+    × DoesSteps one_block DirectBatches reads_kept (process_with reading_core reading_core) second_steps (process_with reading_core reading_core)
+    × IsRightRun v trees (run_of first_steps ++ run_of second_steps) reading_core
     × ShowsNoPair v [] (run_of first_steps ++ run_of second_steps) × SubmitsNone (run_of second_steps)
-    × (next_bodies one_block.device asked_core ≡ fetch_body 0 0 ∷ [])
+    × (next_bodies one_block.device reading_core ≡ fetch_body 0 0 ∷ [])
     × IsReplyIn one_block.device (one_read ∷ []) (reply_by zero_array one_read))

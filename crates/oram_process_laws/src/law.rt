@@ -50,7 +50,7 @@ pub fn next_fetches_are_of_commands()
 {}
 
 /// Two processes over a server in memory meet the premises of the laws about lives. The first one begins with a device as it
-/// was formatted, is asked to read its block, keeps itself and ends while its FETCH is sent. The second one begins with its
+/// was formatted, takes a read of its block, keeps itself and ends while its FETCH is sent. The second one begins with its
 /// file, sends the FETCH ahead again, and its core asks for it then.
 pub fn two_lives_example()
     ensures { TwoLivesExample }

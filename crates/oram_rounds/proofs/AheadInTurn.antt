@@ -217,14 +217,14 @@ module _ {B : Type 0} (d : Sizes) (s : State) (l : Round B) (a : IsAheadInTurn d
   retried_in_turn Waiting = a
   retried_in_turn Over = a
 
-told_in_turn : {B : Type 0} (v : Scheme) (s t : State) (l : Round B) (event : Event) (x : Shown) → (event ≡ Reopen) ⊎ (event ≡ Retry) → Steps v s event x t → IsAheadInTurn v.device s l
+resumed_in_turn : {B : Type 0} (v : Scheme) (s t : State) (l : Round B) (event : Event) (x : Shown) → (event ≡ Reopen) ⊎ (event ≡ Retry) → Steps v s event x t → IsAheadInTurn v.device s l
     → IsAheadInTurn v.device t l
-told_in_turn v s t l event x (inl is) step a =
-    let as_told : Steps v s Reopen x t = subst (λ (e : Event). Steps v s e x t) is step in
-    subst (λ (u : State). IsAheadInTurn v.device u l) (sym (ap (λ (d : Did). d.state) (as_told.plain (lost_by s (status_in s)) refl))) (lost_in_turn v.device s l a (status_in s))
-told_in_turn v s t l event x (inr is) step a =
-    let as_told : Steps v s Retry x t = subst (λ (e : Event). Steps v s e x t) is step in
-    subst (λ (u : State). IsAheadInTurn v.device u l) (sym (ap (λ (d : Did). d.state) (as_told.plain (retried_by s (status_in s)) refl))) (retried_in_turn v.device s l a (status_in s))
+resumed_in_turn v s t l event x (inl is) step a =
+    let as_event : Steps v s Reopen x t = subst (λ (e : Event). Steps v s e x t) is step in
+    subst (λ (u : State). IsAheadInTurn v.device u l) (sym (ap (λ (d : Did). d.state) (as_event.plain (lost_by s (status_in s)) refl))) (lost_in_turn v.device s l a (status_in s))
+resumed_in_turn v s t l event x (inr is) step a =
+    let as_event : Steps v s Retry x t = subst (λ (e : Event). Steps v s e x t) is step in
+    subst (λ (u : State). IsAheadInTurn v.device u l) (sym (ap (λ (d : Did). d.state) (as_event.plain (retried_by s (status_in s)) refl))) (retried_in_turn v.device s l a (status_in s))
 
 -- whatever a process does
 
@@ -250,7 +250,7 @@ module _ {B K : Type 0} (batches : B → List (List ℕ) → BatchOutcome → Li
   one_act : (act : Act) (p q : Process B K) (host after : Host) (array : ℕ → List ℕ) → p.link.device ≡ v.device → p.link.record_len ≡ record_len v → IsGoingOn may_lie v p host array
       → IsAheadInTurn v.device p.core p.link → Does v batches reads_back p act q → PlainRun may_lie v host (exchanges_of act) after → Stays q
   one_act (Hears event x) p q host after array dev len on a does run =
-      inl (subst (λ (l : Round B). IsAheadInTurn v.device q.core l) (sym does.0.2) (told_in_turn v p.core q.core p.link event x does.0.0 does.0.1 a))
+      inl (subst (λ (l : Round B). IsAheadInTurn v.device q.core l) (sym does.0.2) (resumed_in_turn v p.core q.core p.link event x does.0.0 does.0.1 a))
   one_act (Calls o exchanges x) p q host after array dev len on a does run =
       let c = called batches reads_back are may_lie v device p q.link host after on.0 array does.0.0 o exchanges dev len on.1 on.3 on.2 does.0.1 does.0.2 run in
       let is = (waits_by p.core (status_in p.core) does.0.0 refl does.0.1).1 in

@@ -106,8 +106,8 @@ module _ (v : Scheme) (host later : Host) (held : List (List ℕ)) (c : CatchesU
 
   -- a lie about the host beside is one about the host later
 
-  asked : requested body ≡ record { fetch = true; tree = f.tree; leaf = f.leaf }
-  asked = ap requested f.named ∙ asked_fetch f.tree f.leaf small
+  requested_is : requested body ≡ record { fetch = true; tree = f.tree; leaf = f.leaf }
+  requested_is = ap requested f.named ∙ asked_fetch f.tree f.leaf small
 
   abbrev entry : Entry
   entry = record { fetch = true; tree = f.tree; leaf = f.leaf }
@@ -120,7 +120,7 @@ module _ (v : Scheme) (host later : Host) (held : List (List ℕ)) (c : CatchesU
   PairAt e h bytes = (is_payload v e bytes ≡ true) × (records : ℕ → List ℕ) × KeepsTree v e.tree records h × Collides records (answered_path v e bytes)
 
   pair_at : (h : Host) (bytes : List ℕ) → ShowsPair v h body bytes → PairAt entry h bytes
-  pair_at h bytes p = subst (λ (e : Entry). PairAt e h bytes) asked (p.payload, p.records, p.kept, p.pair)
+  pair_at h bytes p = subst (λ (e : Entry). PairAt e h bytes) requested_is (p.payload, p.records, p.kept, p.pair)
 
   abbrev TwinAt : Entry → Host → List ℕ → Type 0
   TwinAt e h bytes = (is_payload v e bytes ≡ true) × (records : ℕ → List ℕ) × KeepsTree v e.tree records h × (level : ℕ) × (level ≤ depth_of v.device e.tree)
@@ -129,7 +129,7 @@ module _ (v : Scheme) (host later : Host) (held : List (List ℕ)) (c : CatchesU
 
   twin_at : (h : Host) (bytes : List ℕ) → TwinAt entry h bytes → ShowsTwin v h body bytes
   twin_at h bytes t =
-      let u = subst (λ (e : Entry). TwinAt e h bytes) (sym asked) t in
+      let u = subst (λ (e : Entry). TwinAt e h bytes) (sym requested_is) t in
       record { payload = u.0; records = u.1; kept = u.2; level = u.3; within = u.4; differs = u.5; digest = u.6 }
 
   no_pair_by : (b : Bool) (answer given : List ℕ) → holds_path v.device (record_len v) f.tree f.leaf answer ≡ b

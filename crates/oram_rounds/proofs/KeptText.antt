@@ -169,7 +169,7 @@ longer text n =
     omega (arith, length-append text (to_be_bytes w64 n), eight)
 
 pub one_process : FilesTellOfOneProcess
-one_process overhead d d' bytes stores stores' core core' fits f g =
+one_process overhead d d' bytes stores stores' core core' f g =
     let same = kept_same stores stores' f.fields g.fields f.counted g.counted (sym f.all ∙ g.all) in
     let again : AreSavedFields f.fields overhead d' core' = subst (λ (text : List ℕ). AreSavedFields text overhead d' core') (sym same.1) g.saved in
     let one = one_core_bare f.fields overhead d d' core core' f.saved again in (same.0, one.0, one.1)

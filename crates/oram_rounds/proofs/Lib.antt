@@ -22,8 +22,8 @@ pub mod Talk
 pub mod Results
 pub mod FailedReplies
 pub mod NewProcess
-pub mod AskedCore
-pub mod AskedProcess
+pub mod ReadingCore
+pub mod ReadingProcess
 pub mod RepliedProcess
 pub mod KeptText
-pub mod Asked
+pub mod AllSubmitted

@@ -34,7 +34,7 @@ use Rattle.oram_host_laws.proofs.Handed.{kept_same}
 use Rattle.oram_link_laws.specs.Examples.{new_core, new_host, one_block}
 use Rattle.oram_link_laws.specs.Runs.{IsHeldBy}
 use Rattle.oram_link_laws.proofs.Device.{no_depth, one_tree, session_example}
-use Rattle.oram_rounds.specs.AskedExample.{one_read, process_with, reads_kept, shown_in}
+use Rattle.oram_rounds.specs.ReadingExample.{one_read, process_with, reads_kept, shown_in}
 use Rattle.oram_rounds.specs.CatchUp.{CatchesUp}
 use Rattle.oram_rounds.specs.Examples.{DirectBatches, zero_array}
 use Rattle.oram_rounds.specs.PathMessages.{IsPathStore}
@@ -42,7 +42,7 @@ use Rattle.oram_rounds.specs.Process.{DoesAll, IsSafe}
 use Rattle.oram_rounds.specs.ReplyExample.{ReplyExample, replied_process, storing_acts, storing_core, zero_store}
 use Rattle.oram_rounds.specs.Rounds.{RoundCall}
 use Rattle.oram_rounds.specs.Service.{IsServed, WillHoldAfter}
-use Rattle.oram_rounds.proofs.AskedCore.{allowed, table_len}
+use Rattle.oram_rounds.proofs.ReadingCore.{allowed, table_len}
 use Rattle.oram_rounds.proofs.Example.{first_leaf, first_tree, node_zero, node_zero_by, one_path, whole_record}
 use Rattle.oram_rounds.proofs.Start.{held_goes_on}
 

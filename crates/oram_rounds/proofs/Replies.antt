@@ -17,7 +17,7 @@ use Rattle.oram_core.specs.PlainSteps.{Done as Did, lost_by, plain_step, retried
 use Rattle.oram_core.specs.Steps.{Steps, did}
 use Rattle.oram_host_laws.specs.Honest.{IsHonest}
 use Rattle.oram_session.specs.Honesty.{HasFailed}
-use Rattle.oram_session.specs.Settled.{outstanding}
+use Rattle.oram_session.specs.CoreWork.{outstanding}
 use Rattle.oram_session.proofs.Honesty.{waits_by}
 use Rattle.oram_link_laws.specs.Runs.{Exchange}
 use Rattle.oram_link_laws.proofs.Exchanged.{folds_join, folds_split}
@@ -51,12 +51,12 @@ module _ {B K : Type 0} (batches : B → List (List ℕ) → BatchOutcome → Li
         ap (λ (e : Did). e.state.queue) same ∙ idle.queue,
       )
 
-  told : (p q : Process B K) (host : Host) (array : ℕ → List ℕ) (event : Event) (x : Shown) → (event ≡ Reopen) ⊎ (event ≡ Retry) → Steps v p.core event x q.core → IsServed v p.core host array
+  resumed : (p q : Process B K) (host : Host) (array : ℕ → List ℕ) (event : Event) (x : Shown) → (event ≡ Reopen) ⊎ (event ≡ Retry) → Steps v p.core event x q.core → IsServed v p.core host array
       → IsServed v q.core host array × (x.replies ≡ []) × (q.core.queue ≡ p.core.queue)
-  told p q host array event x (inl is) step served =
+  resumed p q host array event x (inl is) step served =
       idle_event p q host array Reopen x (lost_by p.core (status_in p.core)) (subst (λ (e : Event). Steps v p.core e x q.core) is step) refl
       (lost_idles p.core (status_in p.core)) (reopen_honest (status_in p.core) p.core.message host) served
-  told p q host array event x (inr is) step served =
+  resumed p q host array event x (inr is) step served =
       idle_event p q host array Retry x (retried_by p.core (status_in p.core)) (subst (λ (e : Event). Steps v p.core e x q.core) is step) refl
       (retried_idles p.core (status_in p.core)) (retry_honest (status_in p.core) p.core.message host) served
 
@@ -74,7 +74,7 @@ module _ {B K : Type 0} (batches : B → List (List ℕ) → BatchOutcome → Li
   pub goes_on : (act : Act) (p q : Process B K) (host after : Host) (array : ℕ → List ℕ) → p.link.device ≡ v.device → p.link.record_len ≡ record_len v → IsGoingOn may_lie v p host array
       → Does v batches reads_back p act q → PlainRun may_lie v host (exchanges_of act) after → Outcomes p array (replies_of act) q after
   goes_on (Hears event x) p q host after array dev len on does run =
-      let t = told p q on.0 array event x does.0.0 does.0.1 on.2 in
+      let t = resumed p q on.0 array event x does.0.0 does.0.1 on.2 in
       let catches : CatchesUp v after (waiting q.link) on.0 =
       subst (λ (h : Host). CatchesUp v h (waiting q.link) on.0) run (subst (λ (l : Round B). CatchesUp v host (waiting l) on.0) (sym does.0.2) on.1) in
       let ahead : AreAhead may_lie v after q.link = subst (λ (h : Host). AreAhead may_lie v h q.link) run (subst (λ (l : Round B). AreAhead may_lie v host l) (sym does.0.2) on.3) in
@@ -119,20 +119,20 @@ module _ {B K : Type 0} (batches : B → List (List ℕ) → BatchOutcome → Li
       let over : status_in s ≡ Over = ap (λ (f : Option Reason). status_by f s.queue s.lost) failed.1 in
       let both = sym over ∙ waits.0 in cc
 
-  failed_told : (s t : State) (event : Event) (x : Shown) (d : Did) → Steps v s event x t → plain_step v s event ≡ Some d → IsIdleStep s d → HasFailed s
+  failed_idle : (s t : State) (event : Event) (x : Shown) (d : Did) → Steps v s event x t → plain_step v s event ≡ Some d → IsIdleStep s d → HasFailed s
       → HasFailed t × (x.replies ≡ [])
-  failed_told s t event x d step plain idle failed =
+  failed_idle s t event x d step plain idle failed =
       let same : did x t ≡ d = step.plain d plain in
       ((failed.0, ap (λ (e : Did). e.state.failure) same ∙ idle.failure ∙ failed.1), ap (λ (e : Did). e.replies) same ∙ idle.replies)
 
   pub stays_failed : (acts : List Act) (p q : Process B K) → HasFailed p.core → DoesAll v batches reads_back p acts q → HasFailed q.core × (flat_map replies_of acts ≡ [])
   stays_failed [] p q failed does = (subst (λ (r : Process B K). HasFailed r.core) does failed, refl)
   stays_failed (Hears event x ∷ acts) p q failed does =
-      let told : HasFailed does.0.core × (x.replies ≡ []) = elim does.1.0.0 [
-        | inl is ↦ failed_told p.core does.0.core Reopen x (lost_by p.core (status_in p.core)) (subst (λ (e : Event). Steps v p.core e x does.0.core) is does.1.0.1) refl (lost_idles p.core (status_in p.core)) failed
-        | inr is ↦ failed_told p.core does.0.core Retry x (retried_by p.core (status_in p.core)) (subst (λ (e : Event). Steps v p.core e x does.0.core) is does.1.0.1) refl (retried_idles p.core (status_in p.core)) failed
+      let resumed : HasFailed does.0.core × (x.replies ≡ []) = elim does.1.0.0 [
+        | inl is ↦ failed_idle p.core does.0.core Reopen x (lost_by p.core (status_in p.core)) (subst (λ (e : Event). Steps v p.core e x does.0.core) is does.1.0.1) refl (lost_idles p.core (status_in p.core)) failed
+        | inr is ↦ failed_idle p.core does.0.core Retry x (retried_by p.core (status_in p.core)) (subst (λ (e : Event). Steps v p.core e x does.0.core) is does.1.0.1) refl (retried_idles p.core (status_in p.core)) failed
       ] in
-      stays_failed acts does.0 q told.0 does.2
+      stays_failed acts does.0 q resumed.0 does.2
   stays_failed (Calls o exchanges x ∷ acts) p q failed does = absurd (failed_out p.core does.1.0.0 failed does.1.0.1)
   stays_failed (Misses o exchanges ∷ acts) p q failed does = absurd (failed_out p.core does.1.0.0 failed does.1.0.1)
   stays_failed (GoesAhead exchanges ∷ acts) p q failed does = stays_failed acts does.0 q (subst HasFailed (sym does.1.0.1) failed) does.2

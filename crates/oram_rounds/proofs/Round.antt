@@ -123,11 +123,11 @@ module _ {B : Type 0} (batches : B → List (List ℕ) → BatchOutcome → List
   module _ (f : IsPathFetch v.device body) (stocked : IsStocked v later) where
     -- the batch had no answers
     unanswered : (fault : LinkFault) → AreAmong (bodies_of exchanges) (l.kept ++ body ∷ []) → o ≡ Err fault → m.kept ≡ l.kept → m.held ≡ l.held → Becomes
-    unanswered fault among told kept held =
+    unanswered fault among outcome_is kept held =
         let on = run_catches v (waiting l) later may_lie exchanges host after (each_sent v l.kept l.held body f (bodies_of exchanges) among) run c in (
           later,
           subst (λ (k : List (List ℕ)). CatchesUp v after k later) (sym (same_waiting kept held)) on,
-          inl (subst (λ (x : Outcome). IsHonestCall later body x later) (sym told) (inl refl)),
+          inl (subst (λ (x : Outcome). IsHonestCall later body x later) (sym outcome_is) (inl refl)),
         )
 
     acks_sent : (kept acks : List (List ℕ)) → ((x : List ℕ) → IsAmong x kept → IsAmong x l.kept) → AllByRecursion (IsWaitingOrFetch v (waiting l)) (bodies_of (answered kept acks))
@@ -141,8 +141,8 @@ module _ {B : Type 0} (batches : B → List (List ℕ) → BatchOutcome → List
     given_to at held answer given next (inl honest) over = inl (honest_later v at later l.held held body f answer given next honest over)
     given_to at held answer given next (inr lie) over =
         let same : answer ≡ lie.1 = ap (λ (x : Outcome). elim x as (λ _. List ℕ) [ Ok b ↦ b | Err e ↦ answer ]) lie.2 in
-        let told : IsPlainLie v at body answer next = subst (λ (b : List ℕ). IsPlainLie v at body b next) (sym same) lie.3 in
-        inr (lie.0, given, refl, lie_later v at later l.held held body f answer given next stocked told over)
+        let plain_lie : IsPlainLie v at body answer next = subst (λ (b : List ℕ). IsPlainLie v at body b next) (sym same) lie.3 in
+        inr (lie.0, given, refl, lie_later v at later l.held held body f answer given next stocked plain_lie over)
 
     -- what the core receives where a STORE was refused
     pathless_by : (b : Bool) (answer : List ℕ) → is_refusal_body answer ≡ b → holds_path v.device (record_len v) f.tree f.leaf (if b then answer else []) ≡ false

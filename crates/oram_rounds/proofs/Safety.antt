@@ -26,7 +26,7 @@ use Rattle.oram_host_laws.proofs.Handed.{fetch_leaves}
 use Rattle.oram_host_laws.proofs.Honest.{IsBusy, busy_by}
 use Rattle.oram_session.specs.Honesty.{IsHeardCall}
 use Rattle.oram_session.specs.Outcome.{Outcome}
-use Rattle.oram_session.specs.Settled.{outstanding}
+use Rattle.oram_session.specs.CoreWork.{outstanding}
 use Rattle.oram_session.proofs.Honesty.{call_keeps, waits_by}
 use Rattle.oram_link_laws.specs.Repair.{AreAmong, IsAmong}
 use Rattle.oram_link_laws.specs.Runs.{Exchange, bodies_of}
@@ -110,7 +110,7 @@ as_ahead : {B : Type 0} (l : Round B) (message : List ℕ) (exchanges : List Exc
 as_ahead l message exchanges (inl none) = inl none
 as_ahead l message exchanges (inr fetch) = inr ((fetch.0, tt), fetch.1)
 
--- the core hears of a reopening, or is told to go on
+-- the core hears of a reopening, or sends its message again
 
 pub reopen_honest : (now : Status) (last : List ℕ) (host : Host) → IsHonest now last Reopen host host
 reopen_honest Idle last host = refl
@@ -181,14 +181,14 @@ module _ {B K : Type 0} (batches : B → List (List ℕ) → BatchOutcome → Li
       let same : did x t ≡ d = step.plain d plain in
       inr (failed.0, (failed.1.0, ap (λ (e : Did). e.state.failure) same ∙ idle.failure ∙ failed.1.1))
 
-  told : (s t : State) (host : Host) (array : ℕ → List ℕ) (event : Event) (x : Shown) → (event ≡ Reopen) ⊎ (event ≡ Retry) → Steps v s event x t
+  resumed : (s t : State) (host : Host) (array : ℕ → List ℕ) (event : Event) (x : Shown) → (event ≡ Reopen) ⊎ (event ≡ Retry) → Steps v s event x t
       → WillHold may_lie v s host array → WillHold may_lie v t host array
-  told s t host array event x (inl is) step will =
-      let as_told : Steps v s Reopen x t = subst (λ (e : Event). Steps v s e x t) is step in
-      idles s t host array Reopen x (lost_by s (status_in s)) as_told refl (lost_idles s (status_in s)) (reopen_honest (status_in s) s.message host) will
-  told s t host array event x (inr is) step will =
-      let as_told : Steps v s Retry x t = subst (λ (e : Event). Steps v s e x t) is step in
-      idles s t host array Retry x (retried_by s (status_in s)) as_told refl (retried_idles s (status_in s)) (retry_honest (status_in s) s.message host) will
+  resumed s t host array event x (inl is) step will =
+      let as_event : Steps v s Reopen x t = subst (λ (e : Event). Steps v s e x t) is step in
+      idles s t host array Reopen x (lost_by s (status_in s)) as_event refl (lost_idles s (status_in s)) (reopen_honest (status_in s) s.message host) will
+  resumed s t host array event x (inr is) step will =
+      let as_event : Steps v s Retry x t = subst (λ (e : Event). Steps v s e x t) is step in
+      idles s t host array Retry x (retried_by s (status_in s)) as_event refl (retried_idles s (status_in s)) (retry_honest (status_in s) s.message host) will
 
   -- a core that waits for an answer is called about
 
@@ -266,7 +266,7 @@ module _ {B K : Type 0} (batches : B → List (List ℕ) → BatchOutcome → Li
     device = ap (λ (l : Round B). l.device) does.0.2 ∙ safe.device;
     record_len_is = ap (λ (l : Round B). l.record_len) does.0.2 ∙ safe.record_len_is;
     live =
-        let will : WillHoldAfter may_lie v q.core (waiting p.link) host array = (safe.live.0, safe.live.1, told p.core q.core safe.live.0 array event x does.0.0 does.0.1 safe.live.2) in
+        let will : WillHoldAfter may_lie v q.core (waiting p.link) host array = (safe.live.0, safe.live.1, resumed p.core q.core safe.live.0 array event x does.0.0 does.0.1 safe.live.2) in
         subst (λ (h : Host). WillHoldAfter may_lie v q.core (waiting q.link) h array) run
         (subst (λ (l : Round B). WillHoldAfter may_lie v q.core (waiting l) host array) (sym does.0.2) will);
     kept = λ bytes back.

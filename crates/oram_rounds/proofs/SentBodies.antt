@@ -32,7 +32,7 @@ module _ {B : Type 0} (batches : B → List (List ℕ) → BatchOutcome → List
 
   pub fetch_refused : (answers acks : List (List ℕ)) (answer refusal given : List ℕ) → given ≡ refused_with refusal → answers ≡ acks ++ answer ∷ [] → batches i.inner (i.kept ++ body ∷ []) (Ok answers) exchanges m.inner
       → m.kept ≡ i.kept → m.held ≡ i.held → m.ahead ≡ i.ahead → IsAmong refusal acks → refusal ≢ done_answer → Fetches batches l.device l.record_len l body (Ok given) exchanges m
-  fetch_refused answers acks answer refusal given told all batch kept held ahead among other =
+  fetch_refused answers acks answer refusal given outcome_is all batch kept held ahead among other =
       let P : Round B → Type 0 = λ r. batches r.inner (r.kept ++ body ∷ []) (Ok answers) exchanges m.inner in
       record {
         path = f;
@@ -41,7 +41,7 @@ module _ {B : Type 0} (batches : B → List (List ℕ) → BatchOutcome → List
         batch = subst P is batch;
         held = subst (λ (r : Round B). m.held ≡ r.held) is held;
         ahead = subst (λ (r : Round B). m.ahead ≡ r.ahead) is ahead;
-        gives = record { acks = acks; answer = answer; all = all; either = inr (subst (λ (r : Round B). m.kept ≡ r.kept) is kept, refusal, among, other, ap (λ (b : List ℕ). let o : Outcome = Ok b in o) told) };
+        gives = record { acks = acks; answer = answer; all = all; either = inr (subst (λ (r : Round B). m.kept ≡ r.kept) is kept, refusal, among, other, ap (λ (b : List ℕ). let o : Outcome = Ok b in o) outcome_is) };
       }
 
   pub fetch_given : (answers acks : List (List ℕ)) (answer given : List ℕ) → answers ≡ acks ++ answer ∷ [] → batches i.inner (i.kept ++ body ∷ []) (Ok answers) exchanges m.inner

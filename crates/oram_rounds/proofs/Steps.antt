@@ -104,10 +104,10 @@ module _ (may_lie : Bool) (v : Scheme) (device : IsDevice v.device) (s t : State
       (honest_hosts_serve v s t is.world array (event_of o) x host after device is.alive is.serving is.hosts step.moves
       (subst (λ (now : Status). IsHonest now s.message (event_of o) host after) (sym waits) (honest_at o s.message host after honest)))
   step_call o waits step (inr lie) =
-      let told : Outcome = Ok lie.1 in
-      let stepped : Steps v s (event_of told) x t = subst (λ (k : Outcome). Steps v s (event_of k) x t) lie.2 step in
+      let given_by : Outcome = Ok lie.1 in
+      let stepped : Steps v s (event_of given_by) x t = subst (λ (k : Outcome). Steps v s (event_of k) x t) lie.2 step in
       elim (lying_hosts_fail v s t is.world array lie.1 x host after device is.alive waits is.serving is.hosts stepped.moves lie.3) [
-        | inl on ↦ on_with told waits stepped on
+        | inl on ↦ on_with given_by waits stepped on
         | inr failed ↦ inr (lie.0, failed)
       ]
 
@@ -126,10 +126,10 @@ module _ (may_lie : Bool) (v : Scheme) (device : IsDevice v.device) (s t : State
       (honest_hosts_serve v s t is.world array (event_of o) x host after device is.alive is.serving is.hosts step.moves
       (subst (λ (now : Status). IsHonest now s.message (event_of o) host after) (sym waits) (honest_at o s.message host after honest)))
   step_in_turn o waits step (inr lie) =
-      let told : Outcome = Ok lie.1 in
-      let stepped : Steps v s (event_of told) x t = subst (λ (k : Outcome). Steps v s (event_of k) x t) lie.2 step in
+      let given_by : Outcome = Ok lie.1 in
+      let stepped : Steps v s (event_of given_by) x t = subst (λ (k : Outcome). Steps v s (event_of k) x t) lie.2 step in
       elim (lying_hosts_fail v s t is.world array lie.1 x host after device is.alive waits is.serving is.hosts stepped.moves lie.3) [
-        | inl on ↦ turn_with (event_of told) stepped on
+        | inl on ↦ turn_with (event_of given_by) stepped on
         | inr failed ↦ inr (lie.0, failed)
       ]
 

@@ -13,7 +13,7 @@ use Rattle.oram_core.specs.PlainSteps.{Done as Did, stalled_by}
 use Rattle.oram_core.specs.Steps.{Steps, did}
 use Rattle.oram_session.specs.Exchanges.{Delivery, IsCutOff, IsSent, Runs, event_of, is_stall, retried}
 use Rattle.oram_session.specs.Outcome.{Outcome}
-use Rattle.oram_session.specs.Settled.{outstanding}
+use Rattle.oram_session.specs.CoreWork.{outstanding}
 use Rattle.oram_session.proofs.CoreSteps.{retried_is, stalled}
 use Rattle.oram_session.proofs.Honesty.{waits_by}
 use Rattle.oram_link_laws.specs.Runs.{Exchange}
@@ -27,8 +27,8 @@ module _ {B : Type 0} (batches : B → List (List ℕ) → BatchOutcome → List
   abbrev pub Side : Type 0
   Side = State × Round B
 
-  abbrev Asks : List ℕ → Round B → Outcome → Round B → Type 0
-  Asks message l o m = IsCounted batches l message o m
+  abbrev CallsWith : List ℕ → Round B → Outcome → Round B → Type 0
+  CallsWith message l o m = IsCounted batches l message o m
 
   pub talked_none : (p q : Side) → p ≡ q → HasTalked v batches p [] q
   talked_none p q same = record { acts = []; talks = same; replied = refl }
@@ -68,27 +68,27 @@ module _ {B : Type 0} (batches : B → List (List ℕ) → BatchOutcome → List
   -- Calls stall, and the core sends its message again after each. Then there is one more call. The core hears of it, or
   -- memory runs out first.
 
-  told : (stalls : List Outcome) (o : Outcome) (s t : State) (l m : Round B) (message : List ℕ) (replies : List Reply) → status_in s ≡ Waiting → outstanding s ≡ Some message
-      → All (λ k. is_stall k ≡ true) stalls → FoldsTo {P = Round B} {A = Outcome} (Asks message) l (stalls ++ o ∷ []) m → Runs v s (retried stalls ++ event_of o ∷ []) replies t
+  delivered : (stalls : List Outcome) (o : Outcome) (s t : State) (l m : Round B) (message : List ℕ) (replies : List Reply) → status_in s ≡ Waiting → outstanding s ≡ Some message
+      → All (λ k. is_stall k ≡ true) stalls → FoldsTo {P = Round B} {A = Outcome} (CallsWith message) l (stalls ++ o ∷ []) m → Runs v s (retried stalls ++ event_of o ∷ []) replies t
       → HasTalked v batches (s, l) replies (t, m)
-  told [] o s t l m message replies waits out stall link run =
+  delivered [] o s t l m message replies waits out stall link run =
       let x : Shown = run.0 in
       let once : HasTalked v batches (s, l) x.replies (run.1, link.0) = called_once s run.1 l link.0 message o x out link.1 run.3 in
       let all : x.replies ≡ replies = sym (run.5 ∙ ap (λ (rs : List Reply). x.replies ++ rs) run.4.0 ∙ append-nil x.replies) in
       subst (λ (k : State). HasTalked v batches (s, l) replies (k, m)) run.4.1
       (subst (λ (k : Round B). HasTalked v batches (s, l) replies (run.1, k)) link.2
       (subst (λ (rs : List Reply). HasTalked v batches (s, l) rs (run.1, link.0)) all once))
-  told (k ∷ stalls) o s t l m message replies waits out stall link run =
+  delivered (k ∷ stalls) o s t l m message replies waits out stall link run =
       let again = run.4 in
       let one = stalled_once s run.1 again.1 l link.0 message k run.0 again.0 waits (All-head (λ j. is_stall j ≡ true) k stalls stall) out link.1 run.3 again.3 in
       let rest : Runs v s (retried stalls ++ event_of o ∷ []) again.2 t = subst (λ (b : State). Runs v b (retried stalls ++ event_of o ∷ []) again.2 t) one.3 again.4 in
-      let more = told stalls o s t link.0 m message again.2 waits out (All-tail (λ j. is_stall j ≡ true) k stalls stall) link.2 rest in
+      let more = delivered stalls o s t link.0 m message again.2 waits out (All-tail (λ j. is_stall j ≡ true) k stalls stall) link.2 rest in
       let later : run.2 ≡ again.2 = again.5 ∙ ap (λ (rs : List Reply). rs ++ again.2) one.2 in
       let all : replies ≡ again.2 = run.5 ∙ ap (λ (rs : List Reply). rs ++ run.2) one.1 ∙ later in
       subst (λ (rs : List Reply). HasTalked v batches (s, l) rs (t, m)) (sym all) (talked_more (s, l) (s, link.0) (t, m) [] again.2 one.0 more)
 
   missed : (stalls : List Outcome) (o : Outcome) (s t : State) (l m : Round B) (message : List ℕ) (replies : List Reply) → status_in s ≡ Waiting → outstanding s ≡ Some message
-      → All (λ k. is_stall k ≡ true) stalls → FoldsTo {P = Round B} {A = Outcome} (Asks message) l (stalls ++ o ∷ []) m → Runs v s (retried stalls) replies t
+      → All (λ k. is_stall k ≡ true) stalls → FoldsTo {P = Round B} {A = Outcome} (CallsWith message) l (stalls ++ o ∷ []) m → Runs v s (retried stalls) replies t
       → HasTalked v batches (s, l) replies (t, m)
   missed [] o s t l m message replies waits out stall link run =
       let once : HasTalked v batches (s, l) [] (t, link.0) = record {
@@ -109,14 +109,14 @@ module _ {B : Type 0} (batches : B → List (List ℕ) → BatchOutcome → List
   pub sent_talks : (most : ℕ) (p : Side) (x : Delivery) (q : Side) → IsSent v (IsCounted batches) most p x q → HasTalked v batches p x.replies q
   sent_talks most p x q sent =
       let waits = waits_by p.0 (status_in p.0) x.message refl sent.message in
-      told x.stalls x.last p.0 q.0 p.1 q.1 x.message x.replies waits.0 sent.message sent.stalls sent.link sent.core
+      delivered x.stalls x.last p.0 q.0 p.1 q.1 x.message x.replies waits.0 sent.message sent.stalls sent.link sent.core
 
   pub cut_talks : (most : ℕ) (p : Side) (x : Delivery) (q : Side) → IsCutOff v (IsCounted batches) most p x q → (replies : List Reply) × HasTalked v batches p replies q
   cut_talks most p x q cut =
       let waits = waits_by p.0 (status_in p.0) x.message refl cut.message in
       elim cut.core [
         | inl before ↦ ([], missed x.stalls x.last p.0 q.0 p.1 q.1 x.message [] waits.0 cut.message cut.stalls cut.link before)
-        | inr after ↦ (x.replies, told x.stalls x.last p.0 q.0 p.1 q.1 x.message x.replies waits.0 cut.message cut.stalls cut.link after)
+        | inr after ↦ (x.replies, delivered x.stalls x.last p.0 q.0 p.1 q.1 x.message x.replies waits.0 cut.message cut.stalls cut.link after)
       ]
 
   -- a keeper that stands beside stays as it is
@@ -137,7 +137,7 @@ module _ {B : Type 0} (batches : B → List (List ℕ) → BatchOutcome → List
   -- a core that was reopened, and has sent its message again or not
 
   pub reopened_talks : (s t : State) (l : Round B) → Runs v s (Reopen ∷ Retry ∷ []) [] t
-      → (x y : Shown) × (told : HasTalked v batches (s, l) [] (t, l)) × (told.acts ≡ Hears Reopen x ∷ Hears Retry y ∷ [])
+      → (x y : Shown) × (talk : HasTalked v batches (s, l) [] (t, l)) × (talk.acts ≡ Hears Reopen x ∷ Hears Retry y ∷ [])
   reopened_talks s t l run =
       let again = run.4 in (
         run.0,
@@ -151,7 +151,7 @@ module _ {B : Type 0} (batches : B → List (List ℕ) → BatchOutcome → List
       )
 
   pub lost_talks : (s t : State) (l : Round B) → Runs v s (Reopen ∷ []) [] t
-      → (x : Shown) × (told : HasTalked v batches (s, l) [] (t, l)) × (told.acts ≡ Hears Reopen x ∷ [])
+      → (x : Shown) × (talk : HasTalked v batches (s, l) [] (t, l)) × (talk.acts ≡ Hears Reopen x ∷ [])
   lost_talks s t l run = (
     run.0,
     record {
@@ -163,18 +163,18 @@ module _ {B : Type 0} (batches : B → List (List ℕ) → BatchOutcome → List
   )
 
   -- what a process does after its core and its link have talked without a reply
-  pub done_after : {K : Type 0} (reads_back : K → List ℕ → Type 0) (keeper : K) (u : Scheme) (p q : Side) (r : Process B K) (acts : List Act) → u ≡ v → (told : HasTalked v batches p [] q)
+  pub done_after : {K : Type 0} (reads_back : K → List ℕ → Type 0) (keeper : K) (u : Scheme) (p q : Side) (r : Process B K) (acts : List Act) → u ≡ v → (talk : HasTalked v batches p [] q)
       → DoesAll u batches reads_back (record { core = q.0; link = q.1; keeper = keeper }) acts r
       → (all : List Act) × (flat_map replies_of all ≡ flat_map replies_of acts) × DoesAll v batches reads_back (record { core = p.0; link = p.1; keeper = keeper }) all r
-      × (all ≡ told.acts ++ acts)
-  done_after {K} reads_back keeper u p q r acts same told does =
+      × (all ≡ talk.acts ++ acts)
+  done_after {K} reads_back keeper u p q r acts same talk does =
       let start : Process B K = record { core = p.0; link = p.1; keeper = keeper } in
       let mid : Process B K = record { core = q.0; link = q.1; keeper = keeper } in
-      let first : DoesAll v batches reads_back start told.acts mid = talks_beside reads_back keeper told.acts p q told.talks in
+      let first : DoesAll v batches reads_back start talk.acts mid = talks_beside reads_back keeper talk.acts p q talk.talks in
       let second : DoesAll v batches reads_back mid acts r = subst (λ (w : Scheme). DoesAll w batches reads_back mid acts r) same does in (
-        told.acts ++ acts,
-        flat_map-append replies_of told.acts acts ∙ ap (λ (rs : List Reply). rs ++ flat_map replies_of acts) told.replied,
-        folds_join {P = Process B K} {A = Act} (Does v batches reads_back) start mid r told.acts acts first second,
+        talk.acts ++ acts,
+        flat_map-append replies_of talk.acts acts ∙ ap (λ (rs : List Reply). rs ++ flat_map replies_of acts) talk.replied,
+        folds_join {P = Process B K} {A = Act} (Does v batches reads_back) start mid r talk.acts acts first second,
         refl,
       )
 
@@ -182,9 +182,9 @@ module _ {B : Type 0} (batches : B → List (List ℕ) → BatchOutcome → List
   pub kept_not : {K : Type 0} (reads_back : K → List ℕ → Type 0) (keeper : K) (u : Scheme) (p q : Side) (r : Process B K) → u ≡ v → HasTalked v batches p [] q
       → DoesAll u batches reads_back (record { core = q.0; link = q.1; keeper = keeper }) (Keeps false ∷ []) r
       → (acts : List Act) × DoesAll v batches reads_back (record { core = p.0; link = p.1; keeper = keeper }) (acts ++ Keeps false ∷ []) r
-  kept_not {K} reads_back keeper u p q r same told does =
+  kept_not {K} reads_back keeper u p q r same talk does =
       let start : Process B K = record { core = p.0; link = p.1; keeper = keeper } in
       let mid : Process B K = record { core = q.0; link = q.1; keeper = keeper } in
-      let first : DoesAll v batches reads_back start told.acts mid = talks_beside reads_back keeper told.acts p q told.talks in
+      let first : DoesAll v batches reads_back start talk.acts mid = talks_beside reads_back keeper talk.acts p q talk.talks in
       let second : DoesAll v batches reads_back mid (Keeps false ∷ []) r = subst (λ (w : Scheme). DoesAll w batches reads_back mid (Keeps false ∷ []) r) same does in
-      (told.acts, folds_join {P = Process B K} {A = Act} (Does v batches reads_back) start mid r told.acts (Keeps false ∷ []) first second)
+      (talk.acts, folds_join {P = Process B K} {A = Act} (Does v batches reads_back) start mid r talk.acts (Keeps false ∷ []) first second)

@@ -44,5 +44,5 @@ IsFile v bytes stores core = IsFileOf v.cipher.overhead v.device bytes stores co
 
 -- A file has one list of STOREs and one core.
 abbrev pub FilesTellOfOneProcess : Type 0
-FilesTellOfOneProcess = (overhead : ℕ) (d d' : Sizes) (bytes : List ℕ) (stores stores' : List (List ℕ)) (core core' : State) → length bytes < 2 ^ 64
+FilesTellOfOneProcess = (overhead : ℕ) (d d' : Sizes) (bytes : List ℕ) (stores stores' : List (List ℕ)) (core core' : State)
     → IsFileOf overhead d bytes stores core → IsFileOf overhead d' bytes stores' core' → (stores ≡ stores') × (d ≡ d') × (core ≡ core')

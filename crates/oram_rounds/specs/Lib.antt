@@ -11,5 +11,5 @@ pub mod Process
 pub mod AheadInTurn
 pub mod Start
 pub mod ProcessSteps
-pub mod AskedExample
+pub mod ReadingExample
 pub mod ReplyExample

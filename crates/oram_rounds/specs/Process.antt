@@ -16,7 +16,7 @@ use Rattle.oram_core.specs.Steps.{Steps}
 use Rattle.oram_session.specs.Exchanges.{event_of}
 use Rattle.oram_session.specs.Honesty.{HasFailed}
 use Rattle.oram_session.specs.Outcome.{Outcome}
-use Rattle.oram_session.specs.Settled.{outstanding}
+use Rattle.oram_session.specs.CoreWork.{outstanding}
 use Rattle.oram_link_laws.specs.Repair.{AreAmong, IsAmong}
 use Rattle.oram_link_laws.specs.Runs.{Exchange, bodies_of}
 use Rattle.oram_rounds.specs.Batches.{BatchOutcome}
@@ -170,7 +170,7 @@ module _ (may_lie : Bool) (v : Scheme) where
     pub kept : (bytes : List ℕ) → reads_back p.keeper bytes → IsKept p.link.kept bytes host before array
     pub ahead : AreAhead may_lie v host p.link
 
--- The other array that a read-back may give. There is none once the process has kept itself.
+-- The other array that a read-back may give. Once the process has kept itself, there is no other.
 abbrev pub earlier : List Act → (ℕ → List ℕ) → (ℕ → List ℕ) → ℕ → List ℕ
 earlier [] before array = before
 earlier (Keeps true ∷ acts) before array = earlier acts array array

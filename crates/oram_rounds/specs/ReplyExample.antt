@@ -8,7 +8,7 @@ use Rattle.oram_semantics.specs.State.{State}
 use Rattle.oram_core.specs.PlainSteps.{finished_by}
 use Rattle.oram_session.specs.Links.{ToServer}
 use Rattle.oram_link_laws.specs.Examples.{new_core, new_host, one_block}
-use Rattle.oram_rounds.specs.AskedExample.{one_read, process_with, reads_kept, shown_in}
+use Rattle.oram_rounds.specs.ReadingExample.{one_read, process_with, reads_kept, shown_in}
 use Rattle.oram_rounds.specs.CatchUp.{PlainRun}
 use Rattle.oram_rounds.specs.Examples.{DirectBatches, zero_array}
 use Rattle.oram_rounds.specs.Law.{AreBatches}

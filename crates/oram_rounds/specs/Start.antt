@@ -19,7 +19,7 @@ use Rattle.oram_rounds.specs.Process.{IsSafe, Process, begun, process}
 use Rattle.oram_rounds.specs.Rounds.{Round}
 
 -- a command that is submitted, and what the core shows then
-pub record Asked : Type 0 where
+pub record SubmittedCommand : Type 0 where
   pub session : ℕ
   pub command : Command
   pub words : List ℕ
@@ -36,33 +36,33 @@ array_if Resent d c array = array
 array_if Unexpected d c array = array
 
 -- the array after all of the commands that the core has accepted
-abbrev pub array_with : Sizes → List Asked → (ℕ → List ℕ) → ℕ → List ℕ
+abbrev pub array_with : Sizes → List SubmittedCommand → (ℕ → List ℕ) → ℕ → List ℕ
 array_with d [] array = array
-array_with d (a ∷ asked) array = array_with d asked (array_if a.shown.note d a.command array)
+array_with d (a ∷ submitted) array = array_with d submitted (array_if a.shown.note d a.command array)
 
-abbrev pub Submits : {B K : Type 0} → Scheme → Process B K → Asked → Process B K → Type 0
+abbrev pub Submits : {B K : Type 0} → Scheme → Process B K → SubmittedCommand → Process B K → Type 0
 Submits v p a q = Steps v p.core (Submit a.session a.command a.words) a.shown q.core × (q.link ≡ p.link) × (q.keeper ≡ p.keeper)
 
 -- A session submits a command to a core, with the words that a tape has for the core's next ticket.
-abbrev pub IsAsked : Scheme → (ℕ → ℕ → List ℕ) → ℕ → State → Asked → State → Type 0
-IsAsked v words session s a t =
+abbrev pub IsSubmitted : Scheme → (ℕ → ℕ → List ℕ) → ℕ → State → SubmittedCommand → State → Type 0
+IsSubmitted v words session s a t =
     (a.session ≡ session) × (a.words ≡ words s.next (2 * trees_of v.device)) × Steps v s (Submit a.session a.command a.words) a.shown t
 
 -- such commands, one after the other
-abbrev pub AreAsked : Scheme → (ℕ → ℕ → List ℕ) → ℕ → State → List Asked → State → Type 0
-AreAsked v words session s asked t = FoldsTo {P = State} (IsAsked v words session) s asked t
+abbrev pub AreSubmitted : Scheme → (ℕ → ℕ → List ℕ) → ℕ → State → List SubmittedCommand → State → Type 0
+AreSubmitted v words session s submitted t = FoldsTo {P = State} (IsSubmitted v words session) s submitted t
 
 -- What is submitted to a core is submitted to its process, whose link and keeper stay as they are.
-abbrev pub AskedIsSubmitted : Type 0 → Type 0 → Type 0
-AskedIsSubmitted B K = (v : Scheme) (words : ℕ → ℕ → List ℕ) (session : ℕ) (asked : List Asked) (s t : State) (l : Round B) (k : K) → AreAsked v words session s asked t
-    → FoldsTo {P = Process B K} (Submits v) (process s l k) asked (process t l k)
+abbrev pub SubmittedToProcesses : Type 0 → Type 0 → Type 0
+SubmittedToProcesses B K = (v : Scheme) (words : ℕ → ℕ → List ℕ) (session : ℕ) (submitted : List SubmittedCommand) (s t : State) (l : Round B) (k : K) → AreSubmitted v words session s submitted t
+    → FoldsTo {P = Process B K} (Submits v) (process s l k) submitted (process t l k)
 
 -- Where the device will hold an array, and whatever is read back will hold it too, commands are submitted. Then the device
 -- will hold the array after those that were accepted, and what is read back the array before them.
 abbrev pub SubmittedIsSafe : (B : Type 0) {K : Type 0} → (K → List ℕ → Type 0) → Type 0
-SubmittedIsSafe B {K} reads_back = (may_lie : Bool) (v : Scheme) (asked : List Asked) (p q : Process B K) (host : Host) (array : ℕ → List ℕ) → IsDevice v.device
-    → IsSafe may_lie v reads_back p host array array → FoldsTo {P = Process B K} (Submits v) p asked q
-    → IsSafe may_lie v reads_back q host array (array_with v.device asked array)
+SubmittedIsSafe B {K} reads_back = (may_lie : Bool) (v : Scheme) (submitted : List SubmittedCommand) (p q : Process B K) (host : Host) (array : ℕ → List ℕ) → IsDevice v.device
+    → IsSafe may_lie v reads_back p host array array → FoldsTo {P = Process B K} (Submits v) p submitted q
+    → IsSafe may_lie v reads_back q host array (array_with v.device submitted array)
 
 -- Where a device is held by a host, as it is once it has been formatted, and its core is what is read back, a process
 -- that begins with this core is safe.

@@ -7,7 +7,7 @@ ghost use Rattle.oram_semantics.specs.declared.events.ReplyBody.{ReplyBody};
 ghost use Rattle.oram_core.specs.Core.{IsSameDevice, scheme_of};
 ghost use Rattle.oram_core.specs.PlainSteps.{done};
 ghost use Rattle.oram_session.specs.Honesty.{HasFailed};
-ghost use Rattle.oram_session.specs.Settled.{IsBodyOf, IsSettled, IsUnderWay};
+ghost use Rattle.oram_session.specs.CoreWork.{IsBodyOf, HasNoWork, IsUnderWay};
 ghost use Rattle.oram_rounds.specs.Process.{HasTalked};
 
 use crate::batch::BatchLink;
@@ -35,7 +35,7 @@ pub fn carry_out_all<S: Sealer, B: BatchLink>(
     ensures ok { let v = scheme_of S.cipher core.old in
         IfOk result (λ replies. HasTalked v B.batches (core.old.state, link.old) replies.items (core.new.state, link.new)) }
     ensures count { IfOk result (λ replies. length replies.items ≡ length core.old.state.queue) }
-    ensures settled { OnOk result (IsSettled core.new.state) }
+    ensures no_work { OnOk result (HasNoWork core.new.state) }
     ensures block { IfOk result (λ replies. All (λ reply. IsBodyOf core.old.device reply.body) replies.items) }
     ensures failed { IfOk result (λ replies. All (λ reply. reply.body ≡ ReplyBody.Failed → HasFailed core.new.state) replies.items) }
     ensures err { let v = scheme_of S.cipher core.old in

@@ -1,7 +1,7 @@
 //! The law of links that hold STOREs back.
 ghost use Rattle.oram_rounds.specs.AheadInTurn.{AheadIsNotSent, AheadStaysInTurn, NothingAheadIsInTurn};
-ghost use Rattle.oram_rounds.specs.Start.{AskedIsSubmitted, HeldIsSafe, SubmittedIsSafe};
-ghost use Rattle.oram_rounds.specs.AskedExample.{AskedProcessExample};
+ghost use Rattle.oram_rounds.specs.Start.{SubmittedToProcesses, HeldIsSafe, SubmittedIsSafe};
+ghost use Rattle.oram_rounds.specs.ReadingExample.{ReadingProcessExample};
 ghost use Rattle.oram_rounds.specs.Examples.{NewProcessExample, OneWaitsExample};
 ghost use Rattle.oram_rounds.specs.Files.{FilesTellOfOneProcess};
 ghost use Rattle.oram_rounds.specs.Law.{AheadIsOfTheHost, CallsAreOfTheHostLater};
@@ -64,8 +64,8 @@ pub fn held_is_safe<B: BatchLink, K: Keeper>()
 /// A law about definitions: commands are submitted to the core of a process, one after the other, as
 /// [`submit_all`](crate::submit_all) does it. Then they are submitted to the process, as [`submitted_is_safe`] wants it, and
 /// its link and its keeper stay as they are.
-pub fn asked_is_submitted<B, K>()
-    ensures { AskedIsSubmitted B K }
+pub fn submitted_to_processes<B, K>()
+    ensures { SubmittedToProcesses B K }
 {}
 
 /// A law about definitions: commands are submitted to a process. Then the device will hold the array after those that the
@@ -105,11 +105,11 @@ pub fn new_process_example()
     ensures { NewProcessExample }
 {}
 
-/// A process that is asked to read a block, over a server in memory, meets the premises of the laws about processes that are
-/// asked something: it is safe, and keeps itself, and its FETCH goes ahead. Its core has a file, with which the next process
+/// A process to which a read of a block is submitted, over a server in memory, meets the premises of the laws about processes
+/// with commands: it is safe, and keeps itself, and its FETCH goes ahead. Its core has a file, with which the next process
 /// begins.
-pub fn asked_process_example()
-    ensures { AskedProcessExample }
+pub fn reading_process_example()
+    ensures { ReadingProcessExample }
 {}
 
 /// A process in which a command gets its reply, over a server in memory, meets the premises of the laws about processes and

@@ -7,7 +7,7 @@ ghost use Rattle.oram_semantics.specs.declared.events.ReplyBody.{ReplyBody};
 ghost use Rattle.oram_core.specs.Core.{IsSameDevice, scheme_of};
 ghost use Rattle.oram_core.specs.PlainSteps.{done};
 ghost use Rattle.oram_session.specs.Honesty.{HasFailed};
-ghost use Rattle.oram_session.specs.Settled.{IsBodyOf, IsSettled, IsUnderWay};
+ghost use Rattle.oram_session.specs.CoreWork.{IsBodyOf, HasNoWork, IsUnderWay};
 ghost use Rattle.oram_rounds.specs.Files.{IsFile};
 ghost use Rattle.oram_rounds.specs.Process.{Act, DoesAll, GoesAheadFirst, IsBrokenResumption, IsBrokenRound, IsResumption, IsRound, process, replies_of};
 ghost use Rattle.oram_rounds.specs.Process.Act.{Keeps};
@@ -22,7 +22,7 @@ use crate::round_link::RoundLink;
 use oram_bucket::Sealer;
 use oram_core::{Core, Reaction, Reply};
 use oram_host::ServeFault;
-use oram_session::{is_settled, reopen};
+use oram_session::{has_no_work, reopen};
 use std::alloc::Global;
 
 /// Keeps the core and the STOREs that wait, which may leave from then on.
@@ -52,8 +52,8 @@ pub fn keep<S: Sealer, B, K: Keeper>(
 /// Keeps the commands that are at work, carries them out, and returns their replies in order. These may be given at once:
 /// what is kept has the commands, so a process that begins with it carries them out again, with the same effect.
 ///
-/// The first FETCH of each command goes ahead as soon as all of them are kept. So over one tree a round waits for the host
-/// once, and over more trees once, and then once for each command and each tree but the last.
+/// The first FETCH of each command goes ahead as soon as all of them are kept. So with one tree a round waits for the host
+/// once. With more trees it waits once, and then once more for each command and each tree but the last.
 pub fn perform<S: Sealer, B: BatchLink, K: Keeper>(
     alloc: Global,
     core: &mut Core<S>,
@@ -69,7 +69,7 @@ pub fn perform<S: Sealer, B: BatchLink, K: Keeper>(
         (process core.new.state link.new keeper.new)
         × GoesAheadFirst acts) }
     ensures count { IfOk result (λ replies. length replies.items ≡ length core.old.state.queue) }
-    ensures settled { OnOk result (IsSettled core.new.state) }
+    ensures no_work { OnOk result (HasNoWork core.new.state) }
     ensures block { IfOk result (λ replies. All (λ reply. IsBodyOf core.old.device reply.body) replies.items) }
     ensures failed { IfOk result (λ replies. All (λ reply. reply.body ≡ ReplyBody.Failed → HasFailed core.new.state) replies.items) }
     // After a fault either nothing was kept and nothing sent, or the commands are kept. Then nothing was sent either, or the
@@ -103,18 +103,18 @@ pub fn resume<S: Sealer, B: BatchLink, K: Keeper>(
     keeper: &mut K,
 ) -> Result<Vec<Reply>, RoundFault>
     ensures kept { IsSameDevice core.old core.new }
-    ensures settled { OnOk result (IsSettled core.new.state) }
+    ensures no_work { OnOk result (HasNoWork core.new.state) }
     // In an idle or failed core nothing waits.
-    ensures none { IsSettled core.old.state → IsOkAnd result (λ replies. replies.items ≡ [])
+    ensures none { HasNoWork core.old.state → IsOkAnd result (λ replies. replies.items ≡ [])
         × (core.new ≡ core.old) × (link.new ≡ link.old) × (keeper.new ≡ keeper.old) }
     // In any other each command has its reply.
-    ensures count { ¬ IsSettled core.old.state → IfOk result (λ replies. length replies.items ≡ length core.old.state.queue) }
+    ensures count { ¬ HasNoWork core.old.state → IfOk result (λ replies. length replies.items ≡ length core.old.state.queue) }
     // It was done in a round, which began with the FETCHes.
     ensures ok { let v = scheme_of S.cipher core.old in
         IfOk result (λ replies. (acts : List Act) × (flat_map replies_of acts ≡ replies.items)
         × DoesAll v B.batches K.reads_back (process core.old.state link.old keeper.old) acts
         (process core.new.state link.new keeper.new)
-        × (¬ IsSettled core.old.state → IsResumption IsRound acts)) }
+        × (¬ HasNoWork core.old.state → IsResumption IsRound acts)) }
     ensures block { IfOk result (λ replies. All (λ reply. IsBodyOf core.old.device reply.body) replies.items) }
     ensures err { let v = scheme_of S.cipher core.old in
         OnErr result ((acts : List Act)
@@ -127,7 +127,7 @@ pub fn resume<S: Sealer, B: BatchLink, K: Keeper>(
         (process core.new.state link.new keeper.new) }
     ensures stalled { IsErrOf result RoundFault.Stalled → status_in core.new.state ≡ Stalling }
 {
-    if is_settled(core) {
+    if has_no_work(core) {
         return Ok(Vec::new(alloc));
     }
     let reaction = reopen(alloc, core)?;

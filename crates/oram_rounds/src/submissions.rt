@@ -7,8 +7,8 @@ ghost use Rattle.oram_semantics.specs.declared.events.Note.TheVariants.{Accepted
 ghost use Rattle.oram_core.specs.Core.{IsSameDevice, scheme_of};
 ghost use Rattle.oram_core.specs.PlainSteps.{done};
 ghost use Rattle.oram_core.specs.Steps.{Steps};
-ghost use Rattle.oram_session.specs.Settled.{IsSettled, IsUnderWay};
-ghost use Rattle.oram_rounds.specs.Start.{Asked, AreAsked};
+ghost use Rattle.oram_session.specs.CoreWork.{HasNoWork, IsUnderWay};
+ghost use Rattle.oram_rounds.specs.Start.{SubmittedCommand, AreSubmitted};
 
 use oram_bucket::Sealer;
 use oram_bytes::Words;
@@ -74,13 +74,13 @@ pub fn submit_all<S: Sealer, T: Tape>(
     session: u32,
     commands: Vec<Command>,
 ) -> Result<Submitted, AllocError>
-    requires { IsSettled core.old.state }
+    requires { HasNoWork core.old.state }
     ensures kept { IsSameDevice core.old core.new }
     ensures tape { T.words tape.new ≡ T.words tape.old }
     ensures ok { let v = scheme_of S.cipher core.old in
-        IfOk result (λ s. (asked : List Asked) × (map (λ a. a.command) asked ≡ commands.items) × (map (λ a. a.shown.note) asked ≡ s.notes.items)
-        × AreAsked v (T.words tape.old) session core.old.state asked core.new.state) }
-    ensures begun { IfOk result (λ s. MatchOption s.begun (IsSettled core.new.state) (λ first. IsUnderWay (done first core.new.state))) }
+        IfOk result (λ s. (submitted : List SubmittedCommand) × (map (λ a. a.command) submitted ≡ commands.items) × (map (λ a. a.shown.note) submitted ≡ s.notes.items)
+        × AreSubmitted v (T.words tape.old) session core.old.state submitted core.new.state) }
+    ensures begun { IfOk result (λ s. MatchOption s.begun (HasNoWork core.new.state) (λ first. IsUnderWay (done first core.new.state))) }
     // That is the reaction to the first command that was accepted, if one was. Else the core is as it was.
     ensures first { IfOk result (λ s. MatchOption s.begun (core.new ≡ core.old) (λ first. first.note ≡ Accepted core.old.state.next)) }
     ensures none { IfOk result (λ s. s.begun ≡ None ↔ count_by is_accepted s.notes.items ≡ 0) }
@@ -88,8 +88,8 @@ pub fn submit_all<S: Sealer, T: Tape>(
     ensures count { IfOk result (λ s. length core.new.state.queue ≡ count_by is_accepted s.notes.items) }
     // Only the first commands, as many as were submitted before memory ran out.
     ensures err { let v = scheme_of S.cipher core.old in
-        OnErr result ((asked : List Asked) × (rest : List Command) × (map (λ a. a.command) asked ++ rest ≡ commands.items)
-        × AreAsked v (T.words tape.old) session core.old.state asked core.new.state) }
+        OnErr result ((submitted : List SubmittedCommand) × (rest : List Command) × (map (λ a. a.command) submitted ++ rest ≡ commands.items)
+        × AreSubmitted v (T.words tape.old) session core.old.state submitted core.new.state) }
 {
     let count = 2 * usize::from(core.device().trees());
     let mut notes = Vec::new(alloc);

@@ -21,7 +21,7 @@ use Rattle.oram_core.specs.PlainSteps.{Done, plain_step, stalled_by, resent_by, 
 use Rattle.oram_core.specs.Steps.{Steps, Heard, did}
 use Rattle.oram_session.specs.Exchanges.{event_of, is_stall}
 use Rattle.oram_session.specs.Outcome.{Outcome}
-use Rattle.oram_session.specs.Settled.{is_settled_by, IsSettled, outstanding, IsBegun, answers_left}
+use Rattle.oram_session.specs.CoreWork.{has_no_work_in, HasNoWork, outstanding, IsBegun, answers_left}
 
 -- a core that keeps its device and sealer keeps its scheme
 pub same_scheme : {S : Type 0} (cipher : S → Cipher) (c d : CoreValue S) →
@@ -95,8 +95,8 @@ answer_noted v s t o x w h n = at (is_stall o) refl
     at false e = e
     at true e = absurd (n (ap (λ (d : Done). d.note) (stalled v s t o x w e h)))
 
-pub settled_over : (s : State) (e : Reason) → s.failure ≡ Some e → IsSettled s
-settled_over s e h = rw h refl
+pub no_work_over : (s : State) (e : Reason) → s.failure ≡ Some e → HasNoWork s
+no_work_over s e h = rw h refl
 
 -- each answer leaves fewer answers to wait for
 left_more : (n k entry_number : ℕ) → 1 ≤ n → 0 * (k + 1) + (k - 0) < n * (k + 1) + (k - entry_number)
@@ -122,17 +122,17 @@ left_heard v s d some (inr (inr r)) =
     subst (λ (m : Done). answers_left v.device m.state < answers_left v.device s) (sym r.does)
     (subst (λ (n : ℕ). length r.rest * (k + 1) + (k - 0) < n + (k - s.entry_number)) count fewer)
 
--- a submission to a settled core
+-- a submission to a core without work
 
 if_none : (b : Bool) (o : Option Refusal) → (if b then Some refusal.Failed else o) ≡ None → b ≡ false
 if_none false o e = refl
 if_none true o e = absurd cc
 
-settled_idle : (f : Option Reason) (q : List Submission) (l : Bool) → is_settled_by (status_by f q l) ≡ true → is_over (status_by f q l) ≡ false → (f ≡ None) × (q ≡ [])
-settled_idle (Some e) q l h over = absurd cc
-settled_idle None [] l h over = (refl, refl)
-settled_idle None (x ∷ q) true h over = absurd cc
-settled_idle None (x ∷ q) false h over = absurd cc
+no_work_idle : (f : Option Reason) (q : List Submission) (l : Bool) → has_no_work_in (status_by f q l) ≡ true → is_over (status_by f q l) ≡ false → (f ≡ None) × (q ≡ [])
+no_work_idle (Some e) q l h over = absurd cc
+no_work_idle None [] l h over = (refl, refl)
+no_work_idle None (x ∷ q) true h over = absurd cc
+no_work_idle None (x ∷ q) false h over = absurd cc
 
 -- an idle core has no message that could be lost
 calm_by : (d : Sizes) (o : ℕ) (s : State) → s.failure ≡ None → s.queue ≡ [] → IsSound d o s → s.lost ≡ false
@@ -141,16 +141,16 @@ calm_by d o s alive none sound =
     let rests : IsResting s = subst (AtWork d o s) none healthy.work in
     rests.lost
 
-begun_at : (v : Scheme) (s : State) (x : Submission) (o : Option Refusal) → IsSound v.device v.cipher.overhead s → IsSettled s → (o ≡ None → is_over (status_in s) ≡ false) →
+begun_at : (v : Scheme) (s : State) (x : Submission) (o : Option Refusal) → IsSound v.device v.cipher.overhead s → HasNoWork s → (o ≡ None → is_over (status_in s) ≡ false) →
     IsBegun s (submitted_by v s x o).note (submitted_by v s x o)
-begun_at v s x (Some e) sound settled going = refl
-begun_at v s x None sound settled going =
-    let k = settled_idle s.failure s.queue s.lost settled (going refl) in
+begun_at v s x (Some e) sound no_work going = refl
+begun_at v s x None sound no_work going =
+    let k = no_work_idle s.failure s.queue s.lost no_work (going refl) in
     rw (k.0, k.1, calm_by v.device v.cipher.overhead s k.0 k.1 sound) (record { waits = refl; sends = refl; none = refl }, refl)
 
-pub begun_is : (v : Scheme) (s t : State) (session : ℕ) (c : Command) (words : List ℕ) (x : Shown) → IsSound v.device v.cipher.overhead s → IsSettled s → Steps v s (Submit session c words) x t → IsBegun s x.note (did x t)
-begun_is v s t session c words x sound settled h =
+pub begun_is : (v : Scheme) (s t : State) (session : ℕ) (c : Command) (words : List ℕ) (x : Shown) → IsSound v.device v.cipher.overhead s → HasNoWork s → Steps v s (Submit session c words) x t → IsBegun s x.note (did x t)
+begun_is v s t session c words x sound no_work h =
     let sub : Submission = record { session = session; ticket = s.next; command = c; words = words } in
     let why = refusal_of v.device (is_over (status_in s)) (length s.queue) s.next c words in
     let e = h.plain (submitted_by v s sub why) refl in
-    subst (λ (m : Done). IsBegun s m.note m) (sym e) (begun_at v s sub why sound settled (λ none. if_none (is_over (status_in s)) _ none))
+    subst (λ (m : Done). IsBegun s m.note m) (sym e) (begun_at v s sub why sound no_work (λ none. if_none (is_over (status_in s)) _ none))

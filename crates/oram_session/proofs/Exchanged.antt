@@ -70,10 +70,10 @@ module _ (v : Scheme) {L : Type 0} (calls : L → List ℕ → Outcome → L →
   }
 
   -- memory ran out before the core learned of the last call
-  pub untold : (most : ℕ) (message : List ℕ) (s : State) (l : L) (n : ℕ) (t : State) (m m' : L) (o : Outcome) →
+  pub untaken : (most : ℕ) (message : List ℕ) (s : State) (l : L) (n : ℕ) (t : State) (m m' : L) (o : Outcome) →
       status_in s ≡ Waiting → message ≡ s.message → n ≤ most → (k : Tried message s l n t m) → calls m message o m' →
       IsCutOff v calls most (s, l) (record { message = message; stalls = k.stalls; last = o; replies = [] }) (t, m')
-  untold most message s l n t m m' o waits same few k call = record {
+  untaken most message s l n t m m' o waits same few k call = record {
     message = waits_outstanding s waits ∙ ap Some (sym same);
     stalls = k.each;
     few = let c = k.count in omega arith;
@@ -82,5 +82,5 @@ module _ (v : Scheme) {L : Type 0} (calls : L → List ℕ → Outcome → L →
   }
 
   -- and after it did
-  pub told_then : (most : ℕ) (p : State × L) (x : Delivery) (q : State × L) → IsSent v calls most p x q → IsCutOff v calls most p x q
-  told_then most p x q h = record { message = h.message; stalls = h.stalls; few = h.few; link = h.link; core = inr h.core }
+  pub taken_then : (most : ℕ) (p : State × L) (x : Delivery) (q : State × L) → IsSent v calls most p x q → IsCutOff v calls most p x q
+  taken_then most p x q h = record { message = h.message; stalls = h.stalls; few = h.few; link = h.link; core = inr h.core }

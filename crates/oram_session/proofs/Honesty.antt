@@ -44,7 +44,7 @@ use Rattle.oram_session.specs.Honesty.{HasFailed, IsHeardCall, IsHeardLink, IsHo
 use Rattle.oram_session.specs.Links.{AnswersOf, DirectCall, Faulty, FaultyCall, ToServer, is_due}
 use Rattle.oram_session.specs.Outcome.{Outcome}
 use Rattle.oram_session.specs.Requests.{command_of, session_reply}
-use Rattle.oram_session.specs.Settled.{IsSettled, is_settled_by}
+use Rattle.oram_session.specs.CoreWork.{HasNoWork, has_no_work_in}
 use Rattle.oram_session.specs.Turns.{Turn, IsReply, IsServed, IsTurn, most_retries}
 use Rattle.oram_session.specs.declared.link.LinkFault.TheVariants.{Io}
 use Rattle.oram_session.proofs.CoreSteps.{heard_is, retried_is, stalled}
@@ -64,14 +64,14 @@ calm_status (x ∷ q) false = refl
 not_over : (s : State) → s.failure ≡ None → is_over (status_in s) ≡ false
 not_over s alive = ap (λ f. is_over (status_by f s.queue s.lost)) alive ∙ calm_status s.queue s.lost
 
-resting_by : (q : List Submission) (l : Bool) → is_settled_by (status_by None q l) ≡ true → q ≡ []
+resting_by : (q : List Submission) (l : Bool) → has_no_work_in (status_by None q l) ≡ true → q ≡ []
 resting_by [] l h = refl
 resting_by (x ∷ q) true h = absurd cc
 resting_by (x ∷ q) false h = absurd cc
 
-pub resting : (s : State) → IsSettled s → s.failure ≡ None → s.queue ≡ []
-resting s settled alive =
-    resting_by s.queue s.lost (sym (ap (λ f. is_settled_by (status_by f s.queue s.lost)) alive) ∙ settled)
+pub resting : (s : State) → HasNoWork s → s.failure ≡ None → s.queue ≡ []
+resting s no_work alive =
+    resting_by s.queue s.lost (sym (ap (λ f. has_no_work_in (status_by f s.queue s.lost)) alive) ∙ no_work)
 
 pub waits_by : (s : State) (now : Status) (m : List ℕ) → status_in s ≡ now → (if is_waiting now then Some s.message else None) ≡ Some m
     → (status_in s ≡ Waiting) × (m ≡ s.message)
@@ -80,8 +80,8 @@ waits_by s Idle m is e = absurd cc
 waits_by s Stalling m is e = absurd cc
 waits_by s Over m is e = absurd cc
 
-pub unsettled : (now : Status) → now ≡ Waiting → is_settled_by now ≡ false
-unsettled now e = ap is_settled_by e
+pub has_work : (now : Status) → now ≡ Waiting → has_no_work_in now ≡ false
+has_work now e = ap has_no_work_in e
 
 -- a core that hasn't failed refuses a command only because of what the command asks
 
@@ -202,7 +202,7 @@ module _ (may_lie : Bool) {L : Type 0} (calls : L → List ℕ → Outcome → L
           let empty : t.queue ≡ [] = unqueued v s t shown on.alive x (reply_by array replied.0) heard queue replied.3 in
           inr (inl (
             record {
-              settled = rw (on.alive, empty) refl;
+              no_work = rw (on.alive, empty) refl;
               alive = on.alive;
               world = world_after v w (moved v s w (event_of o)) shown.sends;
               serving = record {
@@ -260,7 +260,7 @@ module _ (may_lie : Bool) {L : Type 0} (calls : L → List ℕ → Outcome → L
   accepted p session c words shown begun array held step is =
       let x : Submission = record { session = session; ticket = p.0.next; command = c; words = words } in
       let event : Event = Submit session c words in
-      let rests : p.0.queue ≡ [] = resting p.0 held.settled held.alive in
+      let rests : p.0.queue ≡ [] = resting p.0 held.no_work held.alive in
       let on : GoesOnHosted v p.0 begun held.world array event shown (host_of p.1) =
       honest_hosts_serve v p.0 begun held.world array event shown (host_of p.1) (host_of p.1) device held.alive held.serving held.hosts step.moves
       (submit_honest (status_in p.0) p.0.message session c words (host_of p.1)) in
@@ -287,7 +287,7 @@ module _ {L : Type 0} (calls : L → List ℕ → Outcome → L → Type 0) (hos
   ended [] p q array held sent = subst (λ (z : State × L). IsHeld v host_of z array) sent held
   ended (y ∷ ys) p q array held sent =
       let k = waits_by p.0 (status_in p.0) y.message refl sent.1.0.message in
-      absurd (let both = sym held.settled ∙ unsettled (status_in p.0) k.0 in cc)
+      absurd (let both = sym held.no_work ∙ has_work (status_in p.0) k.0 in cc)
 
   all_sent : (ys : List Delivery) (p q : State × L) (x : Submission) (array : ℕ → List ℕ) (reply : Reply) → IsBusy v host_of p x array
       → AllSent v calls most_retries p ys q → flat_map (λ (y : Delivery). y.replies) ys ≡ reply ∷ []
@@ -308,31 +308,31 @@ module _ {L : Type 0} (calls : L → List ℕ → Outcome → L → Type 0) (hos
     abbrev After : State × L → (ℕ → List ℕ) → Turn → State × L → Type 0
     After p array turn q = (after : ℕ → List ℕ) × IsArrayTurn v.device array turn after × IsHeld v host_of q after
 
-    asked : (o : Option Refusal) (p q : State × L) (array : ℕ → List ℕ) (turn : Turn) (h : IsServed v calls words session p turn q)
+    accepted_or_not : (o : Option Refusal) (p q : State × L) (array : ℕ → List ℕ) (turn : Turn) (h : IsServed v calls words session p turn q)
         → IsHeld v host_of p array
-        → (let x : Submission = record { session = session; ticket = p.0.next; command = command_of h.asked.message; words = words p.0.next (2 * trees_of v.device) } in
+        → (let x : Submission = record { session = session; ticket = p.0.next; command = command_of h.begins.message; words = words p.0.next (2 * trees_of v.device) } in
         (did h.shown h.begun ≡ submitted_by v p.0 x o) × (refusal_of v.device (is_over (status_in p.0)) (length p.0.queue) p.0.next x.command x.words ≡ o))
         → After p array turn q
-    asked (Some e) p q array turn h held is =
+    accepted_or_not (Some e) p q array turn h held is =
         let note : h.shown.note ≡ _ = ap (λ (d : Did). d.note) is.0 in
         let reply = subst (λ (n : Note). IsReply v calls words session n (h.begun, p.1) turn q) note h.replied in
         let same : h.begun ≡ p.0 = ap (λ (d : Did). d.state) is.0 in
-        let c : Command = command_of h.asked.message in
+        let c : Command = command_of h.begins.message in
         let ws : List ℕ = words p.0.next (2 * trees_of v.device) in
         let none : refusal_of v.device false (length p.0.queue) p.0.next c ws ≡ Some e =
         sym (ap (λ (b : Bool). refusal_of v.device b (length p.0.queue) p.0.next c ws) (not_over p.0 held.alive)) ∙ is.1 in (
           array,
-          inr (h.asked.message, h.asked.request, inr (e, refused_for v.device (length p.0.queue) p.0.next c ws e none, reply.1, refl)),
+          inr (h.begins.message, h.begins.request, inr (e, refused_for v.device (length p.0.queue) p.0.next c ws e none, reply.1, refl)),
           subst (λ (z : State × L). IsHeld v host_of z array) reply.2 (subst (λ (s : State). IsHeld v host_of (s, p.1) array) (sym same) held),
         )
-    asked None p q array turn h held is =
-        let x : Submission = record { session = session; ticket = p.0.next; command = command_of h.asked.message; words = words p.0.next (2 * trees_of v.device) } in
+    accepted_or_not None p q array turn h held is =
+        let x : Submission = record { session = session; ticket = p.0.next; command = command_of h.begins.message; words = words p.0.next (2 * trees_of v.device) } in
         let note : h.shown.note ≡ _ = ap (λ (d : Did). d.note) is.0 in
         let reply = subst (λ (n : Note). IsReply v calls words session n (h.begun, p.1) turn q) note h.replied in
-        let w : IsBusy v host_of (h.begun, p.1) x array = accepted false calls host_of v heard_by device p session x.command x.words h.shown h.begun array held h.asked.step is.0 in
+        let w : IsBusy v host_of (h.begun, p.1) x array = accepted false calls host_of v heard_by device p session x.command x.words h.shown h.begun array held h.begins.step is.0 in
         let done = all_sent turn.sendings (h.begun, p.1) q x array reply.2 w reply.0 reply.3 in (
           array_after v.device x.command array,
-          inr (h.asked.message, h.asked.request, inl (reply.4 ∙ ap (λ (z : Reply). session_reply z.body) done.0, refl)),
+          inr (h.begins.message, h.begins.request, inl (reply.4 ∙ ap (λ (z : Reply). session_reply z.body) done.0, refl)),
           done.1,
         )
 
@@ -341,10 +341,10 @@ module _ {L : Type 0} (calls : L → List ℕ → Outcome → L → Type 0) (hos
     turned p q array turn held (inl h) =
         (array, inl (h.none, h.reply, refl), subst (λ (z : State × L). IsHeld v host_of z array) h.same held)
     turned p q array turn held (inr h) =
-        let c : Command = command_of h.asked.message in
+        let c : Command = command_of h.begins.message in
         let ws : List ℕ = words p.0.next (2 * trees_of v.device) in
         let why : Option Refusal = refusal_of v.device (is_over (status_in p.0)) (length p.0.queue) p.0.next c ws in
-        asked why p q array turn h held (h.asked.step.plain (submitted_by v p.0 (record { session = session; ticket = p.0.next; command = c; words = ws }) why) refl, refl)
+        accepted_or_not why p q array turn h held (h.begins.step.plain (submitted_by v p.0 (record { session = session; ticket = p.0.next; command = c; words = ws }) why) refl, refl)
 
     session_held : (turns : List Turn) (p q : State × L) (array : ℕ → List ℕ) → IsHeld v host_of p array
         → FoldsTo {P = State × L} (IsTurn v calls words session) p turns q
@@ -385,7 +385,7 @@ new_devices_hold_zeros calls host_of honest v from to s light empty k =
     let puts : PutsAll Takes [] k.format (host_of to) =
     subst (λ (h : Host). PutsAll Takes h k.format (host_of to)) empty (takes_all calls host_of honest k.format from to k.puts) in
     let new : IsNewHosted v (new_state setting k.trees) (world_of setting []) (host_of to) = new_hosts_serve setting k.trees (host_of to) k.ranges light k.formatted puts in
-    rw k.state (record { settled = refl; alive = refl; world = world_of setting []; serving = new.serving; hosts = new.hosts })
+    rw k.state (record { no_work = refl; alive = refl; world = world_of setting []; serving = new.serving; hosts = new.hosts })
 
 -- the links that are honest
 

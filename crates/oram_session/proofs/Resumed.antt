@@ -24,13 +24,13 @@ use Rattle.oram_core.specs.PlainSteps.{Done, plain_step, noted, lost_by, stalled
 use Rattle.oram_core.specs.Steps.{Steps, Heard, did}
 use Rattle.oram_session.specs.Exchanges.{Delivery, Runs, IsSent, IsAnswered, AllSent, AllSentFrom, retries_after}
 use Rattle.oram_session.specs.Outcome.{Outcome}
-use Rattle.oram_session.specs.Settled.{is_settled_by, IsSettled, IsUnderWay, IsBodyOf}
-use Rattle.oram_session.proofs.CoreSteps.{still_waits, settled_over}
+use Rattle.oram_session.specs.CoreWork.{has_no_work_in, HasNoWork, IsUnderWay, IsBodyOf}
+use Rattle.oram_session.proofs.CoreSteps.{still_waits, no_work_over}
 
 -- the core learns that it was reopened, and sends its message again
 
 -- a core at work is stalled if its message is lost, and else it waits
-at_work : (f : Option Reason) (q : List Submission) (l : Bool) → ¬ (is_settled_by (status_by f q l) ≡ true) → (status_by f q true ≡ Stalling) × (status_by f q false ≡ Waiting)
+at_work : (f : Option Reason) (q : List Submission) (l : Bool) → ¬ (has_no_work_in (status_by f q l) ≡ true) → (status_by f q true ≡ Stalling) × (status_by f q false ≡ Waiting)
 at_work (Some e) q l h = absurd (h refl)
 at_work None [] l h = absurd (h refl)
 at_work None (x ∷ q) l h = (refl, refl)
@@ -45,7 +45,7 @@ reopened_at s t x false l k e =
     (ap (λ (d : Done). d.replies) f, ap (λ (d : Done). d.state) f)
 
 -- a reopening stalls it
-pub reopened : (v : Scheme) (s t : State) (x : Shown) → ¬ IsSettled s → Steps v s Reopen x t → (x.replies ≡ []) × (t ≡ record s { lost = true })
+pub reopened : (v : Scheme) (s t : State) (x : Shown) → ¬ HasNoWork s → Steps v s Reopen x t → (x.replies ≡ []) × (t ≡ record s { lost = true })
 reopened v s t x h step = reopened_at s t x s.lost refl (at_work s.failure s.queue s.lost h) (step.plain (lost_by s (status_in s)) refl)
 
 -- and needs no memory
@@ -59,7 +59,7 @@ loss_is_free s = at (status_in s)
     at Over = refl
 
 -- a retry then sends its message again
-pub resent : (v : Scheme) (s u t : State) (y : Shown) → ¬ IsSettled s → u ≡ record s { lost = true } → Steps v u Retry y t → did y t ≡ resent_by (record s { lost = true })
+pub resent : (v : Scheme) (s u t : State) (y : Shown) → ¬ HasNoWork s → u ≡ record s { lost = true } → Steps v u Retry y t → did y t ≡ resent_by (record s { lost = true })
 resent v s u t y h held step =
     let k = at_work s.failure s.queue s.lost h in
     let g : Steps v (record s { lost = true }) Retry y t = subst (λ (b : State). Steps v b Retry y t) held step in
@@ -67,20 +67,20 @@ resent v s u t y h held step =
     g.plain (resent_by (record s { lost = true })) again
 
 -- so it is under way
-pub resent_under_way : (s t : State) (y : Shown) → ¬ IsSettled s → did y t ≡ resent_by (record s { lost = true }) → IsUnderWay (did y t)
+pub resent_under_way : (s t : State) (y : Shown) → ¬ HasNoWork s → did y t ≡ resent_by (record s { lost = true }) → IsUnderWay (did y t)
 resent_under_way s t y h e =
     let k = at_work s.failure s.queue s.lost h in
     let there : IsUnderWay (resent_by (record s { lost = true })) = record { waits = k.1; sends = refl; none = refl } in
     subst IsUnderWay (sym e) there
 
 -- the two, one after the other
-pub told_again : (v : Scheme) (s u t : State) (x y : Shown) → Steps v s Reopen x u → Steps v u Retry y t → x.replies ≡ [] → y.replies ≡ [] → Runs v s (Reopen ∷ Retry ∷ []) [] t
-told_again v s u t x y first second none none' =
+pub reopened_and_retried : (v : Scheme) (s u t : State) (x y : Shown) → Steps v s Reopen x u → Steps v u Retry y t → x.replies ≡ [] → y.replies ≡ [] → Runs v s (Reopen ∷ Retry ∷ []) [] t
+reopened_and_retried v s u t x y first second none none' =
     (x, u, [], first, (y, t, [], second, (refl, refl), sym (append-nil y.replies ∙ none')), sym (append-nil x.replies ∙ none))
 
 -- only the reopening
-pub told_once : (v : Scheme) (s u : State) (x : Shown) → Steps v s Reopen x u → x.replies ≡ [] → Runs v s (Reopen ∷ []) [] u
-told_once v s u x step none = (x, u, [], step, (refl, refl), sym (append-nil x.replies ∙ none))
+pub only_reopened : (v : Scheme) (s u : State) (x : Shown) → Steps v s Reopen x u → x.replies ≡ [] → Runs v s (Reopen ∷ []) [] u
+only_reopened v s u x step none = (x, u, [], step, (refl, refl), sym (append-nil x.replies ∙ none))
 
 -- the effect of an answer
 
@@ -88,12 +88,12 @@ told_once v s u x step none = (x, u, [], step, (refl, refl), sym (append-nil x.r
 abbrev pub IsGoing : Done → Type 0
 IsGoing m =
     ((status_in m.state ≡ Waiting) × (m.sends ≡ m.state.message ∷ []))
-    ⊎ (IsSettled m.state × (m.state.queue ≡ []) × (m.sends ≡ []) × (0 < length m.replies))
+    ⊎ (HasNoWork m.state × (m.state.queue ≡ []) × (m.sends ≡ []) × (0 < length m.replies))
 
 finished_going : (v : Scheme) (s : State) (x : Submission) (rest : List Submission) → status_in s ≡ Waiting → IsGoing (finished_by v s x rest)
 finished_going v s x [] w =
     let k = still_waits s.failure s.queue s.lost w in
-    let rests : IsSettled (finished_by v s x []).state = rw k.0 refl in
+    let rests : HasNoWork (finished_by v s x []).state = rw k.0 refl in
     inr (rests, refl, refl, omega arith)
 finished_going v s x (y ∷ rest) w =
     let k = still_waits s.failure s.queue s.lost w in
@@ -110,7 +110,7 @@ pub heard_going : (v : Scheme) (s : State) (d : Done) → status_in s ≡ Waitin
 heard_going v s d w (inl f) =
     let some = some_at_work s.failure s.queue s.lost w in
     let all : length d.replies ≡ length s.queue = ap length f.replies ∙ length-map s.queue failed_reply in
-    inr (settled_over d.state f.reason (ap (λ (t : State). t.failure) f.state), ap (λ (t : State). t.queue) f.state, f.sends, omega arith)
+    inr (no_work_over d.state f.reason (ap (λ (t : State). t.failure) f.state), ap (λ (t : State). t.queue) f.state, f.sends, omega arith)
 heard_going v s d w (inr (inl g)) = inl (g.waits, g.sends)
 heard_going v s d w (inr (inr r)) = subst IsGoing (sym r.does) (finished_going v s r.oldest r.rest w)
 

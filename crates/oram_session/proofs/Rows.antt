@@ -52,9 +52,9 @@ no_more = refl
 sending : Delivery
 sending = record { message = 1 ∷ []; stalls = Err Io ∷ Ok (129 ∷ 8 ∷ []) ∷ []; last = Ok (128 ∷ []); replies = [] }
 
-told_the_core : events_of sending ≡ Lost ∷ Retry ∷ Answer (129 ∷ 8 ∷ []) ∷ Retry ∷ Answer (128 ∷ []) ∷ []
+events_given : events_of sending ≡ Lost ∷ Retry ∷ Answer (129 ∷ 8 ∷ []) ∷ Retry ∷ Answer (128 ∷ []) ∷ []
 unfolding sending
-told_the_core = refl
+events_given = refl
 
 no_room : is_stall (Ok (129 ∷ 8 ∷ [])) ≡ true
 no_room = refl

@@ -20,7 +20,8 @@ module _ (v : Scheme) {L : Type 0} (calls : L → List ℕ → Outcome → L →
 
   -- and then further bytes were read and written
   pub served_then : (p : State × L) (r w : Option (List ℕ)) (n : ℕ) (q : State × L) (r' w' r'' w'' : Option (List ℕ)) (part more : List ℕ) →
-      (k : Served p r w n q r' w') → Consumes r' r'' part → Appends w' w'' more → HasServed v calls words session p k.all q part r r'' more w w''
+      (k : Served p r w n q r' w') → Consumes r' r'' part → Appends w' w'' more
+      → HasServed v calls words session (record { before = p; turns = k.all; after = q; input = r; part = part; rest = r''; output = w; more = more; written = w'' })
   served_then = answered_then {P = State × L} (IsTurn v calls words session) (λ x. x.body) reply_body
 
 -- under another scheme and another tape that are equal to these

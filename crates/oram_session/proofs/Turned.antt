@@ -18,8 +18,8 @@ use Rattle.oram_core.specs.Steps.{Steps}
 use Rattle.oram_session.specs.Exchanges.{Delivery, AllSent}
 use Rattle.oram_session.specs.Outcome.{Outcome}
 use Rattle.oram_session.specs.Requests.{IsRequest, IsNoRequest, command_of, session_reply}
-use Rattle.oram_session.specs.Settled.{IsSettled}
-use Rattle.oram_session.specs.Turns.{Turn, most_retries, IsAsked, IsReply, IsTurn, IsAtWork}
+use Rattle.oram_session.specs.CoreWork.{HasNoWork}
+use Rattle.oram_session.specs.Turns.{Turn, most_retries, BeginsTurn, IsReply, IsTurn, IsAtWork}
 
 pub IfOk-weaker : {T E : Type 0} (r : Result T E) (P Q : T → Type 0) → ((x : T) → P x → Q x) → IfOk r P → IfOk r Q
 IfOk-weaker (Ok x) P Q f h = f x h
@@ -33,27 +33,27 @@ module _ (v : Scheme) {L : Type 0} (calls : L → List ℕ → Outcome → L →
   pub bad_turn : (body : List ℕ) (p : State × L) → IsNoRequest body → IsTurn v calls words session p (record { body = body; sendings = []; reply = Refused 7 }) p
   bad_turn body p none = inl (record { none = none; sendings = refl; reply = refl; same = refl })
 
-  pub asked_so : (body : List ℕ) (message : SessionRequest) (c : Command) (s t : State) (x : Shown) → IsRequest body message → c ≡ command_of message →
-      Steps v s (Submit session c (words s.next (2 * trees_of v.device))) x t → IsAsked v calls words session body s x t
-  asked_so body message c s t x request e step = record {
+  pub begins_turn : (body : List ℕ) (message : SessionRequest) (c : Command) (s t : State) (x : Shown) → IsRequest body message → c ≡ command_of message →
+      Steps v s (Submit session c (words s.next (2 * trees_of v.device))) x t → BeginsTurn v calls words session body s x t
+  begins_turn body message c s t x request e step = record {
     message = message;
     request = request;
     step = subst (λ (k : Command). Steps v s (Submit session k (words s.next (2 * trees_of v.device))) x t) e step;
   }
 
-  pub refused_turn : (body : List ℕ) (s t : State) (l : L) (x : Shown) (why : Refusal) → IsAsked v calls words session body s x t → x.note ≡ note.Refused why →
+  pub refused_turn : (body : List ℕ) (s t : State) (l : L) (x : Shown) (why : Refusal) → BeginsTurn v calls words session body s x t → x.note ≡ note.Refused why →
       IsTurn v calls words session (s, l) (record { body = body; sendings = []; reply = Refused (refusal_number why) }) (t, l)
-  refused_turn body s t l x why asked is =
+  refused_turn body s t l x why begins is =
       let turn : Turn = record { body = body; sendings = []; reply = Refused (refusal_number why) } in
-      inr (record { shown = x; begun = t; asked = asked; replied = subst (λ (n : Note). IsReply v calls words session n (t, l) turn (t, l)) (sym is) (refl, refl, refl) })
+      inr (record { shown = x; begun = t; begins = begins; replied = subst (λ (n : Note). IsReply v calls words session n (t, l) turn (t, l)) (sym is) (refl, refl, refl) })
 
-  pub accepted_turn : (body : List ℕ) (s t : State) (l : L) (q : State × L) (x : Shown) (ticket : ℕ) (xs : List Delivery) (r : Reply) → IsAsked v calls words session body s x t →
-      x.note ≡ note.Accepted ticket → AllSent v calls most_retries (t, l) xs q → IsSettled q.0 → flat_map (λ y. y.replies) xs ≡ r ∷ [] →
+  pub accepted_turn : (body : List ℕ) (s t : State) (l : L) (q : State × L) (x : Shown) (ticket : ℕ) (xs : List Delivery) (r : Reply) → BeginsTurn v calls words session body s x t →
+      x.note ≡ note.Accepted ticket → AllSent v calls most_retries (t, l) xs q → HasNoWork q.0 → flat_map (λ y. y.replies) xs ≡ r ∷ [] →
       IsTurn v calls words session (s, l) (record { body = body; sendings = xs; reply = session_reply r.body }) q
-  accepted_turn body s t l q x ticket xs r asked is sent settled one =
+  accepted_turn body s t l q x ticket xs r begins is sent no_work one =
       let turn : Turn = record { body = body; sendings = xs; reply = session_reply r.body } in
-      inr (record { shown = x; begun = t; asked = asked; replied = subst (λ (n : Note). IsReply v calls words session n (t, l) turn q) (sym is) (sent, settled, r, one, refl) })
+      inr (record { shown = x; begun = t; begins = begins; replied = subst (λ (n : Note). IsReply v calls words session n (t, l) turn q) (sym is) (sent, no_work, r, one, refl) })
 
-  pub at_work : (body : List ℕ) (s t : State) (l : L) (q : State × L) (x : Shown) (ticket : ℕ) (xs : List Delivery) → IsAsked v calls words session body s x t →
+  pub at_work : (body : List ℕ) (s t : State) (l : L) (q : State × L) (x : Shown) (ticket : ℕ) (xs : List Delivery) → BeginsTurn v calls words session body s x t →
       x.note ≡ note.Accepted ticket → AllSent v calls most_retries (t, l) xs q → IsAtWork v calls words session (s, l) body q
-  at_work body s t l q x ticket xs asked is sent = record { shown = x; begun = t; ticket = ticket; asked = asked; accepted = is; sendings = xs; sent = sent }
+  at_work body s t l q x ticket xs begins is sent = record { shown = x; begun = t; ticket = ticket; begins = begins; accepted = is; sendings = xs; sent = sent }

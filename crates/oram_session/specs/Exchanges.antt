@@ -10,7 +10,7 @@ use Rattle.oram_semantics.specs.declared.events.Event.TheVariants.{Answer, Lost,
 use Rattle.oram_semantics.specs.declared.events.Reply.{Reply}
 use Rattle.oram_core.specs.Steps.{Steps}
 use Rattle.oram_session.specs.Outcome.{Outcome}
-use Rattle.oram_session.specs.Settled.{outstanding}
+use Rattle.oram_session.specs.CoreWork.{outstanding}
 use Rattle.oram_wire.specs.HostMessages.{no_room_answer}
 
 -- the event that a call's outcome gives to the core

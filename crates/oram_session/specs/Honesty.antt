@@ -29,7 +29,7 @@ use Rattle.oram_host_laws.specs.AnyHost.{IsLie}
 use Rattle.oram_session.specs.Formatting.{TakesMessage}
 use Rattle.oram_session.specs.Outcome.{Outcome}
 use Rattle.oram_session.specs.Requests.{IsRequest, IsNoRequest, command_of, session_reply}
-use Rattle.oram_session.specs.Settled.{IsSettled}
+use Rattle.oram_session.specs.CoreWork.{HasNoWork}
 use Rattle.oram_session.specs.Turns.{Turn, IsTurn}
 
 -- A call gives the host's answer; if the call has a fault, the host may have received the message or not.
@@ -65,7 +65,7 @@ IsArrayTurn d array turn after =
 -- Between two requests: the core is idle, its trees stand in a world, agree there and hold the array, and the host
 -- behind the link keeps the world's records.
 pub record IsHeld (v : Scheme) {L : Type 0} (host_of : L → Host) (p : State × L) (array : ℕ → List ℕ) : Type 0 where
-  pub settled : IsSettled p.0
+  pub no_work : HasNoWork p.0
   pub alive : p.0.failure ≡ None
   pub world : World
   pub serving : IsServing v p.0 world array

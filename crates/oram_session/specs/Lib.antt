@@ -5,7 +5,7 @@ pub mod Loopback
 pub mod Formatting
 pub mod Tapes
 pub mod Requests
-pub mod Settled
+pub mod CoreWork
 pub mod Exchanges
 pub mod Turns
 pub mod Resumption

@@ -23,30 +23,30 @@ longest_frame = 16384
 
 -- the host received no message, or one
 abbrev pub AsksOnce : Host → Host → Type 0
-AsksOnce host after = (after ≡ host) ⊎ ((asked : List ℕ) × (answer : HostAnswer) × Serves host asked answer after × IsAnswer answer)
+AsksOnce host after = (after ≡ host) ⊎ ((received : List ℕ) × (answer : HostAnswer) × Serves host received answer after × IsAnswer answer)
 
 -- The message is too large, and nothing changes.
 pub record IsRefused {S : Type 0} (l : ToItself S) (body : List ℕ) (outcome : Outcome) (m : ToItself S) : Type 0 where
   pub large : longest_frame < length (frame body)
-  pub told : outcome ≡ Err TooLarge
+  pub outcome_is : outcome ≡ Err TooLarge
   pub host : m.host ≡ l.host
   pub ends : m.ends ≡ l.ends
 
 -- No connection could be opened.
 pub record IsApart {S : Type 0} (l : ToItself S) (outcome : Outcome) (m : ToItself S) : Type 0 where
   pub none : l.ends ≡ None
-  pub told : outcome ≡ Err Io
+  pub outcome_is : outcome ≡ Err Io
   pub host : m.host ≡ l.host
   pub ends : m.ends ≡ None
 
 -- over ends of a connection; these functions give the bytes that an end will read and has written, if they are known
 module _ {S : Type 0} (remaining contents : S → Option (List ℕ)) where
   -- A message went from the near end to the far one, and the host answered the bytes that were read there.
-  pub record IsAsked (host : Host) (ends : S × S) (body : List ℕ) (answer : HostAnswer) (host' : Host) (ends' : S × S) : Type 0 where
-    pub asked : List ℕ
+  pub record IsHandled (host : Host) (ends : S × S) (body : List ℕ) (answer : HostAnswer) (host' : Host) (ends' : S × S) : Type 0 where
+    pub received : List ℕ
     pub wrote : Appends (contents ends.0) (contents ends'.0) (frame body)
-    pub read : GivesFrame (remaining ends.1) (remaining ends'.1) asked
-    pub served : Serves host asked answer host'
+    pub read : GivesFrame (remaining ends.1) (remaining ends'.1) received
+    pub served : Serves host received answer host'
     pub spelled : IsAnswer answer
 
   -- An answer went from the far end to the near one, and these bytes were read there.
@@ -60,10 +60,10 @@ module _ {S : Type 0} (remaining contents : S → Option (List ℕ)) where
   abbrev pub Crosses : Host → S × S → List ℕ → Outcome → Host → Option (S × S) → Type 0
   Crosses host ends body (Ok bytes) host' ends' =
       (answer : HostAnswer) × (mid : S × S) × (last : S × S)
-      × IsAsked host ends body answer host' mid × IsReturned mid answer bytes last × (ends' ≡ Some last)
+      × IsHandled host ends body answer host' mid × IsReturned mid answer bytes last × (ends' ≡ Some last)
   Crosses host ends body (Err TooLarge) host' ends' =
       (answer : HostAnswer) × (last : S × S)
-      × IsAsked host ends body answer host' last × (longest_frame < length (frame (answer_body answer))) × (ends' ≡ Some last)
+      × IsHandled host ends body answer host' last × (longest_frame < length (frame (answer_body answer))) × (ends' ≡ Some last)
   Crosses host ends body (Err Io) host' ends' = AsksOnce host host' × (ends' ≡ None)
   Crosses host ends body (Err OutOfMemory) host' ends' = AsksOnce host host' × (ends' ≡ None)
   Crosses host ends body (Err Closed) host' ends' = ⊥

@@ -20,7 +20,7 @@ module _ (v : Scheme) {L : Type 0} (calls : L → List ℕ → Outcome → L →
   -- The core learns that it was reopened and sends its message again; this message and those after it get their answers.
   pub record HasGoneOn (p : State × L) (xs : List Delivery) (q : State × L) : Type 0 where
     pub reopened : State
-    pub told : Runs v p.0 (Reopen ∷ Retry ∷ []) [] reopened
+    pub resumes : Runs v p.0 (Reopen ∷ Retry ∷ []) [] reopened
     pub sent : AllSentFrom v calls first_retries most_retries (reopened, p.1) xs q
 
   -- The core went on until one message stalled the fourth time.

@@ -41,7 +41,7 @@ module _ {R W : Type 0} (remaining : R → Option (List ℕ)) (contents : W → 
   -- The body couldn't be sent, and nothing was read.
   pub record IsUnsent (reader : R) (writer : W) (body : List ℕ) (outcome : Outcome) (reader' : R) (writer' : W) : Type 0 where
     pub fault : LinkFault
-    pub told : outcome ≡ Err fault
+    pub outcome_is : outcome ≡ Err fault
     pub wrote : FailsToSend contents writer body fault writer'
     pub unread : reader' ≡ reader
 

@@ -17,7 +17,7 @@ use Rattle.oram_core.specs.Steps.{Steps}
 use Rattle.oram_session.specs.Exchanges.{Delivery, IsSent, IsCutOff, IsGivenUp, AllSent}
 use Rattle.oram_session.specs.Outcome.{Outcome}
 use Rattle.oram_session.specs.Requests.{IsRequest, IsNoRequest, command_of, session_reply}
-use Rattle.oram_session.specs.Settled.{IsSettled}
+use Rattle.oram_session.specs.CoreWork.{HasNoWork}
 
 -- A turn: a request's body, the messages that it needed, and the reply.
 pub record Turn : Type 0 where
@@ -39,7 +39,7 @@ module _ (v : Scheme) {L : Type 0} (calls : L → List ℕ → Outcome → L →
     pub same : p ≡ q
 
   -- the core gets the command of the request, with the tape's words of the next ticket, and shows x
-  pub record IsAsked (body : List ℕ) (s : State) (x : Shown) (t : State) : Type 0 where
+  pub record BeginsTurn (body : List ℕ) (s : State) (x : Shown) (t : State) : Type 0 where
     pub message : SessionRequest
     pub request : IsRequest body message
     pub step : Steps v s (Submit session (command_of message) (words s.next (2 * trees_of v.device))) x t
@@ -47,7 +47,7 @@ module _ (v : Scheme) {L : Type 0} (calls : L → List ℕ → Outcome → L →
   -- how the turn goes on after this note of the core
   abbrev pub IsReply : Note → State × L → Turn → State × L → Type 0
   IsReply (note.Accepted ticket) p turn q =
-      AllSent v calls most_retries p turn.sendings q × IsSettled q.0
+      AllSent v calls most_retries p turn.sendings q × HasNoWork q.0
       × (x : Reply) × (flat_map (λ y. y.replies) turn.sendings ≡ x ∷ []) × (turn.reply ≡ session_reply x.body)
   IsReply (note.Refused why) p turn q = (turn.sendings ≡ []) × (turn.reply ≡ Refused (refusal_number why)) × (p ≡ q)
   IsReply note.Taken p turn q = ⊥
@@ -59,7 +59,7 @@ module _ (v : Scheme) {L : Type 0} (calls : L → List ℕ → Outcome → L →
   pub record IsServed (p : State × L) (turn : Turn) (q : State × L) : Type 0 where
     pub shown : Shown
     pub begun : State
-    pub asked : IsAsked turn.body p.0 shown begun
+    pub begins : BeginsTurn turn.body p.0 shown begun
     pub replied : IsReply shown.note (begun, p.1) turn q
 
   abbrev pub IsTurn : State × L → Turn → State × L → Type 0
@@ -70,7 +70,7 @@ module _ (v : Scheme) {L : Type 0} (calls : L → List ℕ → Outcome → L →
     pub shown : Shown
     pub begun : State
     pub ticket : ℕ
-    pub asked : IsAsked body p.0 shown begun
+    pub begins : BeginsTurn body p.0 shown begun
     pub accepted : shown.note ≡ note.Accepted ticket
     pub sendings : List Delivery
     pub sent : AllSent v calls most_retries (begun, p.1) sendings q

@@ -9,7 +9,7 @@ ghost use Rattle.oram_core.specs.Core.{IsSameDevice, scheme_of};
 ghost use Rattle.oram_core.specs.PlainSteps.{done};
 ghost use Rattle.oram_core.specs.Steps.{Steps, Heard};
 ghost use Rattle.oram_session.specs.Outcome.{Outcome};
-ghost use Rattle.oram_session.specs.Settled.{IsSettled, IsUnderWay, IsBodyOf};
+ghost use Rattle.oram_session.specs.CoreWork.{HasNoWork, IsUnderWay, IsBodyOf};
 ghost use Rattle.oram_session.specs.Exchanges.{Delivery, IsSent, IsCutOff, IsAnswered, IsGivenUp, AllSent, AllSentFrom, event_of, retries_after};
 ghost use Rattle.oram_session.specs.Turns.{most_retries};
 
@@ -100,7 +100,7 @@ pub(crate) fn exchange_all<S: Sealer, L: Link>(
         IfOk result (λ r. (xs : List Delivery) × (length (flat_map (λ y. y.replies) xs) ≡ length core.old.state.queue)
         × ((early : List Reply) × (flat_map (λ y. y.replies) xs ≡ early ++ r.replies.items))
         × AllSentFrom v L.calls first most_retries (core.old.state, link.old) xs (core.new.state, link.new)) }
-    ensures settled { OnOk result (IsSettled core.new.state) }
+    ensures no_work { OnOk result (HasNoWork core.new.state) }
     ensures replied { IfOk result (λ r. 0 < length r.replies.items) }
     ensures block { IfOk result (λ r. All (λ reply. IsBodyOf core.old.device reply.body) r.replies.items) }
     ensures stalled { let v = scheme_of S.cipher core.old in
@@ -137,7 +137,7 @@ pub fn carry_out<S: Sealer, L: Link>(
         IfOk result (λ reply. (xs : List Delivery)
         × AllSent v L.calls most_retries (core.old.state, link.old) xs (core.new.state, link.new)
         × (flat_map (λ y. y.replies) xs ≡ reply ∷ [])) }
-    ensures settled { OnOk result (IsSettled core.new.state) }
+    ensures no_work { OnOk result (HasNoWork core.new.state) }
     ensures block { IfOk result (λ reply. IsBodyOf core.old.device reply.body) }
     ensures stalled { let v = scheme_of S.cipher core.old in
         IsErrOf result ServeFault.Stalled → (xs : List Delivery) × (mid : State × L) × (last : Delivery)

@@ -28,7 +28,7 @@ pub use law::{
 pub use link::{Link, LinkFault};
 pub use links::{Direct, FaultLink, LoopLink, StreamLink};
 pub use oram_host::{ServeFault, host_serve};
-pub use recovery::{is_settled, reopen, resume};
+pub use recovery::{has_no_work, reopen, resume};
 pub use tape::Tape;
 pub use tapes::{ChaChaTape, ListTape};
 pub use turns::{serve, submit};

@@ -7,7 +7,7 @@ ghost use Rattle.oram_semantics.specs.declared.events.Event.TheVariants.{Reopen,
 ghost use Rattle.oram_core.specs.Core.{IsSameDevice, scheme_of};
 ghost use Rattle.oram_core.specs.PlainSteps.{done};
 ghost use Rattle.oram_session.specs.Exchanges.{Runs, Delivery};
-ghost use Rattle.oram_session.specs.Settled.{IsSettled, IsUnderWay, is_settled_by};
+ghost use Rattle.oram_session.specs.CoreWork.{HasNoWork, IsUnderWay, has_no_work_in};
 ghost use Rattle.oram_session.specs.Resumption.{HasGoneOn, HasStalled, IsCutShort};
 
 use crate::exchanges::{MOST_RETRIES, exchange_all};
@@ -18,15 +18,15 @@ use oram_host::ServeFault;
 use std::alloc::{AllocError, Global};
 
 /// Returns whether the core is idle or has failed.
-pub fn is_settled<S: Sealer>(core: &Core<S>) -> bool
-    ensures { result ≡ is_settled_by (status_in core.now.state) }
+pub fn has_no_work<S: Sealer>(core: &Core<S>) -> bool
+    ensures { result ≡ has_no_work_in (status_in core.now.state) }
 {
     core.is_idle() || core.failure().is_some()
 }
 
 /// Tells a core at work that it was reopened, and makes it send its message again.
 pub fn reopen<S: Sealer>(alloc: Global, core: &mut Core<S>) -> Result<Reaction, AllocError>
-    requires { ¬ IsSettled core.old.state }
+    requires { ¬ HasNoWork core.old.state }
     ensures kept { IsSameDevice core.old core.new }
     ensures ok { let v = scheme_of S.cipher core.old in
         OnOk result (Runs v core.old.state (Reopen ∷ Retry ∷ []) [] core.new.state) }
@@ -51,15 +51,15 @@ pub fn resume<S: Sealer, L: Link>(
     link: &mut L,
 ) -> Result<u64, ServeFault>
     ensures kept { IsSameDevice core.old core.new }
-    ensures settled { OnOk result (IsSettled core.new.state) }
+    ensures no_work { OnOk result (HasNoWork core.new.state) }
 
     // In an idle or failed core there is nothing to carry out.
-    ensures none { IsSettled core.old.state → (result ≡ Ok 0) × (core.new ≡ core.old) × (link.new ≡ link.old) }
+    ensures none { HasNoWork core.old.state → (result ≡ Ok 0) × (core.new ≡ core.old) × (link.new ≡ link.old) }
 
     // In any other core, each command that waits gets its reply.
-    ensures count { ¬ IsSettled core.old.state → IfOk result (λ k. k ≡ length core.old.state.queue) }
+    ensures count { ¬ HasNoWork core.old.state → IfOk result (λ k. k ≡ length core.old.state.queue) }
     ensures ok { let v = scheme_of S.cipher core.old in
-        ¬ IsSettled core.old.state → IfOk result (λ k. (xs : List Delivery) × (length (flat_map (λ y. y.replies) xs) ≡ k)
+        ¬ HasNoWork core.old.state → IfOk result (λ k. (xs : List Delivery) × (length (flat_map (λ y. y.replies) xs) ≡ k)
         × HasGoneOn v L.calls (core.old.state, link.old) xs (core.new.state, link.new)) }
 
     // One message stalled four times, or memory ran out. Everything done before stays done.
@@ -70,7 +70,7 @@ pub fn resume<S: Sealer, L: Link>(
         IsErrOf result ServeFault.OutOfMemory → IsCutShort v L.calls (core.old.state, link.old) (core.new.state, link.new) }
     ensures fault { IfErr result (λ e. (e ≡ ServeFault.Stalled) ⊎ (e ≡ ServeFault.OutOfMemory)) }
 {
-    if is_settled(core) {
+    if has_no_work(core) {
         return Ok(0);
     }
     let waiting = core.waiting() as u64;

@@ -23,7 +23,7 @@ fn command_of(request: SessionRequest) -> Command
 
 /// Returns the command that a body asks for, or `None` if the body is no request. Fails only if memory runs out.
 pub fn command_in(alloc: Global, body: &[u8]) -> Result<Option<Command>, ServeFault>
-    ensures ok { IfOk result (λ asked. MatchOption asked (IsNoRequest body.now)
+    ensures ok { IfOk result (λ found. MatchOption found (IsNoRequest body.now)
         (λ command. (message : SessionRequest) × IsRequest body.now message × (command ≡ command_of message))) }
     ensures err { IfErr result (λ f. f ≡ ServeFault.OutOfMemory) }
 {

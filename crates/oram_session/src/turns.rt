@@ -11,7 +11,7 @@ ghost use Rattle.oram_semantics.specs.declared.events.Event.TheVariants.{Submit}
 ghost use Rattle.oram_core.specs.Core.{IsSameDevice, scheme_of};
 ghost use Rattle.oram_core.specs.PlainSteps.{done};
 ghost use Rattle.oram_core.specs.Steps.{Steps};
-ghost use Rattle.oram_session.specs.Settled.{IsSettled, IsBegun};
+ghost use Rattle.oram_session.specs.CoreWork.{HasNoWork, IsBegun};
 ghost use Rattle.oram_session.specs.Turns.{Turn, IsTurn, IsStuck, IsCutTurn};
 ghost use Rattle.oram_session.specs.Sessions.{HasServed, IsLeft, LeavesCore, reply_frame};
 
@@ -35,7 +35,7 @@ pub fn submit<S: Sealer, T: Tape>(
     session: u32,
     command: Command,
 ) -> Result<Reaction, AllocError>
-    requires { IsSettled core.old.state }
+    requires { HasNoWork core.old.state }
     ensures kept { IsSameDevice core.old core.new }
     ensures ok { let v = scheme_of S.cipher core.old in
         IfOk result (λ r. Steps v core.old.state
@@ -64,12 +64,12 @@ fn take_turn<S: Sealer, L: Link, T: Tape>(
     session: u32,
     body: &[u8],
 ) -> Result<SessionReply, ServeFault>
-    requires { IsSettled core.old.state }
+    requires { HasNoWork core.old.state }
     ensures kept { IsSameDevice core.old core.new }
     ensures ok { let v = scheme_of S.cipher core.old in
         IfOk result (λ reply. (turn : Turn) × (turn.body ≡ body.now) × (turn.reply ≡ reply)
         × IsTurn v L.calls (T.words tape.old) session (core.old.state, link.old) turn (core.new.state, link.new)) }
-    ensures settled { OnOk result (IsSettled core.new.state) }
+    ensures no_work { OnOk result (HasNoWork core.new.state) }
     ensures spelled { IfOk result (λ reply. IsSessionReply reply × IsBody (session_reply_body reply)) }
     ensures stalled { let v = scheme_of S.cipher core.old in
         IsErrOf result ServeFault.Stalled
@@ -132,52 +132,114 @@ pub fn serve<S: Sealer, R: Read, W: Write, L: Link, T: Tape>(
     tape: &mut T,
     session: u32,
 ) -> Result<u64, ServeFault>
-    requires { IsSettled core.old.state }
+    requires { HasNoWork core.old.state }
     ensures kept { IsSameDevice core.old core.new }
-    ensures settled { LeavesCore result core.new.state }
+    ensures no_work { LeavesCore result core.new.state }
     ensures tape { T.words tape.new ≡ T.words tape.old }
     ensures ok { let v = scheme_of S.cipher core.old in
         IfOk result (λ k. (turns : List Turn) × (length turns ≡ k)
-        × HasServed v L.calls (T.words tape.old) session (core.old.state, link.old) turns (core.new.state, link.new)
-        [] (R.remaining reader.old) (R.remaining reader.new) [] (W.contents writer.old) (W.contents writer.new)
+        × HasServed v L.calls (T.words tape.old) session (record {
+          before = (core.old.state, link.old);
+          turns = turns;
+          after = (core.new.state, link.new);
+          input = R.remaining reader.old;
+          part = [];
+          rest = R.remaining reader.new;
+          output = W.contents writer.old;
+          more = [];
+          written = W.contents writer.new;
+        })
         × IsAtEnd (R.remaining reader.new)) }
 
     // A frame's length is too great, the input ends inside a frame, or the reader fails before a frame is whole.
     ensures frame { let v = scheme_of S.cipher core.old in
         IsErrOf result ServeFault.Frame → (turns : List Turn) × (head : List ℕ) × (length head ≡ 4) × IsBroken head
-        × HasServed v L.calls (T.words tape.old) session (core.old.state, link.old) turns (core.new.state, link.new)
-        head (R.remaining reader.old) (R.remaining reader.new) [] (W.contents writer.old) (W.contents writer.new) }
+        × HasServed v L.calls (T.words tape.old) session (record {
+          before = (core.old.state, link.old);
+          turns = turns;
+          after = (core.new.state, link.new);
+          input = R.remaining reader.old;
+          part = head;
+          rest = R.remaining reader.new;
+          output = W.contents writer.old;
+          more = [];
+          written = W.contents writer.new;
+        }) }
     ensures truncated { let v = scheme_of S.cipher core.old in
         IsErrOf result ServeFault.Truncated → (turns : List Turn) × (part : List ℕ) × (0 < length part) × IsUnfinished part
-        × HasServed v L.calls (T.words tape.old) session (core.old.state, link.old) turns (core.new.state, link.new)
-        part (R.remaining reader.old) (R.remaining reader.new) [] (W.contents writer.old) (W.contents writer.new)
+        × HasServed v L.calls (T.words tape.old) session (record {
+          before = (core.old.state, link.old);
+          turns = turns;
+          after = (core.new.state, link.new);
+          input = R.remaining reader.old;
+          part = part;
+          rest = R.remaining reader.new;
+          output = W.contents writer.old;
+          more = [];
+          written = W.contents writer.new;
+        })
         × IsAtEnd (R.remaining reader.new) }
     ensures read { let v = scheme_of S.cipher core.old in
         IsErrOf result ServeFault.Read → (turns : List Turn) × (part : List ℕ) × IsUnfinished part
-        × HasServed v L.calls (T.words tape.old) session (core.old.state, link.old) turns (core.new.state, link.new)
-        part (R.remaining reader.old) (R.remaining reader.new) [] (W.contents writer.old) (W.contents writer.new) }
+        × HasServed v L.calls (T.words tape.old) session (record {
+          before = (core.old.state, link.old);
+          turns = turns;
+          after = (core.new.state, link.new);
+          input = R.remaining reader.old;
+          part = part;
+          rest = R.remaining reader.new;
+          output = W.contents writer.old;
+          more = [];
+          written = W.contents writer.new;
+        }) }
 
     // Only a beginning of the last reply was written, or all of it but not flushed.
     ensures write { let v = scheme_of S.cipher core.old in
         IsErrOf result ServeFault.Write → (turns : List Turn) × (mid : State × L) × (last : Turn) × (count : ℕ) × IsBody last.body
         × IsTurn v L.calls (T.words tape.old) session mid last (core.new.state, link.new)
-        × HasServed v L.calls (T.words tape.old) session (core.old.state, link.old) turns mid
-        (frame last.body) (R.remaining reader.old) (R.remaining reader.new)
-        (take count (reply_frame last)) (W.contents writer.old) (W.contents writer.new) }
+        × HasServed v L.calls (T.words tape.old) session (record {
+          before = (core.old.state, link.old);
+          turns = turns;
+          after = mid;
+          input = R.remaining reader.old;
+          part = frame last.body;
+          rest = R.remaining reader.new;
+          output = W.contents writer.old;
+          more = take count (reply_frame last);
+          written = W.contents writer.new;
+        }) }
 
     // One message of the last request stalled four times.
     ensures stalled { let v = scheme_of S.cipher core.old in
         IsErrOf result ServeFault.Stalled → (turns : List Turn) × (mid : State × L) × (body : List ℕ) × IsBody body
         × IsStuck v L.calls (T.words tape.old) session mid body (core.new.state, link.new)
-        × HasServed v L.calls (T.words tape.old) session (core.old.state, link.old) turns mid
-        (frame body) (R.remaining reader.old) (R.remaining reader.new) [] (W.contents writer.old) (W.contents writer.new) }
+        × HasServed v L.calls (T.words tape.old) session (record {
+          before = (core.old.state, link.old);
+          turns = turns;
+          after = mid;
+          input = R.remaining reader.old;
+          part = frame body;
+          rest = R.remaining reader.new;
+          output = W.contents writer.old;
+          more = [];
+          written = W.contents writer.new;
+        }) }
 
     // If memory runs out, everything done before stays done: these turns, and a last one as far as it came.
     ensures memory { let v = scheme_of S.cipher core.old in
         IsErrOf result ServeFault.OutOfMemory → (turns : List Turn) × (mid : State × L) × (part : List ℕ)
         × IsLeft v L.calls (T.words tape.old) session mid part (core.new.state, link.new)
-        × HasServed v L.calls (T.words tape.old) session (core.old.state, link.old) turns mid
-        part (R.remaining reader.old) (R.remaining reader.new) [] (W.contents writer.old) (W.contents writer.new) }
+        × HasServed v L.calls (T.words tape.old) session (record {
+          before = (core.old.state, link.old);
+          turns = turns;
+          after = mid;
+          input = R.remaining reader.old;
+          part = part;
+          rest = R.remaining reader.new;
+          output = W.contents writer.old;
+          more = [];
+          written = W.contents writer.new;
+        }) }
 {
     for served in 0..u64::MAX {
         let Some(body) = next_frame(alloc, reader)? else {

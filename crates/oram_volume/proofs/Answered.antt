@@ -16,7 +16,7 @@ use Rattle.oram_semantics.specs.declared.events.Reply.{Reply}
 use Rattle.oram_semantics.specs.declared.events.ReplyBody.{ReplyBody}
 use Rattle.oram_semantics.specs.declared.events.ReplyBody.TheVariants.{Failed}
 use Rattle.oram_semantics.specs.declared.events.Submission.{Submission}
-use Rattle.oram_session.specs.Settled.{IsSettled}
+use Rattle.oram_session.specs.CoreWork.{HasNoWork}
 use Rattle.oram_link_laws.specs.Runs.{Exchange}
 use Rattle.oram_nbd.proofs.Beside.{one_call}
 use Rattle.oram_rounds.specs.Batches.{BatchOutcome}
@@ -25,7 +25,7 @@ use Rattle.oram_rounds.specs.Law.{AreBatches}
 use Rattle.oram_rounds.specs.Process.{Act, DoesAll, IsGoingOn, Process, exchanges_of, process, replies_of}
 use Rattle.oram_rounds.specs.Rounds.{Round}
 use Rattle.oram_rounds.specs.Service.{AreReplied, ArrayAndQueue, IsServed, after_all}
-use Rattle.oram_rounds.specs.Start.{AreAsked, Asked, array_with}
+use Rattle.oram_rounds.specs.Start.{AreSubmitted, SubmittedCommand, array_with}
 use Rattle.oram_rounds.proofs.Replies.{replies_are_the_arrays}
 use Rattle.oram_rounds.proofs.Start.{resting, served_submitted}
 use Rattle.oram_volume.specs.CarriedOut.{bodies_from}
@@ -78,8 +78,8 @@ failed_shows [] y ys none = All-head (λ (r : Reply). r.body ≢ ReplyBody.Faile
 failed_shows (r ∷ given) y ys none = failed_shows given y ys (All-tail (λ (r : Reply). r.body ≢ ReplyBody.Failed) r (given ++ map failed_reply (y ∷ ys)) none)
 
 -- a core that serves its trees still serves them once commands were submitted
-asked_served : (may_lie : Bool) (v : Scheme) → IsDevice v.device → (words : ℕ → ℕ → List ℕ) (session : ℕ) (asked : List Asked) (s t : State) (before : ℕ → List ℕ) (far : Host)
-    → AreAsked v words session s asked t → IsServed v s far before → IsServed v t far before
+asked_served : (may_lie : Bool) (v : Scheme) → IsDevice v.device → (words : ℕ → ℕ → List ℕ) (session : ℕ) (asked : List SubmittedCommand) (s t : State) (before : ℕ → List ℕ) (far : Host)
+    → AreSubmitted v words session s asked t → IsServed v s far before → IsServed v t far before
 asked_served may_lie v device words session [] s t before far same served = subst (λ (c : State). IsServed v c far before) same served
 asked_served may_lie v device words session (a ∷ asked) s t before far all served =
     asked_served may_lie v device words session asked all.0 t before far all.2 (served_submitted may_lie v device s all.0 a far before all.1.2 served)
@@ -90,14 +90,14 @@ module _ {B K : Type 0} (batches : B → List (List ℕ) → BatchOutcome → Li
   AreRight may_lie ys replies array =
       (bodies replies ≡ bodies_from v.device (map (λ (y : Submission). y.command) ys) array) ⊎ ((may_lie ≡ true) × (NoneFailed replies → ⊥))
 
-  -- of a core that is settled and hasn't failed, to which commands were submitted
-  module _ (asked : List Asked) (acts : List Act) (session : ℕ) (s t : State) (l : Round B) (k : K) (q : Process B K) (replies : List Reply) (settled : IsSettled s) (alive : s.failure ≡ None)
-      (chain : AreAsked v words session s asked t) (does : DoesAll v batches reads_back (process t l k) acts q) (given : flat_map replies_of acts ≡ replies) (many : length replies ≡ length t.queue) where
+  -- of a core that has no work and hasn't failed, to which commands were submitted
+  module _ (asked : List SubmittedCommand) (acts : List Act) (session : ℕ) (s t : State) (l : Round B) (k : K) (q : Process B K) (replies : List Reply) (no_work : HasNoWork s) (alive : s.failure ≡ None)
+      (chain : AreSubmitted v words session s asked t) (does : DoesAll v batches reads_back (process t l k) acts q) (given : flat_map replies_of acts ≡ replies) (many : length replies ≡ length t.queue) where
     right_by : (may_lie : Bool) (ys : List Submission) → t.queue ≡ ys → (w later : HostBeside) (array : ℕ → List ℕ) → FoldsTo {P = HostBeside} {A = Exchange} (HostHears may_lie) w (flat_map exchanges_of acts) later
         → Holds batches reads_back are v words may_lie (process s l k) w array → AreRight may_lie ys replies array
     right_by may_lie ys queue w later array run h =
         let host : Host = w.host in
-        let idle : s.queue ≡ [] = resting s settled alive in
+        let idle : s.queue ≡ [] = resting s no_work alive in
         let far : Host = h.will_hold.0 in
         let served : (before : ℕ → List ℕ) × IsServed v s far before × (before ≡ array) = elim h.will_hold.2 [
           | inl will ↦ (will.0, will.1, ap (λ (xs : List Submission). after_all v.device xs will.0) (sym idle) ∙ will.2)

@@ -21,7 +21,7 @@ use Rattle.oram_semantics.specs.declared.events.Reply.{Reply}
 use Rattle.oram_semantics.specs.declared.events.Submission.{Submission}
 use Rattle.oram_core.specs.Core.{CoreValue, IsSameDevice, scheme_of}
 use Rattle.oram_session.proofs.CoreSteps.{same_scheme, same_trans}
-use Rattle.oram_session.specs.Settled.{IsSettled}
+use Rattle.oram_session.specs.CoreWork.{HasNoWork}
 use Rattle.oram_link_laws.specs.Runs.{Exchange}
 use Rattle.oram_link_laws.proofs.Exchanged.{folds_join}
 use Rattle.oram_nbd.specs.Beside.{GoesOn, KeepsOn}
@@ -30,10 +30,10 @@ use Rattle.oram_rounds.specs.Batches.{BatchOutcome}
 use Rattle.oram_rounds.specs.Law.{AreBatches}
 use Rattle.oram_rounds.specs.Process.Act.{Keeps}
 use Rattle.oram_rounds.specs.Process.{Act, DoesAll, Process, process, replies_of}
-use Rattle.oram_rounds.specs.Start.{AreAsked, Asked, array_with}
+use Rattle.oram_rounds.specs.Start.{AreSubmitted, SubmittedCommand, array_with}
 use Rattle.oram_rounds.specs.ProcessSteps.{ProcessStep}
 use Rattle.oram_volume.specs.CarriedOut.{Had, Stops, TakesStep, TakesSteps, after_commands, bodies_from}
-use Rattle.oram_rounds.specs.ProcessSteps.ProcessStep.{Acts, Asks}
+use Rattle.oram_rounds.specs.ProcessSteps.ProcessStep.{Acts, Takes}
 use Rattle.oram_volume.specs.HeldArrays.{HostHears, HoldsArray, KeepsArray, Running, running}
 use Rattle.oram_volume.specs.RangeCommands.{FitsDevice}
 use Rattle.oram_volume.specs.declared.volume.Volume.{Volume}
@@ -89,16 +89,16 @@ module _ {S B K T : Type 0} (cipher : S → Cipher) (words : T → ℕ → ℕ �
   resumed = subst (λ (r : Running B K). GoesOn (Had batches reads_back) HostHears HoldsArray (running cipher words old) (λ _ array later. later ≡ array) r) (same_running cipher words old mid kept tape) goes
 
   -- the chain of submissions, as that of the old volume
-  pub chain_under : (asked : List Asked) (t : State) → AreAsked (scheme_of cipher mid.core) (words mid.tape) 0 mid.core.state asked t → AreAsked v tape_words 0 mid.core.state asked t
+  pub chain_under : (asked : List SubmittedCommand) (t : State) → AreSubmitted (scheme_of cipher mid.core) (words mid.tape) 0 mid.core.state asked t → AreSubmitted v tape_words 0 mid.core.state asked t
   chain_under asked t chain =
-      subst (λ (ws : ℕ → ℕ → List ℕ). AreAsked v ws 0 mid.core.state asked t) tape
-      (subst (λ (u : Scheme). AreAsked u (words mid.tape) 0 mid.core.state asked t) (same_scheme cipher old.core mid.core kept) chain)
+      subst (λ (ws : ℕ → ℕ → List ℕ). AreSubmitted v ws 0 mid.core.state asked t) tape
+      (subst (λ (u : Scheme). AreSubmitted u (words mid.tape) 0 mid.core.state asked t) (same_scheme cipher old.core mid.core kept) chain)
 
   -- some of the commands were submitted
-  module _ (commands : List Command) (fits : All (FitsDevice old.core.device) commands) (asked : List Asked) (rest : List Command) (in_order : map (λ (a : Asked). a.command) asked ++ rest ≡ commands)
-      (t : State) (chain : AreAsked v tape_words 0 mid.core.state asked t) where
+  module _ (commands : List Command) (fits : All (FitsDevice old.core.device) commands) (asked : List SubmittedCommand) (rest : List Command) (in_order : map (λ (a : SubmittedCommand). a.command) asked ++ rest ≡ commands)
+      (t : State) (chain : AreSubmitted v tape_words 0 mid.core.state asked t) where
     all_fit : AllFit v tape_words 0 asked
-    all_fit = front_all (FitsDevice old.core.device) (map (λ (a : Asked). a.command) asked) rest (subst (λ (cs : List Command). All (FitsDevice old.core.device) cs) (sym in_order) fits)
+    all_fit = front_all (FitsDevice old.core.device) (map (λ (a : SubmittedCommand). a.command) asked) rest (subst (λ (cs : List Command). All (FitsDevice old.core.device) cs) (sym in_order) fits)
 
     abbrev pub FirstOnes : Bool → (ℕ → List ℕ) → (ℕ → List ℕ) → Type 0
     FirstOnes may_lie array later = (n : ℕ) × (later ≡ after_commands old.core.device (take n commands) array)
@@ -106,9 +106,9 @@ module _ {S B K T : Type 0} (cipher : S → Cipher) (words : T → ℕ → ℕ �
     first_ones : (array : ℕ → List ℕ) → (n : ℕ) × (array_with old.core.device asked array ≡ after_commands old.core.device (take n commands) array)
     first_ones array =
         let k = first_accepted v tape_words 0 asked mid.core.state t chain all_fit in
-        let few : k.0 ≤ length (map (λ (a : Asked). a.command) asked) = subst (λ (n : ℕ). k.0 ≤ n) (sym (length-map asked (λ (a : Asked). a.command))) k.1 in
-        let same : take k.0 commands ≡ take k.0 (map (λ (a : Asked). a.command) asked) =
-        ap (take k.0) (sym in_order) ∙ take-append-le k.0 (map (λ (a : Asked). a.command) asked) rest few in
+        let few : k.0 ≤ length (map (λ (a : SubmittedCommand). a.command) asked) = subst (λ (n : ℕ). k.0 ≤ n) (sym (length-map asked (λ (a : SubmittedCommand). a.command))) k.1 in
+        let same : take k.0 commands ≡ take k.0 (map (λ (a : SubmittedCommand). a.command) asked) =
+        ap (take k.0) (sym in_order) ∙ take-append-le k.0 (map (λ (a : SubmittedCommand). a.command) asked) rest few in
         (k.0, k.2 array ∙ ap (λ (cs : List Command). after_commands old.core.device cs array) (sym same))
 
     module _ (new : Volume S B K T) (kept_new : IsSameDevice old.core new.core) (tape_new : words new.tape ≡ words old.tape) (acts : List Act)
@@ -125,13 +125,13 @@ module _ {S B K T : Type 0} (cipher : S → Cipher) (words : T → ℕ → ℕ �
           (λ may_lie world array between later h first second. let k = first_ones array in (k.0, second ∙ ap (array_with old.core.device asked) first ∙ k.1)))
 
       -- all were accepted, and each has a reply
-      module _ (settled : IsSettled mid.core.state) (alive : mid.core.state.failure ≡ None) (replies : List Reply) (given : flat_map replies_of acts ≡ replies) (many : length replies ≡ length t.queue) where
+      module _ (no_work : HasNoWork mid.core.state) (alive : mid.core.state.failure ≡ None) (replies : List Reply) (given : flat_map replies_of acts ≡ replies) (many : length replies ≡ length t.queue) where
         abbrev pub Right : List Submission → Bool → (ℕ → List ℕ) → (ℕ → List ℕ) → Type 0
         Right ys may_lie array later = ((n : ℕ) × (later ≡ after_commands old.core.device (take n commands) array)) × (later ≡ array_with old.core.device asked array)
             × ((bodies replies ≡ bodies_from old.core.device (map (λ (y : Submission). y.command) ys) array) ⊎ ((may_lie ≡ true) × (NoneFailed replies → ⊥)))
 
         pub all_replied : (ys : List Submission) → t.queue ≡ ys → Goes (Right ys) new
-        all_replied ys queue = as_new (joined_calls resumed (replies_go_on batches reads_back are v tape_words asked acts 0 mid.core.state t mid.link mid.keeper there replies settled alive chain does given many ys queue)
+        all_replied ys queue = as_new (joined_calls resumed (replies_go_on batches reads_back are v tape_words asked acts 0 mid.core.state t mid.link mid.keeper there replies no_work alive chain does given many ys queue)
             (λ may_lie world array between later h first second.
             let k = first_ones array in (
               (k.0, second.0 ∙ ap (array_with old.core.device asked) first ∙ k.1),
@@ -149,16 +149,16 @@ module _ {S B K T : Type 0} (cipher : S → Cipher) (words : T → ℕ → ℕ �
         let taken = asked_taken batches reads_back are v tape_words asked 0 mid.core.state t mid.link mid.keeper chain in
         let done = acts_taken batches reads_back are v tape_words acts (process t mid.link mid.keeper) there does in
         let one = one_refused v tape_words 0 asked few in
-        let both = folds_join {P = Running B K} {A = ProcessStep} (TakesStep batches reads_back) (running cipher words old) (at here) (at (process t mid.link mid.keeper)) first.0 (map {B = ProcessStep} Asks asked) first.1 taken in
-        let all = folds_join {P = Running B K} {A = ProcessStep} (TakesStep batches reads_back) (running cipher words old) (at (process t mid.link mid.keeper)) (at there) (first.0 ++ map {B = ProcessStep} Asks asked) (map {B = ProcessStep} Acts acts) both done in
-        let split : map {B = ProcessStep} Asks asked ≡ map {B = ProcessStep} Asks one.0 ++ Asks one.2 ∷ map {B = ProcessStep} Asks one.1 =
-        ap (λ (l : List Asked). map {B = ProcessStep} Asks l) one.4 ∙ map-append {B = ProcessStep} Asks one.0 (one.2 ∷ one.1) in
-        let where_it_is : (first.0 ++ map {B = ProcessStep} Asks asked) ++ map {B = ProcessStep} Acts acts ≡ (first.0 ++ map {B = ProcessStep} Asks one.0) ++ Asks one.2 ∷ (map {B = ProcessStep} Asks one.1 ++ map {B = ProcessStep} Acts acts) =
+        let both = folds_join {P = Running B K} {A = ProcessStep} (TakesStep batches reads_back) (running cipher words old) (at here) (at (process t mid.link mid.keeper)) first.0 (map {B = ProcessStep} Takes asked) first.1 taken in
+        let all = folds_join {P = Running B K} {A = ProcessStep} (TakesStep batches reads_back) (running cipher words old) (at (process t mid.link mid.keeper)) (at there) (first.0 ++ map {B = ProcessStep} Takes asked) (map {B = ProcessStep} Acts acts) both done in
+        let split : map {B = ProcessStep} Takes asked ≡ map {B = ProcessStep} Takes one.0 ++ Takes one.2 ∷ map {B = ProcessStep} Takes one.1 =
+        ap (λ (l : List SubmittedCommand). map {B = ProcessStep} Takes l) one.4 ∙ map-append {B = ProcessStep} Takes one.0 (one.2 ∷ one.1) in
+        let where_it_is : (first.0 ++ map {B = ProcessStep} Takes asked) ++ map {B = ProcessStep} Acts acts ≡ (first.0 ++ map {B = ProcessStep} Takes one.0) ++ Takes one.2 ∷ (map {B = ProcessStep} Takes one.1 ++ map {B = ProcessStep} Acts acts) =
         ap (λ (l : List ProcessStep). (first.0 ++ l) ++ map {B = ProcessStep} Acts acts) split
-        ∙ ap (λ (l : List ProcessStep). l ++ map {B = ProcessStep} Acts acts) (sym (append_assoc first.0 (map {B = ProcessStep} Asks one.0) (Asks one.2 ∷ map {B = ProcessStep} Asks one.1)))
-        ∙ append_assoc (first.0 ++ map {B = ProcessStep} Asks one.0) (Asks one.2 ∷ map {B = ProcessStep} Asks one.1) (map {B = ProcessStep} Acts acts) in
+        ∙ ap (λ (l : List ProcessStep). l ++ map {B = ProcessStep} Acts acts) (sym (append_assoc first.0 (map {B = ProcessStep} Takes one.0) (Takes one.2 ∷ map {B = ProcessStep} Takes one.1)))
+        ∙ append_assoc (first.0 ++ map {B = ProcessStep} Takes one.0) (Takes one.2 ∷ map {B = ProcessStep} Takes one.1) (map {B = ProcessStep} Acts acts) in
         subst (λ (r : Running B K). Stops batches reads_back (running cipher words old) r) (sym (same_running cipher words old new kept_new tape_new))
-        ((first.0 ++ map {B = ProcessStep} Asks asked) ++ map {B = ProcessStep} Acts acts, all, inr (inr (first.0 ++ map {B = ProcessStep} Asks one.0, map {B = ProcessStep} Asks one.1 ++ map {B = ProcessStep} Acts acts, one.2, one.3, where_it_is)))
+        ((first.0 ++ map {B = ProcessStep} Takes asked) ++ map {B = ProcessStep} Acts acts, all, inr (inr (first.0 ++ map {B = ProcessStep} Takes one.0, map {B = ProcessStep} Takes one.1 ++ map {B = ProcessStep} Acts acts, one.2, one.3, where_it_is)))
 
 -- the same, from what the calls say: those of the core were submitted, and then `perform` was called
 module _ {S B K T : Type 0} (cipher : S → Cipher) (words : T → ℕ → ℕ → List ℕ) (batches : B → List (List ℕ) → BatchOutcome → List Exchange → B → Type 0) (reads_back : K → List ℕ → Type 0) (are : AreBatches batches)
@@ -170,16 +170,16 @@ module _ {S B K T : Type 0} (cipher : S → Cipher) (words : T → ℕ → ℕ �
 
   -- those of the first commands that were submitted
   abbrev pub FrontAsked : Type 0
-  FrontAsked = (asked : List Asked) × (rest : List Command) × (map (λ (a : Asked). a.command) asked ++ rest ≡ commands)
-      × AreAsked (scheme_of cipher mid.core) (words mid.tape) 0 mid.core.state asked core.state
+  FrontAsked = (asked : List SubmittedCommand) × (rest : List Command) × (map (λ (a : SubmittedCommand). a.command) asked ++ rest ≡ commands)
+      × AreSubmitted (scheme_of cipher mid.core) (words mid.tape) 0 mid.core.state asked core.state
 
   -- all of them were
   abbrev pub AllAsked : List Note → Type 0
-  AllAsked notes = (asked : List Asked) × (map (λ (a : Asked). a.command) asked ≡ commands) × (map (λ (a : Asked). a.shown.note) asked ≡ notes)
-      × AreAsked (scheme_of cipher mid.core) (words mid.tape) 0 mid.core.state asked core.state
+  AllAsked notes = (asked : List SubmittedCommand) × (map (λ (a : SubmittedCommand). a.command) asked ≡ commands) × (map (λ (a : SubmittedCommand). a.shown.note) asked ≡ notes)
+      × AreSubmitted (scheme_of cipher mid.core) (words mid.tape) 0 mid.core.state asked core.state
 
   abbrev pub front_of : (notes : List Note) → AllAsked notes → FrontAsked
-  front_of notes k = (k.0, [], append-nil (map (λ (a : Asked). a.command) k.0) ∙ k.1, k.3)
+  front_of notes k = (k.0, [], append-nil (map (λ (a : SubmittedCommand). a.command) k.0) ∙ k.1, k.3)
 
   kept_core : IsSameDevice old.core core
   kept_core = same_trans old.core mid.core core kept kept_on
@@ -207,7 +207,7 @@ module _ {S B K T : Type 0} (cipher : S → Cipher) (words : T → ℕ → ℕ �
     performed_stops notes k few =
         let f = front_of notes k in
         let count : accepted_in (scheme_of cipher old.core) (words old.tape) 0 k.0 ≡ count_by is_accepted notes = ap (λ (ns : List Note). count_by is_accepted ns) k.2 in
-        let size : length k.0 ≡ length commands = sym (length-map k.0 (λ (a : Asked). a.command)) ∙ ap length k.1 in
+        let size : length k.0 ≡ length commands = sym (length-map k.0 (λ (a : SubmittedCommand). a.command)) ∙ ap length k.1 in
         refused_stops cipher words batches reads_back are old mid kept tape goes commands fits k.0 f.1 f.2 core.state (chain_under cipher words batches reads_back are old mid kept tape goes k.0 core.state k.3)
         new (same_trans old.core core after kept_core kept_then) (same_tape ∙ tape) acts does_under (omega (arith, count, size, few))
 
@@ -224,23 +224,23 @@ module _ {S B K T : Type 0} (cipher : S → Cipher) (words : T → ℕ → ℕ �
         let chain = chain_under cipher words batches reads_back are old mid kept tape goes k.0 core.state k.3 in
         let taken = asked_taken batches reads_back are v ws k.0 0 mid.core.state core.state mid.link mid.keeper chain in
         let done = acts_taken batches reads_back are v ws acts (process core.state mid.link mid.keeper) (process after.state link keeper) does_under in
-        let both = folds_join {P = Running B K} {A = ProcessStep} (TakesStep batches reads_back) (running cipher words old) here asked first.0 (map {B = ProcessStep} Asks k.0) to_here taken in
-        let all = folds_join {P = Running B K} {A = ProcessStep} (TakesStep batches reads_back) (running cipher words old) asked there (first.0 ++ map {B = ProcessStep} Asks k.0) (map {B = ProcessStep} Acts acts) both done in
+        let both = folds_join {P = Running B K} {A = ProcessStep} (TakesStep batches reads_back) (running cipher words old) here asked first.0 (map {B = ProcessStep} Takes k.0) to_here taken in
+        let all = folds_join {P = Running B K} {A = ProcessStep} (TakesStep batches reads_back) (running cipher words old) asked there (first.0 ++ map {B = ProcessStep} Takes k.0) (map {B = ProcessStep} Acts acts) both done in
         subst (λ (r : Running B K). Stops batches reads_back (running cipher words old) r) (sym (same_running cipher words old new (same_trans old.core core after kept_core kept_then) (same_tape ∙ tape))) (
-          (first.0 ++ map {B = ProcessStep} Asks k.0) ++ map {B = ProcessStep} Acts acts,
+          (first.0 ++ map {B = ProcessStep} Takes k.0) ++ map {B = ProcessStep} Acts acts,
           all,
           elim why [
             | inl stalled ↦ inl stalled
             | inr failed ↦ inr (inl (
-              (first.0 ++ map {B = ProcessStep} Asks k.0) ++ map {B = ProcessStep} Acts failed.0,
-              ap (λ (l : List Act). (first.0 ++ map {B = ProcessStep} Asks k.0) ++ map {B = ProcessStep} Acts l) failed.1
-                  ∙ ap (λ (l : List ProcessStep). (first.0 ++ map {B = ProcessStep} Asks k.0) ++ l) (map-append {B = ProcessStep} Acts failed.0 (Keeps false ∷ []))
-                  ∙ sym (append_assoc (first.0 ++ map {B = ProcessStep} Asks k.0) (map {B = ProcessStep} Acts failed.0) (Acts (Keeps false) ∷ [])),
+              (first.0 ++ map {B = ProcessStep} Takes k.0) ++ map {B = ProcessStep} Acts failed.0,
+              ap (λ (l : List Act). (first.0 ++ map {B = ProcessStep} Takes k.0) ++ map {B = ProcessStep} Acts l) failed.1
+                  ∙ ap (λ (l : List ProcessStep). (first.0 ++ map {B = ProcessStep} Takes k.0) ++ l) (map-append {B = ProcessStep} Acts failed.0 (Keeps false ∷ []))
+                  ∙ sym (append_assoc (first.0 ++ map {B = ProcessStep} Takes k.0) (map {B = ProcessStep} Acts failed.0) (Acts (Keeps false) ∷ [])),
             ))
           ],
         )
 
-    module _ (notes : List Note) (k : AllAsked notes) (settled : IsSettled mid.core.state) (alive : mid.core.state.failure ≡ None) (replies : List Reply) (given : flat_map replies_of acts ≡ replies)
+    module _ (notes : List Note) (k : AllAsked notes) (no_work : HasNoWork mid.core.state) (alive : mid.core.state.failure ≡ None) (replies : List Reply) (given : flat_map replies_of acts ≡ replies)
         (many : length replies ≡ length core.state.queue) where
       right : (ys : List Submission) → core.state.queue ≡ ys
           → GoesOn (Had batches reads_back) HostHears HoldsArray (running cipher words old)
@@ -249,7 +249,7 @@ module _ {S B K T : Type 0} (cipher : S → Cipher) (words : T → ℕ → ℕ �
       right ys queue =
           let f = front_of notes k in
           all_replied cipher words batches reads_back are old mid kept tape goes commands fits k.0 f.1 f.2 core.state (chain_under cipher words batches reads_back are old mid kept tape goes k.0 core.state k.3)
-          new (same_trans old.core core after kept_core kept_then) (same_tape ∙ tape) acts does_under settled alive replies given many ys queue
+          new (same_trans old.core core after kept_core kept_then) (same_tape ∙ tape) acts does_under no_work alive replies given many ys queue
 
       -- a reply says that the device failed: that was a lie
       pub lied : (NoneFailed replies → ⊥) → GoesOn (Had batches reads_back) HostHears HoldsArray (running cipher words old) (λ may_lie array later. SomeDone may_lie array later × (may_lie ≡ true)) (running cipher words new)
@@ -263,9 +263,9 @@ module _ {S B K T : Type 0} (cipher : S → Cipher) (words : T → ℕ → ℕ �
       all_done none enough count =
           let here = chain_under cipher words batches reads_back are old mid kept tape goes k.0 core.state k.3 in
           let counted : accepted_in (scheme_of cipher old.core) (words old.tape) 0 k.0 ≡ count_by is_accepted notes = ap (λ (ns : List Note). count_by is_accepted ns) k.2 in
-          let size : length k.0 ≡ length commands = sym (length-map k.0 (λ (a : Asked). a.command)) ∙ ap length k.1 in
+          let size : length k.0 ≡ length commands = sym (length-map k.0 (λ (a : SubmittedCommand). a.command)) ∙ ap length k.1 in
           let whole = all_accepted (scheme_of cipher old.core) (words old.tape) 0 k.0 mid.core.state core.state here (omega (arith, counted, size, enough, many, count)) in
-          let queue : core.state.queue ≡ whole.0.waiting = whole.0.queue ∙ ap (λ (q : List Submission). q ++ whole.0.waiting) (resting mid.core.state settled alive) in
+          let queue : core.state.queue ≡ whole.0.waiting = whole.0.queue ∙ ap (λ (q : List Submission). q ++ whole.0.waiting) (resting mid.core.state no_work alive) in
           weaker (right whole.0.waiting queue) (λ may_lie world array later h step. (
             elim step.2 [
               | inl as_told ↦ as_told ∙ ap (λ (cs : List Command). bodies_from old.core.device cs array) (whole.0.commands ∙ k.1)
@@ -282,7 +282,7 @@ module _ {S B K T : Type 0} (cipher : S → Cipher) (words : T → ℕ → ℕ �
           let v = scheme_of cipher old.core in
           let chain = chain_under cipher words batches reads_back are old mid kept tape goes k.0 core.state k.3 in
           let counted : accepted_in v (words old.tape) 0 k.0 ≡ count_by is_accepted notes = ap (λ (ns : List Note). count_by is_accepted ns) k.2 in
-          let size : length k.0 ≡ length commands = sym (length-map k.0 (λ (a : Asked). a.command)) ∙ ap length k.1 in
+          let size : length k.0 ≡ length commands = sym (length-map k.0 (λ (a : SubmittedCommand). a.command)) ∙ ap length k.1 in
           let whole = all_accepted v (words old.tape) 0 k.0 mid.core.state core.state chain (omega (arith, counted, size, enough, many, count)) in
           let there : Process B K = process after.state link keeper in
           let does_so : DoesAll v batches reads_back (process core.state mid.link mid.keeper) (Keeps true ∷ rest) there =

@@ -16,7 +16,7 @@ use Rattle.oram_rounds.specs.Process.Act.{Keeps}
 use Rattle.oram_volume.specs.Blocks.{IsLaidOut}
 use Rattle.oram_rounds.specs.ProcessSteps.{ProcessStep, exchanges_in}
 use Rattle.oram_volume.specs.CarriedOut.{Had, Stops, TakesStep, TakesSteps}
-use Rattle.oram_rounds.specs.ProcessSteps.ProcessStep.{Acts, Asks}
+use Rattle.oram_rounds.specs.ProcessSteps.ProcessStep.{Acts, Takes}
 use Rattle.oram_volume.specs.DiskCalls.{VolumeGoesOn, VolumeKeepsOn}
 use Rattle.oram_volume.specs.HeldArrays.{HostHears, HoldsArray, KeepsArray, Running, running}
 use Rattle.oram_volume.specs.declared.volume.Volume.{Volume}
@@ -48,7 +48,7 @@ module _ {B K : Type 0} (batches : B → List (List ℕ) → BatchOutcome → Li
           refused.1,
           refused.2,
           refused.3,
-          ap (λ (l : List ProcessStep). steps ++ l) refused.4 ∙ sym (append_assoc steps refused.0 (Asks refused.2 ∷ refused.1)),
+          ap (λ (l : List ProcessStep). steps ++ l) refused.4 ∙ sym (append_assoc steps refused.0 (Takes refused.2 ∷ refused.1)),
         ))
       ]
     ],

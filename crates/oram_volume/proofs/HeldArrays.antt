@@ -19,13 +19,13 @@ use Rattle.oram_rounds.specs.Process.{Act, Does, DoesAll, IsSafe, Process, earli
 use Rattle.oram_rounds.specs.Process.Act.{Calls, GoesAhead, Hears, Keeps, Misses}
 use Rattle.oram_rounds.specs.Rounds.{Round, waiting}
 use Rattle.oram_rounds.specs.Service.{WillHoldAfter}
-use Rattle.oram_rounds.specs.Start.{AreAsked, Asked, array_with}
-use Rattle.oram_rounds.proofs.Asked.{asked_is_submitted}
+use Rattle.oram_rounds.specs.Start.{AreSubmitted, SubmittedCommand, array_with}
+use Rattle.oram_rounds.proofs.AllSubmitted.{submitted_to_processes}
 use Rattle.oram_rounds.proofs.Safety.{acts_are_safe}
 use Rattle.oram_rounds.proofs.Start.{held_is_safe, submitted_is_safe}
 use Rattle.oram_rounds.specs.ProcessSteps.{ProcessStep, exchanges_in}
 use Rattle.oram_volume.specs.CarriedOut.{Had, Stops, TakesStep, TakesSteps}
-use Rattle.oram_rounds.specs.ProcessSteps.ProcessStep.{Acts, Asks}
+use Rattle.oram_rounds.specs.ProcessSteps.ProcessStep.{Acts, Takes}
 use Rattle.oram_volume.specs.HeldArrays.{HeldDevicesHold, HoldsArray, HostBeside, HostHears, KeepsArray, Running}
 
 -- the host goes through exchanges
@@ -71,8 +71,8 @@ module _ {B K : Type 0} (batches : B → List (List ℕ) → BatchOutcome → Li
   acts_taken [] p q does = ap at does
   acts_taken (act ∷ acts) p q does = (at does.0, (refl, refl, does.1), acts_taken acts does.0 q does.2)
 
-  pub asked_taken : (asked : List Asked) (session : ℕ) (s t : State) (l : Round B) (k : K) → AreAsked v words session s asked t
-      → TakesSteps batches reads_back (at (process s l k)) (map {B = ProcessStep} Asks asked) (at (process t l k))
+  pub asked_taken : (asked : List SubmittedCommand) (session : ℕ) (s t : State) (l : Round B) (k : K) → AreSubmitted v words session s asked t
+      → TakesSteps batches reads_back (at (process s l k)) (map {B = ProcessStep} Takes asked) (at (process t l k))
   asked_taken [] session s t l k same = ap (λ (c : State). at (process c l k)) same
   asked_taken (a ∷ asked) session s t l k all =
       (at (process all.0 l k), (refl, refl, (all.1.2, refl, refl), all.1.1), asked_taken asked session all.0 t l k all.2)
@@ -81,18 +81,18 @@ module _ {B K : Type 0} (batches : B → List (List ℕ) → BatchOutcome → Li
   of_acts [] = refl
   of_acts (act ∷ acts) = ap (λ (es : List Exchange). exchanges_of act ++ es) (of_acts acts)
 
-  of_asked : (asked : List Asked) → flat_map exchanges_in (map {B = ProcessStep} Asks asked) ≡ []
+  of_asked : (asked : List SubmittedCommand) → flat_map exchanges_in (map {B = ProcessStep} Takes asked) ≡ []
   of_asked [] = refl
   of_asked (a ∷ asked) = of_asked asked
 
   -- commands are submitted, and then acts are done
-  pub had : (asked : List Asked) (acts : List Act) (session : ℕ) (s t : State) (l : Round B) (k : K) (q : Process B K) → AreAsked v words session s asked t
+  pub had : (asked : List SubmittedCommand) (acts : List Act) (session : ℕ) (s t : State) (l : Round B) (k : K) (q : Process B K) → AreSubmitted v words session s asked t
       → DoesAll v batches reads_back (process t l k) acts q → Had batches reads_back (at (process s l k)) (flat_map exchanges_of acts) (at q)
   had asked acts session s t l k q chain does = (
-    map {B = ProcessStep} Asks asked ++ map {B = ProcessStep} Acts acts,
-    folds_join {P = Running B K} (TakesStep batches reads_back) (at (process s l k)) (at (process t l k)) (at q) (map {B = ProcessStep} Asks asked) (map {B = ProcessStep} Acts acts)
+    map {B = ProcessStep} Takes asked ++ map {B = ProcessStep} Acts acts,
+    folds_join {P = Running B K} (TakesStep batches reads_back) (at (process s l k)) (at (process t l k)) (at q) (map {B = ProcessStep} Takes asked) (map {B = ProcessStep} Acts acts)
         (asked_taken asked session s t l k chain) (acts_taken acts (process t l k) q does),
-    flat_map-append exchanges_in (map {B = ProcessStep} Asks asked) (map {B = ProcessStep} Acts acts)
+    flat_map-append exchanges_in (map {B = ProcessStep} Takes asked) (map {B = ProcessStep} Acts acts)
         ∙ ap (λ (es : List Exchange). es ++ flat_map exchanges_in (map {B = ProcessStep} Acts acts)) (of_asked asked) ∙ of_acts acts,
   )
 
@@ -156,12 +156,12 @@ module _ {B K : Type 0} (batches : B → List (List ℕ) → BatchOutcome → Li
         }
 
     -- once commands were submitted it holds the array after those that were accepted
-    pub asked_hold : (asked : List Asked) (session : ℕ) (s t : State) (l : Round B) (k : K) (w : HostBeside) (array : ℕ → List ℕ) → AreAsked v words session s asked t
+    pub asked_hold : (asked : List SubmittedCommand) (session : ℕ) (s t : State) (l : Round B) (k : K) (w : HostBeside) (array : ℕ → List ℕ) → AreSubmitted v words session s asked t
         → Holds (process s l k) w array → Holds (process t l k) w (array_with v.device asked array)
     asked_hold asked session s t l k w array chain h =
         held_by (process t l k) w _ (array_with v.device asked array) h.same h.device
         (submitted_is_safe B Nothing may_lie v asked (process s l k) (process t l k) w.host array h.device (safe_by (process s l k) w array h)
-        (asked_is_submitted B K v words session asked s t l k chain))
+        (submitted_to_processes B K v words session asked s t l k chain))
 
   abbrev pub Goes : Process B K → (Bool → (ℕ → List ℕ) → (ℕ → List ℕ) → Type 0) → Process B K → Type 0
   Goes p step q = GoesOn (Had batches reads_back) HostHears HoldsArray (at p) step (at q)
@@ -172,7 +172,7 @@ module _ {B K : Type 0} (batches : B → List (List ℕ) → BatchOutcome → Li
       (λ may_lie w later run array h. (array, refl, acts_hold may_lie acts p q w later array does run h))
 
   -- submissions, and then acts
-  pub asked_go_on : (asked : List Asked) (acts : List Act) (session : ℕ) (s t : State) (l : Round B) (k : K) (q : Process B K) → AreAsked v words session s asked t
+  pub asked_go_on : (asked : List SubmittedCommand) (acts : List Act) (session : ℕ) (s t : State) (l : Round B) (k : K) (q : Process B K) → AreSubmitted v words session s asked t
       → DoesAll v batches reads_back (process t l k) acts q → Goes (process s l k) (λ _ array later. later ≡ array_with v.device asked array) q
   asked_go_on asked acts session s t l k q chain does = one_call (flat_map exchanges_of acts) (had asked acts session s t l k q chain does)
       (λ may_lie w later run array h. (
@@ -182,7 +182,7 @@ module _ {B K : Type 0} (batches : B → List (List ℕ) → BatchOutcome → Li
       ))
 
   -- Submissions, and then acts that begin with a keeping: what the process holds then is kept.
-  pub kept_go_on : (asked : List Asked) (acts : List Act) (session : ℕ) (s t : State) (l : Round B) (k : K) (q : Process B K) → AreAsked v words session s asked t
+  pub kept_go_on : (asked : List SubmittedCommand) (acts : List Act) (session : ℕ) (s t : State) (l : Round B) (k : K) (q : Process B K) → AreSubmitted v words session s asked t
       → DoesAll v batches reads_back (process t l k) (Keeps true ∷ acts) q
       → KeepsOn (Had batches reads_back) HostHears HoldsArray (KeepsArray reads_back) (at (process s l k)) (Unit {0}) (λ _ array later. later ≡ array_with v.device asked array) (at q)
   kept_go_on asked acts session s t l k q chain does = one_kept (flat_map exchanges_of acts) (had asked (Keeps true ∷ acts) session s t l k q chain does)

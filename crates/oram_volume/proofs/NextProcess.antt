@@ -15,8 +15,8 @@ use Rattle.oram_volume.specs.NextProcess.{BegunDevicesHold, KeptBytesOutlast, ho
 use Rattle.oram_volume.proofs.HeldArrays.{Nothing}
 
 pub begun_devices_hold : (B K : Type 0) → BegunDevicesHold B K
-begun_devices_hold B K may_lie v file host before array bytes_before bytes device k laid_before laid stores core short is words inner keeper =
-    let same = one_process v.cipher.overhead v.device v.device file k.stores stores k.core core short k.file is in
+begun_devices_hold B K may_lie v file host before array bytes_before bytes device k laid_before laid stores core is words inner keeper =
+    let same = one_process v.cipher.overhead v.device v.device file k.stores stores k.core core k.file is in
     elim (begun_is_safe B {K = K} Nothing may_lie v inner stores core keeper file host before array k same.0 same.2 (λ other back. absurd back)) [
       | inl safe ↦ inl (holds before bytes_before safe laid_before)
       | inr safe ↦ inr (holds array bytes safe laid)
@@ -31,9 +31,9 @@ begun_devices_hold B K may_lie v file host before array bytes_before bytes devic
     }
 
 pub kept_bytes_outlast : {B K : Type 0} (batches : B → List (List ℕ) → BatchOutcome → List Exchange → B → Type 0) (reads_back : K → List ℕ → Type 0) → KeptBytesOutlast batches reads_back
-kept_bytes_outlast {B} {K} batches reads_back are may_lie p w bytes h act file exchanges after ends run stores core short is words inner keeper =
+kept_bytes_outlast {B} {K} batches reads_back are may_lie p w bytes h act file exchanges after ends run stores core is words inner keeper =
     let k = ends_are_safe batches reads_back are may_lie p.scheme p.process act file exchanges w.host after h.array h.array h.keeps.device h.keeps.safe ends run in
-    elim (begun_devices_hold B K may_lie p.scheme file after h.array h.array bytes bytes h.keeps.device k h.laid h.laid stores core short is words inner keeper) [
+    elim (begun_devices_hold B K may_lie p.scheme file after h.array h.array bytes bytes h.keeps.device k h.laid h.laid stores core is words inner keeper) [
       | inl held ↦ held
       | inr held ↦ held
     ]

@@ -23,14 +23,14 @@ use Rattle.oram_semantics.specs.declared.events.Submission.{Submission}
 use Rattle.oram_core.specs.PlainSteps.{Done as Did, submitted_by}
 use Rattle.oram_core.specs.Steps.{Steps, did}
 use Rattle.oram_session.specs.Honesty.{HasFailed}
-use Rattle.oram_session.specs.Settled.{IsSettled, is_settled_by}
-use Rattle.oram_rounds.specs.Start.{AreAsked, Asked, IsAsked, array_if, array_with}
+use Rattle.oram_session.specs.CoreWork.{HasNoWork, has_no_work_in}
+use Rattle.oram_rounds.specs.Start.{AreSubmitted, SubmittedCommand, IsSubmitted, array_if, array_with}
 use Rattle.oram_volume.specs.CarriedOut.{after_commands}
 use Rattle.oram_volume.specs.RangeCommands.{FitsDevice}
 
 -- in a failed core nothing waits
-pub failed_settles : (s : State) → HasFailed s → IsSettled s
-failed_settles s failed = ap (λ (f : Option Reason). is_settled_by (status_by f s.queue s.lost)) failed.1
+pub failed_settles : (s : State) → HasFailed s → HasNoWork s
+failed_settles s failed = ap (λ (f : Option Reason). has_no_work_in (status_by f s.queue s.lost)) failed.1
 
 pub not_failed : (s : State) → is_some s.failure ≡ false → HasFailed s → ⊥
 not_failed s is failed = let yes : true ≡ false = sym (ap (λ (f : Option Reason). is_some f) failed.1) ∙ is in cc
@@ -65,14 +65,14 @@ refusal_fits d true waiting taken c words fits = refl
 refusal_fits d false waiting taken c words fits = rw (fit_address d c fits) (rw (fit_length d c fits) refl)
 
 -- the command is accepted, and stands at the end of the queue; or it is refused, and nothing changes
-abbrev Joins : State → Asked → State → Type 0
+abbrev Joins : State → SubmittedCommand → State → Type 0
 Joins s a t = (is_accepted a.shown.note ≡ true) × (y : Submission) × (y.command ≡ a.command) × (t.queue ≡ s.queue ++ y ∷ [])
     × ((d : Sizes) (array : ℕ → List ℕ) → array_if a.shown.note d a.command array ≡ array_after d a.command array)
 
-abbrev Stays : State → Asked → State → Type 0
+abbrev Stays : State → SubmittedCommand → State → Type 0
 Stays s a t = (is_accepted a.shown.note ≡ false) × (t ≡ s) × ((d : Sizes) (array : ℕ → List ℕ) → array_if a.shown.note d a.command array ≡ array)
 
-stepped : (v : Scheme) (s t : State) (a : Asked) → Steps v s (Submit a.session a.command a.words) a.shown t
+stepped : (v : Scheme) (s t : State) (a : SubmittedCommand) → Steps v s (Submit a.session a.command a.words) a.shown t
     → ((refusal_of v.device (is_over (status_in s)) (length s.queue) s.next a.command a.words ≡ None) × Joins s a t)
     ⊎ ((e : Refusal) × (refusal_of v.device (is_over (status_in s)) (length s.queue) s.next a.command a.words ≡ Some e) × Stays s a t)
 stepped v s t a step =
@@ -91,8 +91,8 @@ stepped v s t a step =
         inr (e, some, (ap is_accepted note, ap (λ (d : Did). d.state) same, λ d array. ap (λ (n : Note). array_if n d a.command array) note))
 
 module _ (v : Scheme) (words : ℕ → ℕ → List ℕ) (session : ℕ) where
-  abbrev pub AllFit : List Asked → Type 0
-  AllFit asked = All (FitsDevice v.device) (map (λ (a : Asked). a.command) asked)
+  abbrev pub AllFit : List SubmittedCommand → Type 0
+  AllFit asked = All (FitsDevice v.device) (map (λ (a : SubmittedCommand). a.command) asked)
 
   -- the words of the next ticket
   abbrev next_words : State → List ℕ
@@ -101,41 +101,41 @@ module _ (v : Scheme) (words : ℕ → ℕ → List ℕ) (session : ℕ) where
   abbrev now_refused : State → Option Refusal
   now_refused s = rest_of v.device (is_over (status_in s)) (length s.queue) s.next (next_words s)
 
-  reason_of : (s t : State) (a : Asked) → FitsDevice v.device a.command → IsAsked v words session s a t
+  reason_of : (s t : State) (a : SubmittedCommand) → FitsDevice v.device a.command → IsSubmitted v words session s a t
       → refusal_of v.device (is_over (status_in s)) (length s.queue) s.next a.command a.words ≡ now_refused s
   reason_of s t a fits step =
       refusal_fits v.device (is_over (status_in s)) (length s.queue) s.next a.command a.words fits
       ∙ ap (λ (ws : List ℕ). rest_of v.device (is_over (status_in s)) (length s.queue) s.next ws) step.1
 
   -- where one is refused, all others are too
-  all_refused : (e : Refusal) (asked : List Asked) (s t : State) → AreAsked v words session s asked t → AllFit asked → now_refused s ≡ Some e
+  all_refused : (e : Refusal) (asked : List SubmittedCommand) (s t : State) → AreSubmitted v words session s asked t → AllFit asked → now_refused s ≡ Some e
       → (array : ℕ → List ℕ) → array_with v.device asked array ≡ array
   all_refused e [] s t all fits is array = refl
   all_refused e (a ∷ asked) s t all fits is array =
       let mid : State = all.0 in
-      let reason = reason_of s mid a (All-head (FitsDevice v.device) a.command (map (λ (b : Asked). b.command) asked) fits) all.1 ∙ is in
+      let reason = reason_of s mid a (All-head (FitsDevice v.device) a.command (map (λ (b : SubmittedCommand). b.command) asked) fits) all.1 ∙ is in
       elim (stepped v s mid a all.1.2) [
         | inl joins ↦ absurd (let both : None ≡ Some e = sym joins.0 ∙ reason in cc)
         | inr stays ↦
             ap (array_with v.device asked) (stays.2.2 v.device array)
-            ∙ all_refused e asked mid t all.2 (All-tail (FitsDevice v.device) a.command (map (λ (b : Asked). b.command) asked) fits) (ap now_refused stays.2.1 ∙ is) array
+            ∙ all_refused e asked mid t all.2 (All-tail (FitsDevice v.device) a.command (map (λ (b : SubmittedCommand). b.command) asked) fits) (ap now_refused stays.2.1 ∙ is) array
       ]
 
   -- so the first ones are accepted, all or some or none, and the array is the one after these
-  pub first_accepted : (asked : List Asked) (s t : State) → AreAsked v words session s asked t → AllFit asked
-      → (n : ℕ) × (n ≤ length asked) × ((array : ℕ → List ℕ) → array_with v.device asked array ≡ after_commands v.device (take n (map (λ (a : Asked). a.command) asked)) array)
+  pub first_accepted : (asked : List SubmittedCommand) (s t : State) → AreSubmitted v words session s asked t → AllFit asked
+      → (n : ℕ) × (n ≤ length asked) × ((array : ℕ → List ℕ) → array_with v.device asked array ≡ after_commands v.device (take n (map (λ (a : SubmittedCommand). a.command) asked)) array)
   first_accepted [] s t all fits = (0, omega arith, λ array. refl)
   first_accepted (a ∷ asked) s t all fits =
       let mid : State = all.0 in
       elim (stepped v s mid a all.1.2) [
         | inl joins ↦
-            let rest = first_accepted asked mid t all.2 (All-tail (FitsDevice v.device) a.command (map (λ (b : Asked). b.command) asked) fits) in (
+            let rest = first_accepted asked mid t all.2 (All-tail (FitsDevice v.device) a.command (map (λ (b : SubmittedCommand). b.command) asked) fits) in (
               suc rest.0,
               (let few : rest.0 ≤ length asked = rest.1 in omega arith),
               λ array. ap (array_with v.device asked) (joins.1.4 v.device array) ∙ rest.2 (array_after v.device a.command array),
             )
         | inr stays ↦
-            let reason = sym (reason_of s mid a (All-head (FitsDevice v.device) a.command (map (λ (b : Asked). b.command) asked) fits) all.1) ∙ stays.1 in (
+            let reason = sym (reason_of s mid a (All-head (FitsDevice v.device) a.command (map (λ (b : SubmittedCommand). b.command) asked) fits) all.1) ∙ stays.1 in (
               0,
               omega arith,
               λ array. all_refused stays.0 (a ∷ asked) s t all fits reason array,
@@ -143,24 +143,24 @@ module _ (v : Scheme) (words : ℕ → ℕ → List ℕ) (session : ℕ) where
       ]
 
   -- how many are accepted
-  abbrev pub accepted_in : List Asked → ℕ
-  accepted_in asked = count_by is_accepted (map (λ (a : Asked). a.shown.note) asked)
+  abbrev pub accepted_in : List SubmittedCommand → ℕ
+  accepted_in asked = count_by is_accepted (map (λ (a : SubmittedCommand). a.shown.note) asked)
 
-  most_accepted : (asked : List Asked) → accepted_in asked ≤ length asked
+  most_accepted : (asked : List SubmittedCommand) → accepted_in asked ≤ length asked
   most_accepted asked =
-      subst (λ (n : ℕ). accepted_in asked ≤ n) (length-map asked (λ (a : Asked). a.shown.note)) (count_by-le-length is_accepted (map (λ (a : Asked). a.shown.note) asked))
+      subst (λ (n : ℕ). accepted_in asked ≤ n) (length-map asked (λ (a : SubmittedCommand). a.shown.note)) (count_by-le-length is_accepted (map (λ (a : SubmittedCommand). a.shown.note) asked))
 
-  counted : (a : Asked) (asked : List Asked) → accepted_in (a ∷ asked) ≡ (if is_accepted a.shown.note then 1 else 0) + accepted_in asked
-  counted a asked = sum_by-cons (λ (n : Note). if is_accepted n then 1 else 0) a.shown.note (map (λ (b : Asked). b.shown.note) asked)
+  counted : (a : SubmittedCommand) (asked : List SubmittedCommand) → accepted_in (a ∷ asked) ≡ (if is_accepted a.shown.note then 1 else 0) + accepted_in asked
+  counted a asked = sum_by-cons (λ (n : Note). if is_accepted n then 1 else 0) a.shown.note (map (λ (b : SubmittedCommand). b.shown.note) asked)
 
   -- where all commands are accepted, they stand in the queue in their order
-  pub record AreQueued (asked : List Asked) (s t : State) : Type 0 where
+  pub record AreQueued (asked : List SubmittedCommand) (s t : State) : Type 0 where
     pub waiting : List Submission
-    pub commands : map (λ (y : Submission). y.command) waiting ≡ map (λ (a : Asked). a.command) asked
+    pub commands : map (λ (y : Submission). y.command) waiting ≡ map (λ (a : SubmittedCommand). a.command) asked
     pub queue : t.queue ≡ s.queue ++ waiting
 
-  pub all_accepted : (asked : List Asked) (s t : State) → AreAsked v words session s asked t → length asked ≤ accepted_in asked
-      → AreQueued asked s t × ((array : ℕ → List ℕ) → array_with v.device asked array ≡ after_commands v.device (map (λ (a : Asked). a.command) asked) array)
+  pub all_accepted : (asked : List SubmittedCommand) (s t : State) → AreSubmitted v words session s asked t → length asked ≤ accepted_in asked
+      → AreQueued asked s t × ((array : ℕ → List ℕ) → array_with v.device asked array ≡ after_commands v.device (map (λ (a : SubmittedCommand). a.command) asked) array)
   all_accepted [] s t all many = (
     record { waiting = []; commands = refl; queue = ap (λ (c : State). c.queue) (sym all) ∙ sym (append-nil s.queue) },
     λ array. refl,
@@ -185,15 +185,15 @@ module _ (v : Scheme) (words : ℕ → ℕ → List ℕ) (session : ℕ) where
       ]
 
   -- where fewer are accepted than were submitted, one of them wasn't accepted
-  pub one_refused : (asked : List Asked) → accepted_in asked < length asked → (before after : List Asked) × (a : Asked) × (is_accepted a.shown.note ≡ false) × (asked ≡ before ++ a ∷ after)
+  pub one_refused : (asked : List SubmittedCommand) → accepted_in asked < length asked → (before after : List SubmittedCommand) × (a : SubmittedCommand) × (is_accepted a.shown.note ≡ false) × (asked ≡ before ++ a ∷ after)
   one_refused [] few = absurd (omega (arith, few))
   one_refused (a ∷ asked) few = by (is_accepted a.shown.note) refl (λ less. one_refused asked less)
     where
       by : (b : Bool) → is_accepted a.shown.note ≡ b
-          → (accepted_in asked < length asked → (before after : List Asked) × (x : Asked) × (is_accepted x.shown.note ≡ false) × (asked ≡ before ++ x ∷ after))
-          → (before after : List Asked) × (x : Asked) × (is_accepted x.shown.note ≡ false) × (a ∷ asked ≡ before ++ x ∷ after)
+          → (accepted_in asked < length asked → (before after : List SubmittedCommand) × (x : SubmittedCommand) × (is_accepted x.shown.note ≡ false) × (asked ≡ before ++ x ∷ after))
+          → (before after : List SubmittedCommand) × (x : SubmittedCommand) × (is_accepted x.shown.note ≡ false) × (a ∷ asked ≡ before ++ x ∷ after)
       by false is more = ([], asked, a, is, refl)
       by true is more =
           let one = counted a asked ∙ ap (λ (b : Bool). (if b then 1 else 0) + accepted_in asked) is in
           let rest = more (omega (arith, one, few)) in
-          (a ∷ rest.0, rest.1, rest.2, rest.3, ap (λ (l : List Asked). a ∷ l) rest.4)
+          (a ∷ rest.0, rest.1, rest.2, rest.3, ap (λ (l : List SubmittedCommand). a ∷ l) rest.4)

@@ -15,8 +15,8 @@ use Rattle.oram_link_laws.specs.Runs.{Exchange}
 use Rattle.oram_rounds.specs.Batches.{BatchOutcome}
 use Rattle.oram_rounds.specs.Process.Act.{Keeps}
 use Rattle.oram_rounds.specs.ProcessSteps.{DoesStep, ProcessStep, exchanges_in}
-use Rattle.oram_rounds.specs.ProcessSteps.ProcessStep.{Acts, Asks}
-use Rattle.oram_rounds.specs.Start.{Asked}
+use Rattle.oram_rounds.specs.ProcessSteps.ProcessStep.{Acts, Takes}
+use Rattle.oram_rounds.specs.Start.{SubmittedCommand}
 use Rattle.oram_volume.specs.HeldArrays.{Running}
 
 -- the replies of an array to commands, one after the other
@@ -33,8 +33,8 @@ after_commands d (c ∷ commands) array = after_commands d commands (array_after
 module _ {B K : Type 0} (batches : B → List (List ℕ) → BatchOutcome → List Exchange → B → Type 0) (reads_back : K → List ℕ → Type 0) where
   -- The process does a step. A command is submitted with the tape's words of the next ticket.
   abbrev pub TakesStep : Running B K → ProcessStep → Running B K → Type 0
-  TakesStep p (Asks a) q =
-      (q.scheme ≡ p.scheme) × (q.words ≡ p.words) × DoesStep p.scheme batches reads_back p.process (Asks a) q.process
+  TakesStep p (Takes a) q =
+      (q.scheme ≡ p.scheme) × (q.words ≡ p.words) × DoesStep p.scheme batches reads_back p.process (Takes a) q.process
       × (a.words ≡ p.words p.process.core.next (2 * trees_of p.scheme.device))
   TakesStep p (Acts act) q = (q.scheme ≡ p.scheme) × (q.words ≡ p.words) × DoesStep p.scheme batches reads_back p.process (Acts act) q.process
 
@@ -51,4 +51,4 @@ module _ {B K : Type 0} (batches : B → List (List ℕ) → BatchOutcome → Li
   Stops p q = (steps : List ProcessStep) × TakesSteps p steps q
       × ((status_in q.process.core ≡ Stalling)
       ⊎ (((before : List ProcessStep) × (steps ≡ before ++ Acts (Keeps false) ∷ []))
-      ⊎ ((before after : List ProcessStep) × (a : Asked) × (is_accepted a.shown.note ≡ false) × (steps ≡ before ++ Asks a ∷ after))))
+      ⊎ ((before after : List ProcessStep) × (a : SubmittedCommand) × (is_accepted a.shown.note ≡ false) × (steps ≡ before ++ Takes a ∷ after))))

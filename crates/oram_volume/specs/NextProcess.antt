@@ -1,5 +1,5 @@
 -- The process that begins with what is read back where another one has ended.
-use Rattle.std.specs.Prelude.{◌≡◌, ◌⊎◌, ℕ, ◌<◌, ◌^◌, Bool, List, [], length}
+use Rattle.std.specs.Prelude.{◌≡◌, ◌⊎◌, ℕ, Bool, List, []}
 use Rattle.oram_geometry.specs.Sizes.{IsDevice}
 use Rattle.oram_host.specs.Host.{Host}
 use Rattle.oram_semantics.specs.Scheme.{Scheme}
@@ -25,7 +25,7 @@ host_of v host = record { scheme = v; host = host }
 abbrev pub BegunDevicesHold : Type 0 → Type 0 → Type 0
 BegunDevicesHold B K = (may_lie : Bool) (v : Scheme) (file : List ℕ) (host : Host) (before array : ℕ → List ℕ) (bytes_before bytes : List ℕ) → IsDevice v.device
     → IsKept may_lie v [] file host before array → IsLaidOut v.device before bytes_before → IsLaidOut v.device array bytes
-    → (stores : List (List ℕ)) (core : State) → length file < 2 ^ 64 → IsFile v file stores core
+    → (stores : List (List ℕ)) (core : State) → IsFile v file stores core
     → (words : ℕ → ℕ → List ℕ) (inner : B) (keeper : K)
     → HoldsBytes may_lie (next_process v words inner stores core keeper) (host_of v host) bytes_before
     ⊎ HoldsBytes may_lie (next_process v words inner stores core keeper) (host_of v host) bytes
@@ -36,5 +36,5 @@ abbrev pub KeptBytesOutlast : {B K : Type 0} → (B → List (List ℕ) → Batc
 KeptBytesOutlast {B} {K} batches reads_back = AreBatches batches
     → (may_lie : Bool) (p : Running B K) (w : HostBeside) (bytes : List ℕ) → KeepsBytes reads_back may_lie p w bytes
     → (act : Act) (file : List ℕ) (exchanges : List Exchange) (after : Host) → EndsIn p.scheme batches reads_back p.process act file exchanges → PlainRun may_lie p.scheme w.host exchanges after
-    → (stores : List (List ℕ)) (core : State) → length file < 2 ^ 64 → IsFile p.scheme file stores core
+    → (stores : List (List ℕ)) (core : State) → IsFile p.scheme file stores core
     → (words : ℕ → ℕ → List ℕ) (inner : B) (keeper : K) → HoldsBytes may_lie (next_process p.scheme words inner stores core keeper) (host_of p.scheme after) bytes

@@ -3,7 +3,7 @@
 ghost use Rattle.std.specs.Prelude.{◌≡◌, ◌≢◌, ◌⊎◌, ◌<◌, ℕ, false, List, [], All, length, map, take, IsOk, IfOk, IfErr, IsErrOf, IsTrue, MatchResult, OnOk};
 ghost use Rattle.oram_core.specs.Core.{IsSameDevice};
 ghost use Rattle.oram_session.specs.Honesty.{HasFailed};
-ghost use Rattle.oram_session.specs.Settled.{IsSettled};
+ghost use Rattle.oram_session.specs.CoreWork.{HasNoWork};
 ghost use Rattle.oram_nbd.specs.Beside.{GoesOn, KeepsOn};
 ghost use Rattle.oram_nbd.specs.Calls.{FailsByLies};
 ghost use Rattle.oram_volume.specs.CarriedOut.{Had, Stops, after_commands, bodies_from};
@@ -76,8 +76,8 @@ impl<S: Sealer, B: BatchLink, K: Keeper, T: Tape> Volume<S, B, K, T> {
     pub fn resume(&mut self, alloc: Global) -> Result<(), DiskFault>
         ensures kept { IsSameDevice self.old.core self.new.core }
         ensures tape { T.words self.new.tape ≡ T.words self.old.tape }
-        ensures settled { OnOk result (IsSettled self.new.core.state) }
-        ensures calm { IsSettled self.old.core.state → IsOk result × (self.new.core ≡ self.old.core) }
+        ensures no_work { OnOk result (HasNoWork self.new.core.state) }
+        ensures calm { HasNoWork self.old.core.state → IsOk result × (self.new.core ≡ self.old.core) }
         ensures goes { GoesOn (Had B.batches K.reads_back) HostHears HoldsArray (running S.cipher T.words self.old)
             (λ _ array later. later ≡ array) (running S.cipher T.words self.new) }
         ensures fault { IfErr result (λ e. e ≢ DiskFault.Failed) }

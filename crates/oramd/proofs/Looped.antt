@@ -9,7 +9,7 @@ use Rattle.oram_wire.specs.FrameStream.{IsBroken, IsUnfinished}
 use Rattle.oram_semantics.specs.Scheme.{Scheme}
 use Rattle.oram_semantics.specs.State.{State}
 use Rattle.oram_session.specs.Outcome.{Outcome}
-use Rattle.oram_session.specs.Sessions.{HasServed}
+use Rattle.oram_session.specs.Sessions.{HasServed, SessionRun}
 use Rattle.oram_session.specs.Tapes.{chacha_words}
 use Rattle.oram_session.specs.Turns.{Turn}
 use Rattle.oram_host.specs.declared.serve_fault.ServeFault.{ServeFault}
@@ -34,9 +34,22 @@ memory_is_not : (q : Result (Unit {0}) Fault) → q ≡ Err OutOfMemory → q �
 memory_is_not q a b = cc
 
 module _ {L : Type 0} (calls : L → List ℕ → Outcome → L → Type 0) (d : Sizes) (key : List ℕ) (trees : ℕ) (from mid to : L) (new after : State) (frames unread replies replies' : List ℕ) where
+  abbrev run : List Turn → List ℕ → SessionRun L
+  run turns part = record {
+    before = (new, mid);
+    turns = turns;
+    after = (after, to);
+    input = Some frames;
+    part = part;
+    rest = Some unread;
+    output = Some replies;
+    more = [];
+    written = Some replies';
+  }
+
   -- the turns that a device of these sizes answered
   abbrev pub Served : List Turn → List ℕ → Type 0
-  Served turns part = HasServed (scheme_at d) calls (chacha_words key trees) 0 (new, mid) turns (after, to) part (Some frames) (Some unread) [] (Some replies) (Some replies')
+  Served turns part = HasServed (scheme_at d) calls (chacha_words key trees) 0 (run turns part)
 
   abbrev pub Answered : List ℕ → Type 0
   Answered part = HasAnswered calls from frames part replies replies' unread to
@@ -44,8 +57,8 @@ module _ {L : Type 0} (calls : L → List ℕ → Outcome → L → Type 0) (d :
   module _ (sized : d ≡ loop_sizes) (zero_key : key ≡ replicate 32 0) (count : trees ≡ trees_of d) (formatted : IsFormatted (scheme_at d) calls from new mid) where
     pub answered : (turns : List Turn) (part : List ℕ) → Served turns part → Answered part
     answered turns part served =
-        let P : Scheme → Type 0 = λ v. HasServed v calls (chacha_words key trees) 0 (new, mid) turns (after, to) part (Some frames) (Some unread) [] (Some replies) (Some replies') in
-        let Q : (ℕ → ℕ → List ℕ) → Type 0 = λ words. HasServed loop_scheme calls words 0 (new, mid) turns (after, to) part (Some frames) (Some unread) [] (Some replies) (Some replies') in
+        let P : Scheme → Type 0 = λ v. HasServed v calls (chacha_words key trees) 0 (run turns part) in
+        let Q : (ℕ → ℕ → List ℕ) → Type 0 = λ words. HasServed loop_scheme calls words 0 (run turns part) in
         let words : chacha_words key trees ≡ loop_words = ap₂ chacha_words zero_key (count ∙ ap trees_of sized) in
         record {
           new = new;

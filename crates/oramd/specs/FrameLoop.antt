@@ -52,4 +52,14 @@ pub record HasAnswered {L : Type 0} (calls : L → List ℕ → Outcome → L �
   pub formatted : IsFormatted loop_scheme calls from new mid
   pub turns : List Turn
   pub after : State
-  pub served : HasServed loop_scheme calls loop_words 0 (new, mid) turns (after, to) part (Some frames) (Some unread) [] (Some replies) (Some replies')
+  pub served : HasServed loop_scheme calls loop_words 0 (record {
+    before = (new, mid);
+    turns = turns;
+    after = (after, to);
+    input = Some frames;
+    part = part;
+    rest = Some unread;
+    output = Some replies;
+    more = [];
+    written = Some replies';
+  })

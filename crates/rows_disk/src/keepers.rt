@@ -1,9 +1,10 @@
 //! What a client keeps of a disk: its file, its keys, and how a keeper fails.
 
+use oram_cli::FileReason;
 use oram_client::{
-    DeedHistory, DiskKey, FileFailure, FileKeeper, FileReason, FileStep, Head, KeyCheck, Place,
-    Salt, SealerKind, disk_identity, key_check, keys_for, put_kept_file, read_kept_file,
-    sealer_key, tape_key,
+    DeedHistory, DiskKey, FileFailure, FileKeeper, FileStep, Head, KeyCheck, Place, Salt,
+    SealerKind, disk_identity, key_check, keys_for, put_kept_file, read_kept_file, sealer_key,
+    tape_key,
 };
 use oram_rounds::Keeper;
 use rows::{Page, RowFault, RowWords, Target, pace_in};
@@ -115,10 +116,12 @@ fn step_in(words: &mut RowWords) -> Result<FileStep, RowFault> {
 
 fn reason_in(words: &mut RowWords) -> Result<FileReason, RowFault> {
     match words.text() {
-        "no_room" => Ok(FileReason::NoRoom),
-        "forbidden" => Ok(FileReason::Forbidden),
         "missing" => Ok(FileReason::Missing),
-        "failed" => Ok(FileReason::Failed),
+        "exists" => Ok(FileReason::Exists),
+        "not_permitted" => Ok(FileReason::NotPermitted),
+        "disk_full" => Ok(FileReason::DiskFull),
+        "folder" => Ok(FileReason::Folder),
+        "other" => Ok(FileReason::Other),
         _ => Err(RowFault::NoRow),
     }
 }

@@ -9,7 +9,7 @@ use oram_rounds::{
     KeptCore, KeptCoreFault, OneByOne, RoundFault, RoundLink, decode_kept, keep, perform,
     record_len, resume, submit_all,
 };
-use oram_session::{ChaChaTape, is_settled};
+use oram_session::{ChaChaTape, has_no_work};
 use rows::RowFault;
 use std::alloc::Global;
 
@@ -129,7 +129,7 @@ impl<'a> Life<'a> {
         commands: Vec<Command>,
         notes: &mut Vec<Note>,
     ) -> Result<Result<Vec<Reply>, RoundFault>, RowFault> {
-        if !is_settled(&self.core) {
+        if !has_no_work(&self.core) {
             return Err(RowFault::NoRow);
         }
         let trees = self.core.device().trees();

@@ -9,7 +9,7 @@ use oram_core::Core;
 use oram_geometry::Device;
 use oram_host::Server;
 use oram_session::{
-    ChaChaTape, Direct, Link, ListTape, ServeFault, Tape, format_device, is_settled, serve,
+    ChaChaTape, Direct, Link, ListTape, ServeFault, Tape, format_device, has_no_work, serve,
 };
 use rows::{Page, RowFault, RowWords};
 use std::alloc::Global;
@@ -47,7 +47,7 @@ pub(crate) fn served<L: Link, T: Tape>(
     given: &mut RowReader,
     sheet: &mut LimitedWriter,
 ) -> Result<Result<u64, ServeFault>, RowFault> {
-    if !is_settled(core) {
+    if !has_no_work(core) {
         return Err(RowFault::NoRow);
     }
     Ok(serve(alloc, given, sheet, core, link, tape, 0))

@@ -6,7 +6,7 @@ ghost use Rattle.oram_wire.specs.HostMessages.{answer_body};
 ghost use Rattle.oram_wire.specs.FrameIo.{GivesFrame};
 ghost use Rattle.oram_wire.specs.declared.host_messages.HostAnswer.{HostAnswer};
 ghost use Rattle.oram_session.specs.Outcome.{outcome_of};
-ghost use Rattle.oram_session.specs.Loopback.{AsksOnce, Carries, IsAsked, IsReturned, longest_frame};
+ghost use Rattle.oram_session.specs.Loopback.{AsksOnce, Carries, IsHandled, IsReturned, longest_frame};
 
 use super::frames::{receive, send};
 use crate::link::{Link, LinkFault};
@@ -80,13 +80,13 @@ fn ask<S: Read + Write>(
     body: &[u8],
 ) -> Result<Vec<u8>, LinkFault>
     ensures ok { IfOk result (λ v. (answer : HostAnswer) × (v.items ≡ answer_body answer)
-        × IsAsked S.remaining S.contents server.old (near.old, far.old) body.now answer server.new (near.new, far.new)) }
+        × IsHandled S.remaining S.contents server.old (near.old, far.old) body.now answer server.new (near.new, far.new)) }
     ensures err { OnErr result (server.new ≡ server.old) }
     ensures fault { IfErr result (λ fault. fault ≢ LinkFault.TooLarge) }
 {
     send(alloc, near, body)?;
-    let asked = receive(alloc, far)?;
-    Ok(server.answer(alloc, &asked)?)
+    let received = receive(alloc, far)?;
+    Ok(server.answer(alloc, &received)?)
 }
 
 /// Sends an answer back to the near end, and returns the bytes that arrive there.
@@ -118,10 +118,10 @@ fn cross<S: Read + Write>(
     body: &[u8],
 ) -> Result<Vec<u8>, LinkFault>
     ensures ok { IfOk result (λ v. (answer : HostAnswer) × (mid : S × S)
-        × IsAsked S.remaining S.contents server.old (near.old, far.old) body.now answer server.new mid
+        × IsHandled S.remaining S.contents server.old (near.old, far.old) body.now answer server.new mid
         × IsReturned S.remaining S.contents mid answer v.items (near.new, far.new)) }
     ensures large { IsErrOf result LinkFault.TooLarge → (answer : HostAnswer)
-        × IsAsked S.remaining S.contents server.old (near.old, far.old) body.now answer server.new (near.new, far.new)
+        × IsHandled S.remaining S.contents server.old (near.old, far.old) body.now answer server.new (near.new, far.new)
         × (longest_frame < length (frame (answer_body answer))) }
     ensures err { OnErr result (AsksOnce server.old server.new) }
 {

@@ -8,7 +8,7 @@ use Rattle.oram_core.specs.Core.{scheme_of}
 use Rattle.oram_core.specs.Steps.{Heard, did}
 use Rattle.oram_session.specs.Exchanges.{Delivery, event_of, IsCutOff}
 use Rattle.oram_session.proofs.CoreSteps.{steps_under, same_trans, answer_noted, stall_noted, stalled_status, heard_is}
-use Rattle.oram_session.proofs.Exchanged.{tried_more, sent, untold, told_then}
+use Rattle.oram_session.proofs.Exchanged.{tried_more, sent, untaken, taken_then}
 use Rattle.oram_rounds.proofs.delivery.deliver.Goals as goal
 use Rattle.oram_rounds.proofs.delivery.deliver.Goals.{in-Stalled, in_default}
 
@@ -93,7 +93,7 @@ returns-in_err-reaction-clause-memory g c = λ _.
     let x : Delivery = record { message = c.args.message.now; stalls = k.stalls; last = e.1.0; replies = [] } in (
       x,
       subst (λ (s : State). IsCutOff v g.L.Link.calls c.args.most (c.args.core.now.state, c.args.link.now) x (s, c.attempt.new.link)) (sym (ap (λ w. w.state) e.0))
-          (untold v g.L.Link.calls c.args.most _ _ _ _ _ _ _ e.1.0 c.requires.waits c.requires.message c.loop-reaction.invariant.few k e.1.1),
+          (untaken v g.L.Link.calls c.args.most _ _ _ _ _ _ _ e.1.0 c.requires.waits c.requires.message c.loop-reaction.invariant.few k e.1.1),
     )
 
 pub returns-in_err-_resent-clause-memory : goal.returns-in_err-_resent-clause-memory
@@ -106,6 +106,6 @@ returns-in_err-_resent-clause-memory g c = λ _.
     let x : Delivery = record { message = c.args.message.now; stalls = k.stalls; last = e.0; replies = c.in_ok-reaction.reaction.replies.items } in (
       x,
       subst (λ (s : State). IsCutOff v g.L.Link.calls c.args.most (c.args.core.now.state, c.args.link.now) x (s, c.attempt.new.link)) (sym (ap (λ w. w.state) c.in_err-_resent.ensures.err))
-          (told_then v g.L.Link.calls c.args.most _ _ _
+          (taken_then v g.L.Link.calls c.args.most _ _ _
           (sent v g.L.Link.calls c.args.most _ _ _ _ _ _ _ _ e.0 (shown_by c.in_ok-reaction.reaction) c.requires.waits c.requires.message c.loop-reaction.invariant.few k e.1 step)),
     )

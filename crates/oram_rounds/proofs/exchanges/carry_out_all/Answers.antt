@@ -10,7 +10,7 @@ use Rattle.oram_semantics.specs.declared.events.Reply.{Reply}
 use Rattle.oram_core.specs.Core.{scheme_of}
 use Rattle.oram_core.specs.PlainSteps.{done}
 use Rattle.oram_session.specs.Exchanges.{IsCutOff, IsSent}
-use Rattle.oram_session.specs.Settled.{answers_left}
+use Rattle.oram_session.specs.CoreWork.{answers_left}
 use Rattle.oram_session.proofs.CoreSteps.{left_heard, same_scheme, same_trans}
 use Rattle.oram_session.proofs.Resumed.{HasBody, heard_bodies, heard_count, heard_going, some_at_work}
 use Rattle.oram_rounds.specs.Process.{HasTalked}

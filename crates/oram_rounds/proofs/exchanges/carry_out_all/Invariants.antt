@@ -3,7 +3,7 @@ use Rattle.std.specs.List.{All}
 use Rattle.oram_semantics.specs.Progress.Status.{Waiting}
 use Rattle.oram_semantics.specs.State.{status_in}
 use Rattle.oram_core.specs.Core.{IsSameDevice, scheme_of}
-use Rattle.oram_session.specs.Settled.{IsSettled, answers_left}
+use Rattle.oram_session.specs.CoreWork.{HasNoWork, answers_left}
 use Rattle.oram_session.proofs.Resumed.{HasBody}
 use Rattle.oram_rounds.specs.Process.{HasTalked}
 use Rattle.oram_rounds.proofs.FailedReplies.{IsOfFailed}
@@ -13,7 +13,7 @@ abbrev pub invariant-loop-message : goal.invariant-loop-message
 invariant-loop-message g l = record {
   kept : IsSameDevice l.fn.core l.core;
   going : ((status_in l.core.state ≡ Waiting) × (l.reaction.sends.items ≡ l.core.state.message ∷ []))
-      ⊎ (IsSettled l.core.state × (l.core.state.queue ≡ []) × (l.reaction.sends.items ≡ []));
+      ⊎ (HasNoWork l.core.state × (l.core.state.queue ≡ []) × (l.reaction.sends.items ≡ []));
   block : All (HasBody l.fn.core.device) l.replies.items;
   count : length l.replies.items + length l.core.state.queue ≡ length l.fn.core.state.queue;
   failed : All (IsOfFailed l.core.state) l.replies.items;

@@ -21,11 +21,11 @@ returns-clause-ok g c =
     let v = scheme_of g.S.Sealer.cipher c.args.core.now in
     let u = scheme_of g.S.Sealer.cipher c.reopen.new.core in
     let same = same_scheme g.S.Sealer.cipher c.args.core.now c.reopen.new.core c.reopen.ensures.kept in
-    let told = reopened_talks batches v c.args.core.now.state c.reopen.new.core.state c.args.link.now c.in_ok-reaction.ensures.ok in
+    let resumes = reopened_talks batches v c.args.core.now.state c.reopen.new.core.state c.args.link.now c.in_ok-reaction.ensures.ok in
     if_ok _ _ c.perform.result (λ replies done.
     let round : List Act = Keeps true ∷ done.0 in
-    let all = done_after batches v g.K.Keeper.reads_back c.args.keeper.now u _ _ _ round same told.2 done.2 in
-    (all.0, all.1 ∙ done.1, all.2, λ _. (told.0, told.1, round, all.3 ∙ ap (λ (first : List Act). first ++ round) told.3, (done.0, refl, done.3)))) c.perform.ensures.ok
+    let all = done_after batches v g.K.Keeper.reads_back c.args.keeper.now u _ _ _ round same resumes.2 done.2 in
+    (all.0, all.1 ∙ done.1, all.2, λ _. (resumes.0, resumes.1, round, all.3 ∙ ap (λ (first : List Act). first ++ round) resumes.3, (done.0, refl, done.3)))) c.perform.ensures.ok
 
 pub returns-clause-err : goal.returns-clause-err
 returns-clause-err g c =
@@ -33,10 +33,10 @@ returns-clause-err g c =
     let v = scheme_of g.S.Sealer.cipher c.args.core.now in
     let u = scheme_of g.S.Sealer.cipher c.reopen.new.core in
     let same = same_scheme g.S.Sealer.cipher c.args.core.now c.reopen.new.core c.reopen.ensures.kept in
-    let told = reopened_talks batches v c.args.core.now.state c.reopen.new.core.state c.args.link.now c.in_ok-reaction.ensures.ok in
+    let resumes = reopened_talks batches v c.args.core.now.state c.reopen.new.core.state c.args.link.now c.in_ok-reaction.ensures.ok in
     on_err c.perform.result (λ done.
-    let all = done_after batches v g.K.Keeper.reads_back c.args.keeper.now u _ _ _ done.0 same told.2 done.2 in
-    (all.0, all.2, inr (told.0, told.1, done.0, all.3 ∙ ap (λ (first : List Act). first ++ done.0) told.3, done.1))) c.perform.ensures.err
+    let all = done_after batches v g.K.Keeper.reads_back c.args.keeper.now u _ _ _ done.0 same resumes.2 done.2 in
+    (all.0, all.2, inr (resumes.0, resumes.1, done.0, all.3 ∙ ap (λ (first : List Act). first ++ done.0) resumes.3, done.1))) c.perform.ensures.err
 
 pub returns-clause-not_kept : goal.returns-clause-not_kept
 returns-clause-not_kept g c = λ e.
@@ -44,5 +44,5 @@ returns-clause-not_kept g c = λ e.
     let v = scheme_of g.S.Sealer.cipher c.args.core.now in
     let u = scheme_of g.S.Sealer.cipher c.reopen.new.core in
     let same = same_scheme g.S.Sealer.cipher c.args.core.now c.reopen.new.core c.reopen.ensures.kept in
-    let told = reopened_talks batches v c.args.core.now.state c.reopen.new.core.state c.args.link.now c.in_ok-reaction.ensures.ok in
-    kept_not batches v g.K.Keeper.reads_back c.args.keeper.now u _ _ _ same told.2 (c.perform.ensures.not_kept e).2
+    let resumes = reopened_talks batches v c.args.core.now.state c.reopen.new.core.state c.args.link.now c.in_ok-reaction.ensures.ok in
+    kept_not batches v g.K.Keeper.reads_back c.args.keeper.now u _ _ _ same resumes.2 (c.perform.ensures.not_kept e).2

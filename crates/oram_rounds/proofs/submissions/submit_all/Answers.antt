@@ -5,7 +5,7 @@ use Rattle.oram_semantics.specs.Run.{is_accepted}
 use Rattle.oram_semantics.specs.declared.events.Note.{Note}
 use Rattle.oram_core.specs.Core.{scheme_of}
 use Rattle.oram_session.proofs.CoreSteps.{same_trans}
-use Rattle.oram_rounds.proofs.Asked.{HasAsked, HasBegun, asked_more, begun_more, count_more}
+use Rattle.oram_rounds.proofs.AllSubmitted.{HasSubmitted, HasBegun, submitted_more, begun_more, count_more}
 use Rattle.oram_rounds.proofs.submissions.submit_all.Goals as goal
 
 pub returns-in_err-push-clause-err : goal.returns-in_err-push-clause-err
@@ -14,9 +14,9 @@ returns-in_err-push-clause-err g c =
     let k = c.loop-command.invariant in
     let size : 2 * c.from-count.result ≡ 2 * trees_of c.args.core.now.device = search rules in
     let next : c.loop-command.command-iterator.rest.items ≡ c.in-Some.command ∷ c.next.new.self.rest.items = search rules in
-    let more = asked_more g.S.Sealer.cipher c.args.core.now c.loop-command.core c.args.session c.in-Some.command (g.T.Tape.words c.loop-command.tape) _ c.in_ok-reaction.reaction
-    c.submit_next.new.core.state k.kept c.in_ok-reaction.ensures.ok _ _ _ _ _ k.tape size next k.asked in
-    rw p.1 (more.asked, c.next.new.self.rest.items, more.in_order, more.chain)
+    let more = submitted_more g.S.Sealer.cipher c.args.core.now c.loop-command.core c.args.session c.in-Some.command (g.T.Tape.words c.loop-command.tape) _ c.in_ok-reaction.reaction
+    c.submit_next.new.core.state k.kept c.in_ok-reaction.ensures.ok _ _ _ _ _ k.tape size next k.submitted in
+    rw p.1 (more.submitted, c.next.new.self.rest.items, more.in_order, more.chain)
 
 pub loop-command-preserved : goal.loop-command-preserved
 loop-command-preserved g c =
@@ -36,8 +36,8 @@ loop-command-preserved g c =
     record {
       kept = same_trans start now after k.kept c.submit_next.ensures.kept;
       tape = c.submit_next.ensures.tape ∙ k.tape;
-      asked = subst (λ (ns : List Note). HasAsked v words c.args.session c.args.commands.items rest start.state ns after.state) noted
-          (asked_more g.S.Sealer.cipher start now c.args.session c.in-Some.command later _ r after.state k.kept step words _ _ _ _ k.tape size next k.asked);
+      submitted = subst (λ (ns : List Note). HasSubmitted v words c.args.session c.args.commands.items rest start.state ns after.state) noted
+          (submitted_more g.S.Sealer.cipher start now c.args.session c.in-Some.command later _ r after.state k.kept step words _ _ _ _ k.tape size next k.submitted);
       count = subst (λ (ns : List Note). length after.state.queue ≡ count_by is_accepted ns) noted
           (count_more g.S.Sealer.cipher start now c.args.session c.in-Some.command later _ r after.state k.kept step c.loop-command.notes.items k.count);
       begun = subst (λ (ns : List Note). HasBegun start.state c.first_accepted-begun.result (count_by is_accepted ns) after.state) noted

@@ -9,7 +9,7 @@ use Rattle.oram_semantics.specs.State.{status_in}
 use Rattle.oram_core.specs.Core.{scheme_of}
 use Rattle.oram_core.specs.PlainSteps.{done}
 use Rattle.oram_session.specs.Exchanges.{IsSent, IsCutOff, IsGivenUp}
-use Rattle.oram_session.specs.Settled.{answers_left}
+use Rattle.oram_session.specs.CoreWork.{answers_left}
 use Rattle.oram_session.specs.Turns.{most_retries}
 use Rattle.oram_host.specs.declared.serve_fault.ServeFault.TheVariants.{Stalled, OutOfMemory}
 use Rattle.oram_session.proofs.Resumed.{HasBody, heard_bodies, heard_going, replied_last, replied_more, replies_of, retries_later, sent_more, some_at_work}

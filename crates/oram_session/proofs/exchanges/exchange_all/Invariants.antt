@@ -4,7 +4,7 @@ use Rattle.oram_semantics.specs.declared.events.Reply.{Reply}
 use Rattle.oram_core.specs.Core.{IsSameDevice, scheme_of}
 use Rattle.oram_core.specs.PlainSteps.{done}
 use Rattle.oram_session.specs.Exchanges.{Delivery, AllSentFrom, retries_after}
-use Rattle.oram_session.specs.Settled.{answers_left}
+use Rattle.oram_session.specs.CoreWork.{answers_left}
 use Rattle.oram_session.specs.Turns.{most_retries}
 use Rattle.oram_session.proofs.Resumed.{IsGoing, HasBody, replies_of}
 use Rattle.oram_session.proofs.exchanges.exchange_all.Given as goal

@@ -7,8 +7,8 @@ use Rattle.oram_semantics.specs.declared.events.Reaction.{Reaction}
 use Rattle.oram_core.specs.Core.{scheme_of}
 use Rattle.oram_core.specs.PlainSteps.{Done, done, lost_by}
 use Rattle.oram_session.specs.Exchanges.{Runs}
-use Rattle.oram_session.specs.Settled.{IsUnderWay}
-use Rattle.oram_session.proofs.Resumed.{reopened, resent, resent_under_way, told_again, told_once, loss_is_free}
+use Rattle.oram_session.specs.CoreWork.{IsUnderWay}
+use Rattle.oram_session.proofs.Resumed.{reopened, resent, resent_under_way, reopened_and_retried, only_reopened, loss_is_free}
 use Rattle.oram_session.proofs.CoreSteps.{steps_under}
 use Rattle.oram_session.proofs.Turned.{IfOk-weaker}
 use Rattle.oram_session.proofs.recovery.reopen.Goals as goal
@@ -32,7 +32,7 @@ returns-clause-ok g c =
     (λ r h.
     let second = steps_under g.S.Sealer.cipher c.args.core.now mid c.step.ensures.kept mid.state Retry (shown_by r) t h in
     let b = resent v s mid.state t (shown_by r) c.requires a.1 second in
-    told_again v s mid.state t x (shown_by r) first second a.0 (ap (λ (d : Done). d.replies) b))
+    reopened_and_retried v s mid.state t x (shown_by r) first second a.0 (ap (λ (d : Done). d.replies) b))
     c.step-2.ensures.promise
 
 pub returns-clause-under_way : goal.returns-clause-under_way
@@ -70,5 +70,5 @@ returns-clause-err g c =
     let first = c.in_ok-_stalled.ensures.promise in
     let none = (reopened v s mid.state x c.requires first).0 in
     on_err_weaker c.step-2.result
-    (λ same. subst (λ (t : State). Runs v s (Reopen ∷ []) [] t) (sym (ap (λ w. w.state) same)) (told_once v s mid.state x first none))
+    (λ same. subst (λ (t : State). Runs v s (Reopen ∷ []) [] t) (sym (ap (λ w. w.state) same)) (only_reopened v s mid.state x first none))
     c.step-2.ensures.err

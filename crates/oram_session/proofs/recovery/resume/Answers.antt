@@ -11,25 +11,25 @@ use Rattle.oram_session.proofs.recovery.resume.Goals as goal
 
 -- an idle or failed core
 
-pub returns-then-is_settled-clause-count : goal.returns-then-is_settled-clause-count
-returns-then-is_settled-clause-count g c = λ going. absurd (going (sym c.is_settled.ensures ∙ c.if-is_settled.true))
+pub returns-then-has_no_work-clause-count : goal.returns-then-has_no_work-clause-count
+returns-then-has_no_work-clause-count g c = λ going. absurd (going (sym c.has_no_work.ensures ∙ c.if-has_no_work.true))
 
-pub returns-then-is_settled-clause-ok : goal.returns-then-is_settled-clause-ok
-returns-then-is_settled-clause-ok g c = λ going. absurd (going (sym c.is_settled.ensures ∙ c.if-is_settled.true))
+pub returns-then-has_no_work-clause-ok : goal.returns-then-has_no_work-clause-ok
+returns-then-has_no_work-clause-ok g c = λ going. absurd (going (sym c.has_no_work.ensures ∙ c.if-has_no_work.true))
 
 -- any other core
 
 pub reopen-requires : goal.reopen-requires
-reopen-requires g c = λ settled. let e : false ≡ true = sym c.if-is_settled.false ∙ c.is_settled.ensures ∙ settled in cc
+reopen-requires g c = λ no_work. let e : false ≡ true = sym c.if-has_no_work.false ∙ c.has_no_work.ensures ∙ no_work in cc
 
 pub returns-in_err-reaction-clause-none : goal.returns-in_err-reaction-clause-none
-returns-in_err-reaction-clause-none g c = λ settled. let e : false ≡ true = sym c.if-is_settled.false ∙ c.is_settled.ensures ∙ settled in absurd cc
+returns-in_err-reaction-clause-none g c = λ no_work. let e : false ≡ true = sym c.if-has_no_work.false ∙ c.has_no_work.ensures ∙ no_work in absurd cc
 
 pub returns-in_err-reaction-clause-memory : goal.returns-in_err-reaction-clause-memory
 returns-in_err-reaction-clause-memory g c = λ e. inl (c.in_err-reaction.ensures.err, refl)
 
 pub returns-in_err-exchange_all-clause-none : goal.returns-in_err-exchange_all-clause-none
-returns-in_err-exchange_all-clause-none g c = λ settled. let e : false ≡ true = sym c.if-is_settled.false ∙ c.is_settled.ensures ∙ settled in absurd cc
+returns-in_err-exchange_all-clause-none g c = λ no_work. let e : false ≡ true = sym c.if-has_no_work.false ∙ c.has_no_work.ensures ∙ no_work in absurd cc
 
 pub returns-in_err-exchange_all-clause-stalled : goal.returns-in_err-exchange_all-clause-stalled
 returns-in_err-exchange_all-clause-stalled g c = λ e.
@@ -42,7 +42,7 @@ returns-in_err-exchange_all-clause-stalled g c = λ e.
       mid = w.1;
       went = record {
         reopened = c.reopen.new.core.state;
-        told = c.in_ok-reaction.ensures.ok;
+        resumes = c.in_ok-reaction.ensures.ok;
         sent = subst (λ (u : Scheme). AllSentFrom u g.L.Link.calls first_retries most_retries (c.reopen.new.core.state, c.args.link.now) w.0 w.1) same w.3;
       };
       last = w.2;
@@ -67,7 +67,7 @@ returns-in_err-exchange_all-clause-memory g c = λ e.
       mid = w.1;
       went = record {
         reopened = c.reopen.new.core.state;
-        told = c.in_ok-reaction.ensures.ok;
+        resumes = c.in_ok-reaction.ensures.ok;
         sent = subst (λ (u : Scheme). AllSentFrom u g.L.Link.calls first_retries most_retries (c.reopen.new.core.state, c.args.link.now) w.0 w.1) same w.3;
       };
       last = w.2;
@@ -75,7 +75,7 @@ returns-in_err-exchange_all-clause-memory g c = λ e.
     })
 
 pub returns-clause-none : goal.returns-clause-none
-returns-clause-none g c = λ settled. let e : false ≡ true = sym c.if-is_settled.false ∙ c.is_settled.ensures ∙ settled in absurd cc
+returns-clause-none g c = λ no_work. let e : false ≡ true = sym c.if-has_no_work.false ∙ c.has_no_work.ensures ∙ no_work in absurd cc
 
 pub returns-clause-ok : goal.returns-clause-ok
 returns-clause-ok g c = λ _.
@@ -85,7 +85,7 @@ returns-clause-ok g c = λ _.
       w.1 ∙ ap length c.in_ok-reaction.ensures.queue ∙ sym c.waiting-waiting.ensures,
       record {
         reopened = c.reopen.new.core.state;
-        told = c.in_ok-reaction.ensures.ok;
+        resumes = c.in_ok-reaction.ensures.ok;
         sent = subst (λ (u : Scheme). AllSentFrom u g.L.Link.calls first_retries most_retries (c.reopen.new.core.state, c.args.link.now) w.0 (c.exchange_all.new.core.state, c.exchange_all.new.link)) same w.3;
       },
     )

@@ -164,7 +164,7 @@ loop-served-preserved g c =
     let P = λ (u : Scheme) (f : ℕ → ℕ → List ℕ). IsTurn u g.L.Link.calls f c.args.session (c.loop-served.core.state, c.loop-served.link) x.0 (c.take_turn.new.core.state, c.take_turn.new.link) in
     record {
       kept = same_trans c.args.core.now c.loop-served.core c.take_turn.new.core c.loop-served.invariant.kept c.in_ok-reply.ensures.kept;
-      settled = c.in_ok-reply.ensures.settled;
+      no_work = c.in_ok-reply.ensures.no_work;
       tape = c.in_ok-reply.ensures.tape ∙ c.loop-served.invariant.tape;
       so_far = served_more v g.L.Link.calls words c.args.session _ _ _ _ _ _ _ x.0 _ _ _ k (under P v _ words _ same c.loop-served.invariant.tape x.3)
           (subst IsBody (sym body) came.0)

@@ -2,7 +2,7 @@ use Rattle.oram_semantics.specs.Run.{shown_by}
 use Rattle.oram_core.specs.Core.{scheme_of}
 use Rattle.oram_core.specs.PlainSteps.{done}
 use Rattle.oram_semantics.specs.declared.events.Reaction.{Reaction}
-use Rattle.oram_session.specs.Settled.{IsBegun}
+use Rattle.oram_session.specs.CoreWork.{IsBegun}
 use Rattle.oram_session.proofs.CoreSteps.{begun_is}
 use Rattle.oram_session.proofs.Turned.{IfOk-weaker}
 use Rattle.oram_session.proofs.turns.submit.Goals as goal

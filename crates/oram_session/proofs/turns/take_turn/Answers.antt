@@ -10,7 +10,7 @@ use Rattle.oram_session.specs.Requests.{session_reply}
 use Rattle.oram_session.specs.Turns.{most_retries}
 use Rattle.oram_host.specs.declared.serve_fault.ServeFault.TheVariants.{Stalled, OutOfMemory}
 use Rattle.oram_session.proofs.CoreSteps.{same_scheme}
-use Rattle.oram_session.proofs.Turned.{err_is, bad_turn, asked_so, refused_turn, accepted_turn, at_work}
+use Rattle.oram_session.proofs.Turned.{err_is, bad_turn, begins_turn, refused_turn, accepted_turn, at_work}
 use Rattle.oram_session.proofs.turns.take_turn.Goals as goal
 
 pub returns-in_default-clause-ok : goal.returns-in_default-clause-ok
@@ -28,11 +28,11 @@ returns-in-Refused-clause-ok g c =
     let v = scheme_of g.S.Sealer.cipher c.args.core.now in
     let words = g.T.Tape.words c.args.tape.now in
     let a = rw c.in-Some.is at c.in_ok-command.ensures.ok in
-    let asked = asked_so v g.L.Link.calls words c.args.session c.args.body.now a.0 c.in-Some.command c.args.core.now.state c.submit.new.core.state (shown_by c.in_ok-reaction.reaction) a.1 a.2 c.in_ok-reaction.ensures.ok in (
+    let begins = begins_turn v g.L.Link.calls words c.args.session c.args.body.now a.0 c.in-Some.command c.args.core.now.state c.submit.new.core.state (shown_by c.in_ok-reaction.reaction) a.1 a.2 c.in_ok-reaction.ensures.ok in (
       record { body = c.args.body.now; sendings = []; reply = Refused (refusal_number c.in-Refused.why) },
       refl,
       ap Refused (sym c.number.ensures),
-      refused_turn v g.L.Link.calls words c.args.session c.args.body.now c.args.core.now.state c.submit.new.core.state c.args.link.now (shown_by c.in_ok-reaction.reaction) c.in-Refused.why asked c.in-Refused.is,
+      refused_turn v g.L.Link.calls words c.args.session c.args.body.now c.args.core.now.state c.submit.new.core.state c.args.link.now (shown_by c.in_ok-reaction.reaction) c.in-Refused.why begins c.in-Refused.is,
     )
 
 pub returns-in_ok-reply-in-Accepted-clause-ok : goal.returns-in_ok-reply-in-Accepted-clause-ok
@@ -41,7 +41,7 @@ returns-in_ok-reply-in-Accepted-clause-ok g c =
     let words = g.T.Tape.words c.args.tape.now in
     let a = rw c.in-Some.is at c.in_ok-command.ensures.ok in
     let x = shown_by c.in_ok-reaction.reaction in
-    let asked = asked_so v g.L.Link.calls words c.args.session c.args.body.now a.0 c.in-Some.command c.args.core.now.state c.submit.new.core.state x a.1 a.2 c.in_ok-reaction.ensures.ok in
+    let begins = begins_turn v g.L.Link.calls words c.args.session c.args.body.now a.0 c.in-Some.command c.args.core.now.state c.submit.new.core.state x a.1 a.2 c.in_ok-reaction.ensures.ok in
     let w = c.in_ok-reply-in-Accepted.ensures.ok in
     let same = same_scheme g.S.Sealer.cipher c.args.core.now c.submit.new.core c.submit.ensures.kept in
     let sent = subst (λ (u : Scheme). AllSent u g.L.Link.calls most_retries (c.submit.new.core.state, c.args.link.now) w.0 (c.carry_out.new.core.state, c.carry_out.new.link)) same w.1 in (
@@ -49,7 +49,7 @@ returns-in_ok-reply-in-Accepted-clause-ok g c =
       refl,
       sym c.session_reply.ensures,
       accepted_turn v g.L.Link.calls words c.args.session c.args.body.now c.args.core.now.state c.submit.new.core.state c.args.link.now (c.carry_out.new.core.state, c.carry_out.new.link) x c.in-Accepted.field-0 w.0 c.in_ok-reply-in-Accepted.reply
-          asked c.in-Accepted.is sent c.in_ok-reply-in-Accepted.ensures.settled w.2,
+          begins c.in-Accepted.is sent c.in_ok-reply-in-Accepted.ensures.no_work w.2,
     )
 
 pub returns-in_err-reply-in-Accepted-clause-stalled : goal.returns-in_err-reply-in-Accepted-clause-stalled
@@ -60,13 +60,13 @@ returns-in_err-reply-in-Accepted-clause-stalled g c = λ e.
     let words = g.T.Tape.words c.args.tape.now in
     let a = rw c.in-Some.is at c.in_ok-command.ensures.ok in
     let x = shown_by c.in_ok-reaction.reaction in
-    let asked = asked_so v g.L.Link.calls words c.args.session c.args.body.now a.0 c.in-Some.command c.args.core.now.state c.submit.new.core.state x a.1 a.2 c.in_ok-reaction.ensures.ok in
+    let begins = begins_turn v g.L.Link.calls words c.args.session c.args.body.now a.0 c.in-Some.command c.args.core.now.state c.submit.new.core.state x a.1 a.2 c.in_ok-reaction.ensures.ok in
     let w = c.in_err-reply-in-Accepted.ensures.stalled (ap Err h) in
     let same = same_scheme g.S.Sealer.cipher c.args.core.now c.submit.new.core c.submit.ensures.kept in
     let sent = subst (λ (u : Scheme). AllSent u g.L.Link.calls most_retries (c.submit.new.core.state, c.args.link.now) w.0 w.1) same w.3 in
     record {
       mid = w.1;
-      work = at_work v g.L.Link.calls words c.args.session c.args.body.now c.args.core.now.state c.submit.new.core.state c.args.link.now w.1 x c.in-Accepted.field-0 w.0 asked c.in-Accepted.is sent;
+      work = at_work v g.L.Link.calls words c.args.session c.args.body.now c.args.core.now.state c.submit.new.core.state c.args.link.now w.1 x c.in-Accepted.field-0 w.0 begins c.in-Accepted.is sent;
       last = w.2;
       tried = subst (λ (u : Scheme). IsSent u g.L.Link.calls most_retries w.1 w.2 (c.carry_out.new.core.state, c.carry_out.new.link)) same w.4;
       stuck = w.5;
@@ -80,13 +80,13 @@ returns-in_err-reply-in-Accepted-clause-memory g c = λ e.
     let words = g.T.Tape.words c.args.tape.now in
     let a = rw c.in-Some.is at c.in_ok-command.ensures.ok in
     let x = shown_by c.in_ok-reaction.reaction in
-    let asked = asked_so v g.L.Link.calls words c.args.session c.args.body.now a.0 c.in-Some.command c.args.core.now.state c.submit.new.core.state x a.1 a.2 c.in_ok-reaction.ensures.ok in
+    let begins = begins_turn v g.L.Link.calls words c.args.session c.args.body.now a.0 c.in-Some.command c.args.core.now.state c.submit.new.core.state x a.1 a.2 c.in_ok-reaction.ensures.ok in
     let w = c.in_err-reply-in-Accepted.ensures.memory (ap Err h) in
     let same = same_scheme g.S.Sealer.cipher c.args.core.now c.submit.new.core c.submit.ensures.kept in
     let sent = subst (λ (u : Scheme). AllSent u g.L.Link.calls most_retries (c.submit.new.core.state, c.args.link.now) w.0 w.1) same w.3 in
     inr (record {
       mid = w.1;
-      work = at_work v g.L.Link.calls words c.args.session c.args.body.now c.args.core.now.state c.submit.new.core.state c.args.link.now w.1 x c.in-Accepted.field-0 w.0 asked c.in-Accepted.is sent;
+      work = at_work v g.L.Link.calls words c.args.session c.args.body.now c.args.core.now.state c.submit.new.core.state c.args.link.now w.1 x c.in-Accepted.field-0 w.0 begins c.in-Accepted.is sent;
       last = w.2;
       cut = subst (λ (u : Scheme). IsCutOff u g.L.Link.calls most_retries w.1 w.2 (c.carry_out.new.core.state, c.carry_out.new.link)) same w.4;
     })

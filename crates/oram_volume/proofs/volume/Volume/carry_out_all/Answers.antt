@@ -70,7 +70,7 @@ returns-in-Ok-clause-goes g c =
     weaker (lied g.S.Sealer.cipher g.T.Tape.words g.B.BatchLink.batches g.K.Keeper.reads_back g.met.B.BatchLink.are_batches c.args.self.now c.resume.new.self c.resume.ensures.kept c.resume.ensures.tape
     c.resume.ensures.goes c.args.commands.items c.requires c.submit_all.new.core c.submit_all.new.tape c.submit_all.ensures.kept c.submit_all.ensures.tape
     c.perform-performed.new.core c.perform-performed.new.link c.perform-performed.new.keeper c.perform-performed.ensures.kept (Keeps true ∷ k.0) k.2 c.in_ok-begun.field-0.notes.items c.in_ok-begun.ensures.ok
-    c.in_ok-resume.ensures.settled lives c.in-Ok.replies.items k.1 c.in-Ok.ensures.count (λ none. c.has_failure.ensures.yes c.if-has_failure.true (subst NoneFailed (sym c.deref.ensures.value) none)))
+    c.in_ok-resume.ensures.no_work lives c.in-Ok.replies.items k.1 c.in-Ok.ensures.count (λ none. c.has_failure.ensures.yes c.if-has_failure.true (subst NoneFailed (sym c.deref.ensures.value) none)))
     (λ may_lie world array later h step. (step.0, λ e. step.1))
 
 pub returns-in-Ok-clause-failing : goal.returns-in-Ok-clause-failing
@@ -107,7 +107,7 @@ returns-in-Ok-3-clause-goes g c =
     weaker (all_done g.S.Sealer.cipher g.T.Tape.words g.B.BatchLink.batches g.K.Keeper.reads_back g.met.B.BatchLink.are_batches c.args.self.now c.resume.new.self c.resume.ensures.kept c.resume.ensures.tape
     c.resume.ensures.goes c.args.commands.items c.requires c.submit_all.new.core c.submit_all.new.tape c.submit_all.ensures.kept c.submit_all.ensures.tape
     c.perform-performed.new.core c.perform-performed.new.link c.perform-performed.new.keeper c.perform-performed.ensures.kept (Keeps true ∷ k.0) k.2 c.in_ok-begun.field-0.notes.items c.in_ok-begun.ensures.ok
-    c.in_ok-resume.ensures.settled lives c.in-Ok.replies.items k.1 c.in-Ok.ensures.count none (omega (arith, size, enough)) c.in_ok-begun.ensures.count)
+    c.in_ok-resume.ensures.no_work lives c.in-Ok.replies.items k.1 c.in-Ok.ensures.count none (omega (arith, size, enough)) c.in_ok-begun.ensures.count)
     (λ may_lie world array later h step. (step, λ e. cc))
 
 pub returns-in-Ok-3-clause-keeps : goal.returns-in-Ok-3-clause-keeps
@@ -119,7 +119,7 @@ returns-in-Ok-3-clause-keeps g c = λ some.
     all_kept g.S.Sealer.cipher g.T.Tape.words g.B.BatchLink.batches g.K.Keeper.reads_back g.met.B.BatchLink.are_batches c.args.self.now c.resume.new.self c.resume.ensures.kept c.resume.ensures.tape
     c.resume.ensures.goes c.args.commands.items c.requires c.submit_all.new.core c.submit_all.new.tape c.submit_all.ensures.kept c.submit_all.ensures.tape
     c.perform-performed.new.core c.perform-performed.new.link c.perform-performed.new.keeper c.perform-performed.ensures.kept (Keeps true ∷ k.0) k.2 c.in_ok-begun.field-0.notes.items c.in_ok-begun.ensures.ok
-    c.in_ok-resume.ensures.settled lives c.in-Ok.replies.items k.1 c.in-Ok.ensures.count k.0 refl (omega (arith, size, enough)) c.in_ok-begun.ensures.count
+    c.in_ok-resume.ensures.no_work lives c.in-Ok.replies.items k.1 c.in-Ok.ensures.count k.0 refl (omega (arith, size, enough)) c.in_ok-begun.ensures.count
 
 pub returns-in-Err-clause-goes : goal.returns-in-Err-clause-goes
 returns-in-Err-clause-goes g c =

@@ -1,9 +1,7 @@
--- The core that has been asked to read its block: it is sound, and has a file.
-use Rattle.std.proofs.Common.{◌≡◌, ℕ, zero, suc, ◌+◌, ◌*◌, ◌-◌, ◌^◌, ◌<◌, ◌≤◌, arith, List, [], ◌∷◌, ◌++◌, length, length-append, replicate, slice_index_or, if◌then◌else◌, ◌==◌, refl, sym, ap, subst}
-use Rattle.std.specs.Int.{w64, to_be_bytes}
+-- The core to which a read of its block was submitted: it is sound, and has a file.
+use Rattle.std.proofs.Common.{◌≡◌, ℕ, zero, suc, ◌+◌, ◌*◌, ◌-◌, ◌^◌, ◌<◌, ◌≤◌, arith, List, [], ◌∷◌, length, replicate, slice_index_or, if◌then◌else◌, ◌==◌, refl, sym, ap, subst}
 use Rattle.std.specs.List.{All, AllByRecursion}
 use Rattle.std.proofs.lemmas.List.Elements.{All-cons, All-nil}
-use Rattle.sha2.specs.Sha256.{sha256}
 use Rattle.sha2.proofs.Facts256.{length-sha256}
 use Rattle.oram_geometry.specs.Least.{least_from}
 use Rattle.oram_geometry.specs.Sizes.{blocks_in, depth_of, level_for, trees_of}
@@ -16,14 +14,14 @@ use Rattle.oram_semantics.specs.State.{no_tree}
 use Rattle.oram_core.specs.Core.{IsAtWork, IsHealthy, IsSound, IsTreeKept}
 use Rattle.oram_core.specs.Parts.{Parts, parts_of}
 use Rattle.oram_state.specs.DecodedCore.{AreSavedFields}
-use Rattle.oram_state.specs.StateBytes.{fields_text, long, short, work_of, work_text}
+use Rattle.oram_state.specs.StateBytes.{fields_text, work_of}
 use Rattle.oram_state.specs.WellSized.{IsSizedBlock, IsSizedTree, IsSizedWork, IsWellSized}
 use Rattle.oram_link_laws.specs.Examples.{one_block}
 use Rattle.oram_link_laws.proofs.Device.{one_tree, session_example}
-use Rattle.oram_rounds.specs.AskedExample.{asked_core, one_read}
-use Rattle.oram_rounds.specs.Files.{IsFile, checksum, kept_text, stores_text}
+use Rattle.oram_rounds.specs.ReadingExample.{reading_core, one_read}
+use Rattle.oram_rounds.specs.Files.{IsFile, kept_text}
 
-pub message_is : asked_core.message ≡ fetch_body 0 0
+pub message_is : reading_core.message ≡ fetch_body 0 0
 unfolding trees_of blocks_in level_for least_from
 message_is = refl
 
@@ -41,7 +39,7 @@ two_words = omega (arith, one_tree)
 pub allowed : IsAllowed one_block.device one_read
 allowed = record { address = omega (arith, one_address); data_length = refl; words = two_words }
 
-kept : (i : ℕ) → i < 1 → IsTreeKept one_block.device i (slice_index_or asked_core.trees i no_tree)
+kept : (i : ℕ) → i < 1 → IsTreeKept one_block.device i (slice_index_or reading_core.trees i no_tree)
 kept zero low = record { number = refl; blocks = All-nil _ }
 kept (suc i) low = absurd (omega (arith, low))
 
@@ -51,7 +49,7 @@ names = All-cons (λ (e : ℕ). e ≤ 2 ^ depth_of one_block.device (trees_of on
 no_data : (n : ℕ) → n ≡ 1 → (let len : ℕ = if 0 + 1 == 2 * n then 16 else 0 in len) ≡ 0
 no_data n one = rw one refl
 
-at_work : IsAtWork one_block.device 0 asked_core one_read
+at_work : IsAtWork one_block.device 0 reading_core one_read
 at_work = record {
   entry_number = omega (arith, one_tree);
   fetch = λ even. refl;
@@ -64,9 +62,9 @@ first_nonce : 1 ≡ next_nonce one_block.device 0 0
 unfolding trees_of blocks_in level_for least_from formatted_below buckets_below
 first_nonce = refl
 
-pub sound : IsSound one_block.device 0 asked_core
+pub sound : IsSound one_block.device 0 reading_core
 sound =
-    let healthy : IsHealthy one_block.device 0 asked_core = record {
+    let healthy : IsHealthy one_block.device 0 reading_core = record {
       table = table_len;
       names = names;
       count = sym one_tree;
@@ -83,9 +81,9 @@ sound =
 -- its file
 
 abbrev parts : Parts
-parts = parts_of one_block.device asked_core
+parts = parts_of one_block.device reading_core
 
-message_len : length asked_core.message ≡ 6
+message_len : length reading_core.message ≡ 6
 message_len = ap length message_is
 
 sized_tree : (t : TreeParts) → length t.root ≡ 32 → t.stash ≡ [] → IsSizedTree one_block.device t
@@ -123,7 +121,7 @@ rising = All-cons (λ (t : TreeParts). IsRising t.stash) _ [] (λ i j d lt withi
 abbrev fields : List ℕ
 fields = fields_text 0 parts
 
-saved : AreSavedFields fields 0 one_block.device asked_core
+saved : AreSavedFields fields 0 one_block.device reading_core
 saved = record {
   parts = parts;
   fields = record { overhead_fits = omega arith; sized = well_sized; spelled = refl };
@@ -135,29 +133,5 @@ saved = record {
 abbrev pub file_bytes : List ℕ
 file_bytes = kept_text [] fields
 
-pub is_file : IsFile one_block file_bytes [] asked_core
+pub is_file : IsFile one_block file_bytes [] reading_core
 is_file = record { counted = (omega arith, tt); fields = fields; saved = saved; all = refl }
-
--- it is short
-
-abbrev zeros : List ℕ
-zeros = 0 ∷ 0 ∷ 0 ∷ 0 ∷ []
-
-work_len : length (work_text (work_of parts)) ≡ 47
-unfolding short long trees_of blocks_in level_for least_from
-work_len = refl
-
-rest_len : (root work : List ℕ) → length root ≡ 32 → length work ≡ 47 → length ((((root ++ zeros) ++ []) ++ []) ++ work) ≡ 83
-rest_len root work whole rest =
-    omega (arith, whole, rest, length-append (((root ++ zeros) ++ []) ++ []) work, length-append ((root ++ zeros) ++ []) [], length-append (root ++ zeros) [], length-append root zeros)
-
--- with any digest of the root
-fields_len : (root : List ℕ) → length root ≡ 32 → length (fields_text 0 (record parts { trees = record { root = root; stash = [] } ∷ [] })) ≡ 132
-unfolding short long trees_of blocks_in level_for least_from
-fields_len root whole = omega (arith, rest_len root (work_text (work_of parts)) whole work_len)
-
-kept_len : (number : ℕ) (text : List ℕ) → length text ≡ 132 → length ((stores_text [] ++ text) ++ to_be_bytes w64 number) < 2 ^ 64
-kept_len number text whole = omega (arith, whole, length-append (stores_text [] ++ text) (to_be_bytes w64 number), length-append (stores_text []) text)
-
-pub file_len : length file_bytes < 2 ^ 64
-file_len = kept_len (checksum (stores_text [] ++ fields)) fields (fields_len (sha256 (replicate 88 0)) (length-sha256 (replicate 88 0)))

@@ -21,10 +21,10 @@ use Rattle.oram_semantics.specs.declared.events.Submission.{Submission}
 use Rattle.oram_core.specs.Core.{CoreValue, IsSameDevice, IsSound, scheme_of}
 use Rattle.oram_core.specs.PlainSteps.{Done as Did, done, sent_if_idle, submitted_by}
 use Rattle.oram_core.specs.Steps.{Steps, did}
-use Rattle.oram_session.specs.Settled.{IsBegun, IsSettled, IsUnderWay}
+use Rattle.oram_session.specs.CoreWork.{IsBegun, HasNoWork, IsUnderWay}
 use Rattle.oram_session.proofs.CoreSteps.{begun_is, steps_under}
 use Rattle.oram_rounds.specs.Process.{process}
-use Rattle.oram_rounds.specs.Start.{AreAsked, Asked, AskedIsSubmitted, IsAsked}
+use Rattle.oram_rounds.specs.Start.{AreSubmitted, SubmittedCommand, SubmittedToProcesses, IsSubmitted}
 
 -- a command that is submitted to a core at work leaves its message outstanding
 
@@ -71,11 +71,11 @@ abbrev pub HasBegun : State → Option Reaction → ℕ → State → Type 0
 HasBegun s begun count t = MatchOption begun ((t ≡ s) × (count ≡ 0)) (λ first. IsUnderWay (done first t) × (first.note ≡ Accepted s.next) × (1 ≤ count))
 
 -- Some of the commands were submitted, with these notes, and the rest are still to be.
-pub record HasAsked (v : Scheme) (words : ℕ → ℕ → List ℕ) (session : ℕ) (commands rest : List Command) (s : State) (notes : List Note) (t : State) : Type 0 where
-  pub asked : List Asked
-  pub in_order : map (λ (a : Asked). a.command) asked ++ rest ≡ commands
-  pub noted : map (λ (a : Asked). a.shown.note) asked ≡ notes
-  pub chain : AreAsked v words session s asked t
+pub record HasSubmitted (v : Scheme) (words : ℕ → ℕ → List ℕ) (session : ℕ) (commands rest : List Command) (s : State) (notes : List Note) (t : State) : Type 0 where
+  pub submitted : List SubmittedCommand
+  pub in_order : map (λ (a : SubmittedCommand). a.command) submitted ++ rest ≡ commands
+  pub noted : map (λ (a : SubmittedCommand). a.shown.note) submitted ≡ notes
+  pub chain : AreSubmitted v words session s submitted t
 
 -- how many commands were accepted, with one more note
 counted_yes : (notes : List Note) (n : Note) → is_accepted n ≡ true → count_by is_accepted (notes ++ n ∷ []) ≡ count_by is_accepted notes + 1
@@ -95,19 +95,19 @@ module _ {S : Type 0} (cipher : S → Cipher) (start now : CoreValue S) (session
   either : ((r.note ≡ Accepted now.state.next) × (length u.queue ≡ length now.state.queue + 1)) ⊎ ((is_accepted r.note ≡ false) × (u ≡ now.state))
   either = accepted_or_not (scheme_of cipher now) now.state u session c (later now.state.next size) (shown_by r) step
 
-  pub asked_more : (words : ℕ → ℕ → List ℕ) (commands before rest : List Command) (notes : List Note) → later ≡ words → size ≡ 2 * trees_of start.device → before ≡ c ∷ rest
-      → HasAsked (scheme_of cipher start) words session commands before start.state notes now.state
-      → HasAsked (scheme_of cipher start) words session commands rest start.state (notes ++ r.note ∷ []) u
-  asked_more words commands before rest notes tape long next h =
-      let a : Asked = record { session = session; command = c; words = later now.state.next size; shown = shown_by r } in
+  pub submitted_more : (words : ℕ → ℕ → List ℕ) (commands before rest : List Command) (notes : List Note) → later ≡ words → size ≡ 2 * trees_of start.device → before ≡ c ∷ rest
+      → HasSubmitted (scheme_of cipher start) words session commands before start.state notes now.state
+      → HasSubmitted (scheme_of cipher start) words session commands rest start.state (notes ++ r.note ∷ []) u
+  submitted_more words commands before rest notes tape long next h =
+      let a : SubmittedCommand = record { session = session; command = c; words = later now.state.next size; shown = shown_by r } in
       let drawn : a.words ≡ words now.state.next (2 * trees_of start.device) =
       ap (λ (w : ℕ → ℕ → List ℕ). w now.state.next size) tape ∙ ap (λ (n : ℕ). words now.state.next n) long in
       record {
-        asked = h.asked ++ a ∷ [];
-        in_order = ap (λ (cs : List Command). cs ++ rest) (map-append (λ (b : Asked). b.command) h.asked (a ∷ []))
-            ∙ append_assoc (map (λ (b : Asked). b.command) h.asked) (c ∷ []) rest ∙ ap (λ (cs : List Command). map (λ (b : Asked). b.command) h.asked ++ cs) (sym next) ∙ h.in_order;
-        noted = map-append (λ (b : Asked). b.shown.note) h.asked (a ∷ []) ∙ ap (λ (ns : List Note). ns ++ r.note ∷ []) h.noted;
-        chain = FoldsTo-push (IsAsked (scheme_of cipher start) words session) start.state h.asked now.state a u h.chain (refl, drawn, from_start);
+        submitted = h.submitted ++ a ∷ [];
+        in_order = ap (λ (cs : List Command). cs ++ rest) (map-append (λ (b : SubmittedCommand). b.command) h.submitted (a ∷ []))
+            ∙ append_assoc (map (λ (b : SubmittedCommand). b.command) h.submitted) (c ∷ []) rest ∙ ap (λ (cs : List Command). map (λ (b : SubmittedCommand). b.command) h.submitted ++ cs) (sym next) ∙ h.in_order;
+        noted = map-append (λ (b : SubmittedCommand). b.shown.note) h.submitted (a ∷ []) ∙ ap (λ (ns : List Note). ns ++ r.note ∷ []) h.noted;
+        chain = FoldsTo-push (IsSubmitted (scheme_of cipher start) words session) start.state h.submitted now.state a u h.chain (refl, drawn, from_start);
       }
 
   pub count_more : (notes : List Note) → length now.state.queue ≡ count_by is_accepted notes → length u.queue ≡ count_by is_accepted (notes ++ r.note ∷ [])
@@ -116,20 +116,20 @@ module _ {S : Type 0} (cipher : S → Cipher) (start now : CoreValue S) (session
     | inr refused ↦ ap (λ (w : State). length w.queue) refused.1 ∙ count ∙ sym (counted_no notes r.note refused.0)
   ]
 
-  pub begun_more : (notes : List Note) (begun next : Option Reaction) → IsSound start.device (cipher start.sealer).overhead start.state → IsSettled start.state
+  pub begun_more : (notes : List Note) (begun next : Option Reaction) → IsSound start.device (cipher start.sealer).overhead start.state → HasNoWork start.state
       → MatchOption begun (next ≡ (if is_accepted r.note then Some r else None)) (λ first. next ≡ Some first)
       → HasBegun start.state begun (count_by is_accepted notes) now.state → HasBegun start.state next (count_by is_accepted (notes ++ r.note ∷ [])) u
-  begun_more notes (Some first) next sound settled is h =
+  begun_more notes (Some first) next sound no_work is h =
       let more : 1 ≤ count_by is_accepted (notes ++ r.note ∷ []) = elim either [
         | inl accepted ↦ let one = counted_yes notes r.note (ap is_accepted accepted.0) in omega arith
         | inr refused ↦ let same = counted_no notes r.note refused.0 in omega (arith, h.2)
       ] in
       subst (λ (o : Option Reaction). HasBegun start.state o (count_by is_accepted (notes ++ r.note ∷ [])) u) (sym is)
       (still_under_way (scheme_of cipher now) now.state u first session c (later now.state.next size) (shown_by r) h.0 step, h.1, more)
-  begun_more notes None next sound settled is h = elim either [
+  begun_more notes None next sound no_work is h = elim either [
     | inl accepted ↦
         let here = subst (λ (w : State). Steps (scheme_of cipher start) w (Submit session c (later now.state.next size)) (shown_by r) u) h.0 from_start in
-        let begins : IsBegun start.state r.note (done r u) = begun_is (scheme_of cipher start) start.state u session c _ (shown_by r) sound settled here in
+        let begins : IsBegun start.state r.note (done r u) = begun_is (scheme_of cipher start) start.state u session c _ (shown_by r) sound no_work here in
         let under_way : IsUnderWay (done r u) = (subst (λ (n : Note). IsBegun start.state n (done r u)) accepted.0 begins).0 in
         let one = counted_yes notes r.note (ap is_accepted accepted.0) in
         let some : next ≡ Some r = is ∙ ap (λ (b : Bool). let o : Option Reaction = if b then Some r else None in o) (ap is_accepted accepted.0) in
@@ -142,6 +142,6 @@ module _ {S : Type 0} (cipher : S → Cipher) (start now : CoreValue S) (session
   ]
 
 -- what is submitted to a core is submitted to its process
-pub asked_is_submitted : (B K : Type 0) → AskedIsSubmitted B K
-asked_is_submitted B K v words session [] s t l k same = ap (λ (core : State). process core l k) same
-asked_is_submitted B K v words session (a ∷ asked) s t l k all = (process all.0 l k, (all.1.2, refl, refl), asked_is_submitted B K v words session asked all.0 t l k all.2)
+pub submitted_to_processes : (B K : Type 0) → SubmittedToProcesses B K
+submitted_to_processes B K v words session [] s t l k same = ap (λ (core : State). process core l k) same
+submitted_to_processes B K v words session (a ∷ submitted) s t l k all = (process all.0 l k, (all.1.2, refl, refl), submitted_to_processes B K v words session submitted all.0 t l k all.2)

@@ -13,15 +13,15 @@ use Rattle.oram_semantics.specs.declared.events.ReplyBody.TheVariants.{Data, Don
 use Rattle.oram_core.specs.PlainSteps.{Done as Did}
 
 -- whether no command waits for an answer: the core is idle, or the device has failed
-abbrev pub is_settled_by : Status → Bool
-is_settled_by Over = true
-is_settled_by Idle = true
-is_settled_by Waiting = false
-is_settled_by Stalling = false
+abbrev pub has_no_work_in : Status → Bool
+has_no_work_in Over = true
+has_no_work_in Idle = true
+has_no_work_in Waiting = false
+has_no_work_in Stalling = false
 
 -- The core has failed, or it is idle.
-abbrev pub IsSettled : State → Type 0
-IsSettled s = is_settled_by (status_in s) ≡ true
+abbrev pub HasNoWork : State → Type 0
+HasNoWork s = has_no_work_in (status_in s) ≡ true
 
 -- the message that was sent and isn't answered yet
 abbrev pub outstanding : State → Option (List ℕ)
@@ -39,7 +39,7 @@ IsBodyOf d (Data bytes) = length bytes ≡ d.block_bytes
 IsBodyOf d Done = ⊤
 IsBodyOf d Failed = ⊤
 
--- the result of a submission to a settled core
+-- the result of a submission to a core without work
 abbrev pub IsBegun : State → Note → Did → Type 0
 IsBegun s (note.Accepted ticket) m = IsUnderWay m × (length m.state.queue ≡ 1)
 IsBegun s (note.Refused why) m = m.state ≡ s
