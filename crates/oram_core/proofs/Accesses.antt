@@ -16,7 +16,7 @@ use Rattle.oram_semantics.specs.Moves.{Moved, MovesTo, Fits, IsReady, IsReadyFor
 use Rattle.oram_semantics.specs.Progress.Status.{Waiting}
 use Rattle.oram_semantics.specs.Run.{shown_by}
 use Rattle.oram_semantics.specs.Scheme.{Scheme, record_len}
-use Rattle.oram_semantics.specs.State.{State, World, AllStand, named_now, no_tree}
+use Rattle.oram_semantics.specs.State.{State, World, AllStand, map_entry_now, no_tree}
 use Rattle.oram_semantics.specs.Trees.{Stands}
 use Rattle.oram_semantics.specs.declared.events.Reaction.{Reaction}
 use Rattle.oram_semantics.specs.declared.events.Reason.{Reason}
@@ -47,7 +47,7 @@ ready_tree v s w t o h even fits at =
     let stands : Stands v i (slice_index_or s.trees i no_tree) (w.records i) (w.content i) = holds i (tree_within v.device v.cipher.overhead s h) in
     record {
       stored = subst (λ (u : Tree). IsStoredWith v.cipher.opening v.cipher.overhead v.device u (w.records i) (w.content i)) (sym at.is) stands.stored;
-      at_leaf = subst (λ (k : ℕ). IsAtOrAbsent (w.content i) (block_of v.device i x) k) (sym (ap (λ (e : Entry). e.leaf) (work.fetch even))) (at_leaf v.device i (block_of v.device i x) (named_now v.device s x) x (w.content i) ready.held_entry);
+      at_leaf = subst (λ (k : ℕ). IsAtOrAbsent (w.content i) (block_of v.device i x) k) (sym (ap (λ (e : Entry). e.leaf) (work.fetch even))) (at_leaf v.device i (block_of v.device i x) (map_entry_now v.device s x) x (w.content i) ready.held_entry);
       ready = ready;
     }
 

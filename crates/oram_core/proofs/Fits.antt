@@ -91,11 +91,11 @@ ended_by p e failed h =
     let queue : submissions_from (p.tickets - length p.waiting) p.waiting ≡ [] = ap (submissions_from (p.tickets - length p.waiting)) h.nothing.waiting in
     let table = h.nothing.table in
     let entry_number = h.rests.entry_number in
-    let named = h.rests.held_entry in
+    let held_entry = h.rests.held_entry in
     let before = h.rests.held_data in
     let last = h.rests.message in
     let lost = h.rests.lost in
-    rw (trees, queue, table, entry_number, named, before, last, lost, failed) refl
+    rw (trees, queue, table, entry_number, held_entry, before, last, lost, failed) refl
 
 whole_by : (o : ℕ) (p : Parts) (f : Option Reason) → p.failure ≡ f → IsFitting o p f → AreTrees p.device 0 p.trees → IsWhole p.device o (state_of p) f
 whole_by o p None is w ts = healthy_by o p w ts

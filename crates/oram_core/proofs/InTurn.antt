@@ -14,7 +14,7 @@ use Rattle.oram_semantics.specs.Content.{block_of, entry_tree, new_leaf}
 use Rattle.oram_semantics.specs.InTurn.{AsksInTurn, IsFirstNext, IsNoFirstFetch}
 use Rattle.oram_semantics.specs.Moves.{fetch_at, leaf_for}
 use Rattle.oram_semantics.specs.NextFetches.{fetch_bodies, first_fetches, next_fetches, table_after, to_begin}
-use Rattle.oram_semantics.specs.State.{State, named_now}
+use Rattle.oram_semantics.specs.State.{State, map_entry_now}
 use Rattle.oram_semantics.specs.declared.events.Submission.{Submission}
 use Rattle.oram_semantics.proofs.InTurn.{next_by, next_cons, no_first_fetch, no_first_store}
 use Rattle.oram_core.specs.Core.{AtWork, IsAtWork, IsSound, IsStoreOf}
@@ -45,7 +45,7 @@ later_at_work d o s x w some = elim (eqb_tells (s.entry_number % 2) 0) [
       let two : s.entry_number % 2 ≡ 0 = even.1 in
       let few : s.entry_number < 2 * trees_of d = w.entry_number in
       let apart : tree ≢ trees_of d - 1 = λ same. absurd (omega arith) in
-      no_first_fetch d tree (leaf_for d tree (named_now d s x) x) s.message apart (w.fetch even.1)
+      no_first_fetch d tree (leaf_for d tree (map_entry_now d s x) x) s.message apart (w.fetch even.1)
   | inr odd ↦
       let ne : s.entry_number % 2 ≢ 0 = odd.1 in
       let store : IsStoreOf d o (entry_tree d s.entry_number) s.message = w.store (omega arith) in

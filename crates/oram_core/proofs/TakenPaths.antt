@@ -15,14 +15,14 @@ use Rattle.oram_tree.specs.Access.{IsRewritten, IsUpdate}
 use Rattle.oram_semantics.specs.Content.{block_of, new_leaf, entry_tree}
 use Rattle.oram_semantics.specs.Messages.{requested}
 use Rattle.oram_semantics.specs.Moves.{PlacedIn, IsReadyFor, stores, records_after}
-use Rattle.oram_semantics.specs.Blocks.{found_in, block_after, next_named, put_in}
+use Rattle.oram_semantics.specs.Blocks.{found_in, block_after, next_map_entry, put_in}
 use Rattle.oram_semantics.specs.Scheme.{Scheme, record_len}
-use Rattle.oram_semantics.specs.State.{State, World, AllStand, named_now, no_tree}
+use Rattle.oram_semantics.specs.State.{State, World, AllStand, map_entry_now, no_tree}
 use Rattle.oram_semantics.specs.Trees.{Stands, IsPlaced}
 use Rattle.oram_semantics.specs.declared.events.Submission.{Submission}
 use Rattle.oram_semantics.proofs.Others.{all_one}
 use Rattle.oram_semantics.proofs.Bounds.{some_trees, depth_small}
-use Rattle.oram_semantics.proofs.PlacedStores.{IsMade, store_stands, store_places, holds_stored, there_if_named}
+use Rattle.oram_semantics.proofs.PlacedStores.{IsMade, store_stands, store_places, holds_stored, there_by_map_entry}
 use Rattle.oram_core.specs.Core.{IsSound}
 use Rattle.oram_core.proofs.Sound.{Outstanding, healthy_of}
 use Rattle.oram_core.specs.PlainSteps.{stored_by, is_misled}
@@ -55,11 +55,11 @@ pub not_misled : (v : Scheme) (s : State) (w : World) (x : Submission) (path : P
 not_misled v s w x path tree found before records ready a =
     let d = v.device in
     let i : ℕ = entry_tree d s.entry_number in
-    let there : found ≡ not (named_now v.device s x == 0) = a.update.told ∙ there_if_named (w.content i (block_of d i x)) (named_now v.device s x) ready.held_entry in
-    let fits : next_named d i x before ≤ 2 ^ depth_of d (i - 1) = subst (λ (bytes : List ℕ). next_named d i x bytes ≤ 2 ^ depth_of d (i - 1)) (sym a.update.data_told) ready.next in
-    let leaf : nat_lt (2 ^ depth_of d (i - 1)) (next_named d i x before) ≡ false = grind (arith, nat_tests) in
-    let none : (nat_lt 0 i && nat_lt (2 ^ depth_of d (i - 1)) (next_named d i x before)) ≡ false = rw leaf (elim (nat_lt 0 i) as (λ b. (b && false) ≡ false) [ true ↦ refl | false ↦ refl ]) in
-    rw (there, both_ways (named_now v.device s x == 0)) none
+    let there : found ≡ not (map_entry_now v.device s x == 0) = a.update.told ∙ there_by_map_entry (w.content i (block_of d i x)) (map_entry_now v.device s x) ready.held_entry in
+    let fits : next_map_entry d i x before ≤ 2 ^ depth_of d (i - 1) = subst (λ (bytes : List ℕ). next_map_entry d i x bytes ≤ 2 ^ depth_of d (i - 1)) (sym a.update.data_told) ready.next in
+    let leaf : nat_lt (2 ^ depth_of d (i - 1)) (next_map_entry d i x before) ≡ false = grind (arith, nat_tests) in
+    let none : (nat_lt 0 i && nat_lt (2 ^ depth_of d (i - 1)) (next_map_entry d i x before)) ≡ false = rw leaf (elim (nat_lt 0 i) as (λ b. (b && false) ≡ false) [ true ↦ refl | false ↦ refl ]) in
+    rw (there, both_ways (map_entry_now v.device s x == 0)) none
 
 -- The core takes over the access by the rule, if the access found what the tree's content has.
 taken_over : (v : Scheme) (s : State) (w : World) (x : Submission) (path : Path) (tree : Tree) (found : Bool) (records : List ℕ) → IsSound v.device v.cipher.overhead s → s.failure ≡ None → Outstanding v.device s x → AllStand v s w →

@@ -17,7 +17,7 @@ use Rattle.sha2.specs.Sha256.{sha256}
 use Rattle.oram_semantics.specs.Answers.{path_in, outcome_of, good_answer, first_other, pair_in}
 use Rattle.oram_semantics.specs.Answers.Outcome.{Good, NoRoom, Fails}
 use Rattle.oram_semantics.specs.Progress.{Setting, Step, accepted, progress, status_from, sent}
-use Rattle.oram_semantics.specs.Content.{content_after, data_in, named_in, accesses}
+use Rattle.oram_semantics.specs.Content.{content_after, data_in, map_entry_in, accesses}
 use Rattle.oram_semantics.specs.Nonces.{formatted, formatted_below, buckets_below, store_nonce}
 use Rattle.oram_semantics.specs.Events.{reply_of}
 use Rattle.oram_semantics.specs.Run.{note_of, refusal_of, entries_sent, from_to, replies_at, Shown}
@@ -47,11 +47,11 @@ second = record { session = 1; ticket = 1; command = Read 38; words = 20 ∷ 21 
 -- 37 and 38
 map_block : content_after recursive 1 (second ∷ first ∷ []) 9
     ≡ Some (record { leaf = 7; content = 0 ∷ 0 ∷ 0 ∷ 0 ∷ 0 ∷ 0 ∷ 0 ∷ 12 ∷ 0 ∷ 0 ∷ 0 ∷ 22 ∷ 0 ∷ 0 ∷ 0 ∷ 0 ∷ [] })
-unfolding trees_of blocks_in least_from level_for content_after data_in named_in
+unfolding trees_of blocks_in least_from level_for content_after data_in map_entry_in
 map_block = refl
 
 none_there : content_after recursive 0 (second ∷ first ∷ []) 39 ≡ None
-unfolding content_after data_in named_in
+unfolding content_after data_in map_entry_in
 none_there = refl
 
 -- after 9 good answers, three of them of ticket 1: tree 2 was accessed twice, tree 1 twice, tree 0 once

@@ -19,7 +19,7 @@ use Rattle.oram_semantics.specs.declared.events.Command.{Command}
 use Rattle.oram_semantics.specs.declared.events.Command.TheVariants.{Read, Write, Discard}
 use Rattle.oram_semantics.specs.declared.events.Reason.{Reason}
 use Rattle.oram_semantics.proofs.Bounds.{depth_small}
-use Rattle.oram_core.specs.Core.{AtWork, IsResting, most_named}
+use Rattle.oram_core.specs.Core.{AtWork, IsResting, most_map_entry}
 use Rattle.oram_core.specs.Validity.{AreTrees, IsFitting}
 use Rattle.oram_core.specs.Parts.{Parts, AreParts, parts_of, state_of, submission_at, submissions_from}
 use Rattle.oram_core.specs.declared.parts.Pending.{Pending}
@@ -114,10 +114,10 @@ most_by true last deep h = omega arith
 most_by false true deep h = omega arith
 most_by false false deep h = pow-le-pow_right (omega arith) h
 
-named_short : (d : Sizes) (n r : ℕ) → n ≤ most_named d r → IsShort n
-named_short d n r h =
+map_entry_short : (d : Sizes) (n r : ℕ) → n ≤ most_map_entry d r → IsShort n
+map_entry_short d n r h =
     let tree = entry_tree d (r + r % 2) in
-    below_most n (most_named d r) h (most_by (r == 0) (r + 1 == 2 * trees_of d) (depth_of d tree) (depth_small d tree))
+    below_most n (most_map_entry d r) h (most_by (r == 0) (r + 1 == 2 * trees_of d) (depth_of d tree) (depth_small d tree))
 
 work_by : (o : ℕ) (p : Parts) (t : ℕ) (xs : List Pending) → p.waiting ≡ xs → length p.waiting ≤ 64 → AllByRecursion (IsSizedPending p.device) p.waiting → IsShort (length p.message)
     → AtWork p.device o (state_of p) (submissions_from t xs) → IsWorkBy p.device None xs (work_of p) p.stalled
@@ -126,7 +126,7 @@ work_by o p t (x ∷ xs) is few commands message w = record {
   few = few;
   commands = commands;
   step = w.entry_number;
-  entry = named_short p.device p.held_entry p.entry_number w.held_entry;
+  entry = map_entry_short p.device p.held_entry p.entry_number w.held_entry;
   held = w.held_data;
   message = message;
 }
