@@ -173,9 +173,9 @@ pub begun_waiting : (o : ℕ) (p : Parts) → IsFitting o p p.failure → length
 begun_waiting o p w = begun_by o p p.failure w
 
 -- a property of an error is one of the error that it equals
-pub told_err : {A E : Type 0} (r : Result A E) (P : E → Type 0) (e : E) → r ≡ Err e → IsErrAnd r P → P e
-told_err {A = A} {E = E} r P e is h = subst (λ (q : Result A E). IsErrAnd q P) is h
+pub at_err : {A E : Type 0} (r : Result A E) (P : E → Type 0) (e : E) → r ≡ Err e → IsErrAnd r P → P e
+at_err {A = A} {E = E} r P e is h = subst (λ (q : Result A E). IsErrAnd q P) is h
 
 -- memory ran out, which says nothing of the parts
 pub memory_apart : {A : Type 0} (r : Result A PartsFault) → IsErrAnd r (λ e. e ≡ PartsFault.OutOfMemory) → r ≡ Err PartsFault.Content → ⊥
-memory_apart r is same = let no_way : PartsFault.Content ≡ PartsFault.OutOfMemory = told_err r _ PartsFault.Content same is in cc
+memory_apart r is same = let no_way : PartsFault.Content ≡ PartsFault.OutOfMemory = at_err r _ PartsFault.Content same is in cc

@@ -115,6 +115,6 @@ block_mapped d (suc i) x bytes j leaf some place is =
 pub leaf_fits : (d : Sizes) (i leaf : ℕ) → leaf < 2 ^ depth_of d i → leaf < 2 ^ 24
 leaf_fits d i leaf fits = omega (arith, fits, pow_mono {i = depth_of d i} {j = 24} (depth_small d i))
 
-pub asked_leaf : (m : List ℕ) → message_place m ≡ (requested m).leaf
+pub requested_leaf : (m : List ℕ) → message_place m ≡ (requested m).leaf
 unfolding requested
-asked_leaf m = refl
+requested_leaf m = refl

@@ -42,23 +42,23 @@ leaf_for-range d i map_entry x fits = elim (cases_eq map_entry 0) [
 ]
 
 -- what a FETCH asks for,
-pub asked_fetch : (i leaf : ℕ) → leaf < 2 ^ 32 → requested (fetch_body i leaf) ≡ record { fetch = true; tree = i; leaf = leaf }
+pub requested_fetch : (i leaf : ℕ) → leaf < 2 ^ 32 → requested (fetch_body i leaf) ≡ record { fetch = true; tree = i; leaf = leaf }
 unfolding requested
-asked_fetch i leaf small = ap (λ (k : ℕ). record { fetch = true; tree = i; leaf = k }) (from_be_bytes-to_be_bytes_4 leaf small)
+requested_fetch i leaf small = ap (λ (k : ℕ). record { fetch = true; tree = i; leaf = k }) (from_be_bytes-to_be_bytes_4 leaf small)
 
 -- and a STORE
-pub asked_store : (i leaf : ℕ) (records : List ℕ) → leaf < 2 ^ 32 → requested (store_body i leaf records) ≡ record { fetch = false; tree = i; leaf = leaf }
+pub requested_store : (i leaf : ℕ) (records : List ℕ) → leaf < 2 ^ 32 → requested (store_body i leaf records) ≡ record { fetch = false; tree = i; leaf = leaf }
 unfolding requested
-asked_store i leaf records small = ap (λ (k : ℕ). record { fetch = false; tree = i; leaf = k }) (from_be_bytes-to_be_bytes_4 leaf small)
+requested_store i leaf records small = ap (λ (k : ℕ). record { fetch = false; tree = i; leaf = k }) (from_be_bytes-to_be_bytes_4 leaf small)
 
 small_leaf : (d : Sizes) (i leaf : ℕ) → leaf < 2 ^ depth_of d i → leaf < 2 ^ 32
 small_leaf d i leaf fits = omega (arith, fits, pow_mono {i = depth_of d i} {j = 24} (depth_small d i))
 
 -- the fetch of a stage
-pub fetch_asked : (d : Sizes) (entry_number map_entry : ℕ) (x : Submission) → map_entry ≤ 2 ^ depth_of d (entry_tree d entry_number) → requested (fetch_of (fetch_at d entry_number map_entry x)) ≡ fetch_at d entry_number map_entry x
-fetch_asked d entry_number map_entry x fits =
+pub requested_fetch_at : (d : Sizes) (entry_number map_entry : ℕ) (x : Submission) → map_entry ≤ 2 ^ depth_of d (entry_tree d entry_number) → requested (fetch_of (fetch_at d entry_number map_entry x)) ≡ fetch_at d entry_number map_entry x
+requested_fetch_at d entry_number map_entry x fits =
     let i : ℕ = entry_tree d entry_number in
-    asked_fetch i (leaf_for d i map_entry x) (small_leaf d i _ (leaf_for-range d i map_entry x fits))
+    requested_fetch i (leaf_for d i map_entry x) (small_leaf d i _ (leaf_for-range d i map_entry x fits))
 
 -- an entry of the table, 0 past its end
 pub entry_small : (xs : List ℕ) (n k : ℕ) → All (λ e. e ≤ n) xs → slice_index xs k ≤ n
@@ -134,7 +134,7 @@ fetch_outstanding d o s x h w even =
     let n : ℕ = map_entry_now d s x in
     let fits : n ≤ 2 ^ depth_of d (entry_tree d s.entry_number) = map_entry_fits d o s x h w.held_entry even in
     let message : s.message ≡ fetch_of (fetch_at d s.entry_number n x) = w.fetch even in
-    let e : requested s.message ≡ fetch_at d s.entry_number n x = ap requested message ∙ fetch_asked d s.entry_number n x fits in
+    let e : requested s.message ≡ fetch_at d s.entry_number n x = ap requested message ∙ requested_fetch_at d s.entry_number n x fits in
     record {
       entry_number = w.entry_number;
       header = rw message (omega arith);
@@ -149,7 +149,7 @@ store_outstanding : (d : Sizes) (o : ℕ) (s : State) (x : Submission) → IsAtW
 store_outstanding d o s x w odd =
     let i : ℕ = entry_tree d s.entry_number in
     let m : IsStoreOf d o i s.message = w.store odd in
-    let e : requested s.message ≡ record { fetch = false; tree = i; leaf = m.leaf } = ap requested m.stores.body ∙ asked_store i m.leaf m.stores.records (small_leaf d i m.leaf m.inside) in
+    let e : requested s.message ≡ record { fetch = false; tree = i; leaf = m.leaf } = ap requested m.stores.body ∙ requested_store i m.leaf m.stores.records (small_leaf d i m.leaf m.inside) in
     let leaf : (requested s.message).leaf ≡ m.leaf = ap (λ (k : Entry). k.leaf) e in
     record {
       entry_number = w.entry_number;

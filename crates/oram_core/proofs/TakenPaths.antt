@@ -27,7 +27,7 @@ use Rattle.oram_core.specs.Core.{IsSound}
 use Rattle.oram_core.proofs.Sound.{Outstanding, healthy_of}
 use Rattle.oram_core.specs.PlainSteps.{stored_by, is_misled}
 use Rattle.oram_core.proofs.Quiet.{Meets}
-use Rattle.oram_core.proofs.Sound.{asked_store}
+use Rattle.oram_core.proofs.Sound.{requested_store}
 
 -- an access to the tree at work: the block as changed, and the tree and the records that it has made
 pub record IsAccess (v : Scheme) (s : State) (w : World) (x : Submission) (path : Path) (tree : Tree) (found : Bool) (before records : List ℕ) : Type 0 where
@@ -55,8 +55,8 @@ pub not_misled : (v : Scheme) (s : State) (w : World) (x : Submission) (path : P
 not_misled v s w x path tree found before records ready a =
     let d = v.device in
     let i : ℕ = entry_tree d s.entry_number in
-    let there : found ≡ not (map_entry_now v.device s x == 0) = a.update.told ∙ there_by_map_entry (w.content i (block_of d i x)) (map_entry_now v.device s x) ready.held_entry in
-    let fits : next_map_entry d i x before ≤ 2 ^ depth_of d (i - 1) = subst (λ (bytes : List ℕ). next_map_entry d i x bytes ≤ 2 ^ depth_of d (i - 1)) (sym a.update.data_told) ready.next in
+    let there : found ≡ not (map_entry_now v.device s x == 0) = a.update.reported ∙ there_by_map_entry (w.content i (block_of d i x)) (map_entry_now v.device s x) ready.held_entry in
+    let fits : next_map_entry d i x before ≤ 2 ^ depth_of d (i - 1) = subst (λ (bytes : List ℕ). next_map_entry d i x bytes ≤ 2 ^ depth_of d (i - 1)) (sym a.update.data_reported) ready.next in
     let leaf : nat_lt (2 ^ depth_of d (i - 1)) (next_map_entry d i x before) ≡ false = grind (arith, nat_tests) in
     let none : (nat_lt 0 i && nat_lt (2 ^ depth_of d (i - 1)) (next_map_entry d i x before)) ≡ false = rw leaf (elim (nat_lt 0 i) as (λ b. (b && false) ≡ false) [ true ↦ refl | false ↦ refl ]) in
     rw (there, both_ways (map_entry_now v.device s x == 0)) none
@@ -94,7 +94,7 @@ taken_over v s w x path tree found records sound alive work holds a =
       state = refl;
       holds = λ ok. holds_stored v s u w i leaf records b (entry_of c) tree holds refl inside here;
       placed = λ new. all_one (PlacedIn v s.nonce after) (store_body i leaf records) (λ store.
-          subst (λ (e : Entry). IsPlaced v e.tree e.leaf s.nonce (after.records e.tree) (after.content e.tree)) (sym (asked_store i leaf records small)) placed_here);
+          subst (λ (e : Entry). IsPlaced v e.tree e.leaf s.nonce (after.records e.tree) (after.content e.tree)) (sym (requested_store i leaf records small)) placed_here);
     }
 
 pub stores_met : (v : Scheme) (s : State) (w : World) (x : Submission) (path : Path) (tree : Tree) (found : Bool) (before records : List ℕ) → IsSound v.device v.cipher.overhead s → s.failure ≡ None → Outstanding v.device s x → AllStand v s w →
@@ -102,6 +102,6 @@ pub stores_met : (v : Scheme) (s : State) (w : World) (x : Submission) (path : P
     Meets v s w (stores v s w x) (stored_by v (record s { trees = slice_set s.trees (entry_tree v.device s.entry_number) tree }) x before records)
 stores_met v s w x path tree found before records sound alive work holds a =
     let i : ℕ = entry_tree v.device s.entry_number in
-    let e : before ≡ found_in v.device (w.content i (block_of v.device i x)) = a.update.data_told in
+    let e : before ≡ found_in v.device (w.content i (block_of v.device i x)) = a.update.data_reported in
     subst (λ (b : List ℕ). Meets v s w (stores v s w x) (stored_by v (record s { trees = slice_set s.trees i tree }) x b records)) (sym e)
     (taken_over v s w x path tree found records sound alive work holds (subst (λ (b : List ℕ). IsAccess v s w x path tree found b records) e a))

@@ -21,7 +21,7 @@ use Rattle.oram_semantics.specs.declared.events.Refusal.{Refusal}
 use Rattle.oram_semantics.specs.declared.events.Submission.{Submission}
 use Rattle.oram_semantics.proofs.AgreeSteps.{agreeing_fits}
 use Rattle.oram_semantics.proofs.Bounds.{IsFit, depth_small}
-use Rattle.oram_semantics.proofs.Counts.{asked_is}
+use Rattle.oram_semantics.proofs.Counts.{requested_is}
 use Rattle.oram_host_laws.specs.Honest.{KeepsAll}
 use Rattle.oram_host_laws.specs.HostRecords.{Hosts, HostsBy, HostsWork, IsPosted}
 
@@ -109,7 +109,7 @@ hosts_sent : (v : Scheme) (t : State) (u w : World) (x : Submission) (rest : Lis
 hosts_sent v t u w x rest e m host tree leaf is queue last leaves keeps =
     let depth : ℕ = depth_of v.device (entry_tree v.device t.entry_number) in
     let most : 2 ^ depth ≤ 2 ^ 24 = pow-le-pow_right {n = 2} (omega arith) {i = depth} {j = 24} (depth_small v.device (entry_tree v.device t.entry_number)) in
-    let asks : requested m ≡ e = asked_is v e m (omega arith) is in
+    let asks : requested m ≡ e = requested_is v e m (omega arith) is in
     let request_is : requested t.message ≡ e = ap requested last ∙ asks in
     subst (HostsBy v t u host) (sym queue) (record {
       posted = record {
@@ -123,11 +123,11 @@ hosts_sent v t u w x rest e m host tree leaf is queue last leaves keeps =
     })
 
 -- the same, if the rule asks for an entry
-hosts_asked : (v : Scheme) (s t : State) (w : World) (host : Host) (m : Moved) (x : Shown) (y : Submission) (rest : List Submission) (e : Entry)
+hosts_requested : (v : Scheme) (s t : State) (w : World) (host : Host) (m : Moved) (x : Shown) (y : Submission) (rest : List Submission) (e : Entry)
     → m.ask ≡ For e → e.tree ≡ entry_tree v.device m.state.entry_number
     → e.leaf < 2 ^ depth_of v.device (entry_tree v.device m.state.entry_number) → m.state.queue ≡ y ∷ rest → KeepsAll v w.records host
     → MovesTo v s w m x t → Hosts v t (world_after v w m x.sends) host
-hosts_asked v s t w host m x y rest e ask tree leaf queue keeps mv =
+hosts_requested v s t w host m x y rest e ask tree leaf queue keeps mv =
     let sent : (k : List ℕ) × (x.sends ≡ k ∷ []) × IsMessage v e k = subst (λ (a : Ask). Sends v s.message a x.sends) ask mv.sends in
     let entry_number : t.entry_number ≡ m.state.entry_number = ap (λ (u : State). u.entry_number) mv.state in
     hosts_sent v t (world_after v w m x.sends) w y rest e sent.0 host (tree ∙ ap (λ (r : ℕ). entry_tree v.device r) (sym entry_number))
@@ -170,7 +170,7 @@ goes_fetch v s w host m y rest fit alive calm ask queue even keeps = record {
       let small : map_entry_now v.device m.state y ≤ 2 ^ depth_of v.device (entry_tree v.device m.state.entry_number) =
       subst (λ (k : ℕ). k ≤ 2 ^ depth_of v.device (entry_tree v.device m.state.entry_number)) map_entry_is
       (subst (λ (r : ℕ). map_entry_now v.device t y ≤ 2 ^ depth_of v.device (entry_tree v.device r)) entry_number few) in
-      hosts_asked v s t w host m x y rest (fetch_at v.device m.state.entry_number (map_entry_now v.device m.state y) y) ask refl
+      hosts_requested v s t w host m x y rest (fetch_at v.device m.state.entry_number (map_entry_now v.device m.state y) y) ask refl
       (leaf_inside v.device (entry_tree v.device m.state.entry_number) (map_entry_now v.device m.state y) y small) queue keeps mv;
 }
 
@@ -213,7 +213,7 @@ goes_stored v s w host x rest alive qu even posted keeps =
       alive = alive;
       calm = refl;
       hosts = λ z t mv st.
-          hosts_asked v s t w host (stores v s w x) z x rest (record { fetch = false; tree = entry_tree v.device s.entry_number; leaf = (requested s.message).leaf }) refl
+          hosts_requested v s t w host (stores v s w x) z x rest (record { fetch = false; tree = entry_tree v.device s.entry_number; leaf = (requested s.message).leaf }) refl
           (sym same) (subst (λ (i : ℕ). (requested s.message).leaf < 2 ^ depth_of v.device i) (sym same) posted.leaf) qu keeps mv;
     }
 

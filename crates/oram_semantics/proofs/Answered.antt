@@ -31,7 +31,7 @@ use Rattle.oram_semantics.specs.Law.{world_of}
 use Rattle.oram_semantics.proofs.Bounds.{IsFit}
 use Rattle.oram_semantics.specs.Agree.{TicketsFrom}
 use Rattle.oram_semantics.proofs.Follows.{FitsTable, applied, applied_yes, entry_for, Working, Live, content_is}
-use Rattle.oram_semantics.proofs.Counts.{sent_cons, records_more, accepted_len, rest_is, none_between, one_between, none_asked, one_asked, answered_is, sent_is, asked_is, no_store, store_entry_is}
+use Rattle.oram_semantics.proofs.Counts.{sent_cons, records_more, accepted_len, rest_is, none_between, one_between, asks_for_none, asks_for_one, answered_is, sent_is, requested_is, no_store, store_entry_is}
 use Rattle.oram_semantics.proofs.Stores.{content_stored, leaf_fits, live_stored, stored_state, store_entry}
 use Rattle.oram_semantics.proofs.Fetches.{live_fetched, live_finished, fetched_state, finished_state, applied_fetched, applied_finished, fetch_entry}
 use Rattle.oram_semantics.proofs.Others.{all_one}
@@ -57,7 +57,7 @@ pub asks_due : (v : Setting) (past : List Step) (step : Step) (last : List ℕ) 
     → Sends v.scheme last (For e) step.sends → a ≡ m → b ≡ m + 1 → e ≡ entry_at v (step ∷ past) m
     → AskFor v (step ∷ past) (from_to a b) step.sends
 asks_due v past step last e a b m s from to due =
-    one_asked v (step ∷ past) a b m step.sends s.0 from to s.1 (subst (λ (f : Entry). IsMessage v.scheme f s.0) due s.2)
+    asks_for_one v (step ∷ past) a b m step.sends s.0 from to s.1 (subst (λ (f : Entry). IsMessage v.scheme f s.0) due s.2)
 
 -- a good answer in the middle of a command
 middle_keep : (v : Setting) (past : List Step) (s t u : State) (old rest : List Submission) (x : Shown) (y : Submission)
@@ -89,7 +89,7 @@ middle_keep v past s t u old rest x y bytes m e fit l qu few taken none ask mv i
     let rec : RecordsAre v past event x m =
     records_more v step past ∙ sym (ap (λ k. records_next v.scheme (records_of v past) k x.sends) ask) in
     let leaf : e.leaf < 2 ^ 32 = subst (λ (f : Entry). f.leaf < 2 ^ 32) (sym due) (leaf_fits d old y (s.entry_number + 1)) in
-    let asks : requested sends.0 ≡ e = asked_is v.scheme e sends.0 leaf sends.2 in
+    let asks : requested sends.0 ≡ e = requested_is v.scheme e sends.0 leaf sends.2 in
     let sealed : is_store sends.0 ≡ true → s.nonce ≡ store_nonce d (answered_tickets v past) (requested sends.0).tree = λ store.
     nonce (store_entry_is v.scheme e sends.0 sends.2 store) ∙ ap (λ k. store_nonce d k e.tree) (sym before)
     ∙ ap (λ (f : Entry). store_nonce d (answered_tickets v past) f.tree) (sym asks) in
@@ -197,7 +197,7 @@ next_due : (v : Setting) (past : List Step) (step : Step) (old rest : List Submi
 next_due v past step old [] s y g last fit good whole before after a split words all table sends =
     let len : length (accepted past) ≡ length old + (0 + 1) = accepted_len past old (y ∷ []) split in
     let few : s.entry_number < 2 * trees_of v.scheme.device = omega arith in
-    none_asked v (step ∷ past) (entries_sent v past) (entries_sent v (step ∷ past)) step.sends
+    asks_for_none v (step ∷ past) (entries_sent v past) (entries_sent v (step ∷ past)) step.sends
     (sent_is v (step ∷ past) (g + 1) (length old + (0 + 1)) (g + 1) after (ap length a ∙ len) (sent_end (trees_of v.scheme.device) (length old) s.entry_number g whole good)
     ∙ sym (sent_is v past g (length old + (0 + 1)) (g + 1) before len (sent_before (trees_of v.scheme.device) (length old) 0 s.entry_number g few good))) sends
 next_due v past step old (z ∷ rest) s y g last fit good whole before after a split words all table sends =

@@ -21,7 +21,7 @@ use Rattle.oram_semantics.specs.Law.{world_of}
 use Rattle.oram_semantics.proofs.Bounds.{IsFit}
 use Rattle.oram_semantics.specs.Agree.{TicketsFrom}
 use Rattle.oram_semantics.proofs.Follows.{FitsTable, applied, applied_none, applied_yes, applied_same, entry_for, Working, AtWork, Live}
-use Rattle.oram_semantics.proofs.Counts.{asked_is, sent_cons}
+use Rattle.oram_semantics.proofs.Counts.{requested_is, sent_cons}
 use Rattle.oram_semantics.proofs.Stores.{leaf_fits}
 
 -- the FETCH asks for its entry, with the map entry that was held
@@ -32,12 +32,12 @@ fetch_entry d old x r map_entry even e =
     ap (λ (b : Bool). record { fetch = b; tree = entry_tree d r; leaf = leaf_for d (entry_tree d r) map_entry x }) (sym fetch)
     ∙ ap (λ (n : ℕ). record { fetch = r % 2 == 0; tree = entry_tree d r; leaf = leaf_for d (entry_tree d r) n x }) e
 
-fetch_asked : (v : Scheme) (old : List Submission) (x : Submission) (r map_entry : ℕ) (m : List ℕ) → r % 2 ≡ 0
+requested_fetch : (v : Scheme) (old : List Submission) (x : Submission) (r map_entry : ℕ) (m : List ℕ) → r % 2 ≡ 0
     → map_entry ≡ map_entry_in v.device (entry_tree v.device r) old (block_of v.device (entry_tree v.device r) x)
     → IsMessage v (fetch_at v.device r map_entry x) m → requested m ≡ entry_for v.device old x r
-fetch_asked v old x r map_entry m even e is =
+requested_fetch v old x r map_entry m even e is =
     let same = fetch_entry v.device old x r map_entry even e in
-    asked_is v (entry_for v.device old x r) m (leaf_fits v.device old x r) (subst (λ (f : Entry). IsMessage v f m) same is)
+    requested_is v (entry_for v.device old x r) m (leaf_fits v.device old x r) (subst (λ (f : Entry). IsMessage v f m) same is)
 
 -- the state after a good answer to a STORE in the middle of a command
 abbrev pub fetched_state : Setting → List Step → State → Submission → List Tree → ℕ → List ℕ → State
@@ -59,7 +59,7 @@ live_fetched v past old rest s x step ts n m fit l qu w odd more calm p a sent_i
     let apart : 2 * (trees_of d - 1 - (trees_of d - 1)) ≢ s.entry_number = omega arith in
     let work : Working v (step ∷ past) old t x = record {
       entry_number = more;
-      asks = fetch_asked v.scheme old x (s.entry_number + 1) s.held_entry m (omega arith) held_entry is;
+      asks = requested_fetch v.scheme old x (s.entry_number + 1) s.held_entry m (omega arith) held_entry is;
       older = sent past;
       latest = sent_is;
       held_entry = λ some next. held_entry ∙ ap (λ (i : ℕ). map_entry_in d i old (block_of d i x)) same;
@@ -105,7 +105,7 @@ begins v past old y t step m fit zero_is ok sent_is last_is map_entry_is is =
     record {
       entry_number = omega arith;
       asks = ap requested last_is
-          ∙ fetch_asked v.scheme old y 0 _ m refl (map_entry_is ∙ ap (λ (i : ℕ). map_entry_in d i old (block_of d i y)) top) is
+          ∙ requested_fetch v.scheme old y 0 _ m refl (map_entry_is ∙ ap (λ (i : ℕ). map_entry_in d i old (block_of d i y)) top) is
           ∙ ap (entry_for d old y) (sym zero_is);
       older = sent past;
       latest = sent_is ∙ ap (λ (k : List ℕ). k ∷ sent past) (sym last_is);

@@ -34,7 +34,7 @@ use Rattle.oram_semantics.proofs.Maps.{name_is, map_entry_range}
 use Rattle.oram_semantics.specs.Law.{world_of}
 use Rattle.oram_semantics.proofs.Bounds.{IsFit}
 use Rattle.oram_semantics.proofs.Follows.{FitsTable, applied, applied_none, entry_for, Working, AtWork, Live, FollowsAt, Follows, content_is}
-use Rattle.oram_semantics.proofs.Counts.{accepted_cons, sent_cons, records_more, again_same, accepted_len, rest_is, status_is, status_ends, none_between, none_asked, answered_is}
+use Rattle.oram_semantics.proofs.Counts.{accepted_cons, sent_cons, records_more, again_same, accepted_len, rest_is, status_is, status_ends, none_between, asks_for_none, answered_is}
 use Rattle.oram_semantics.proofs.Stores.{content_before, bytes_are, map_entry_next}
 use Rattle.oram_semantics.proofs.Others.{all_none, all_one, live_kept}
 
@@ -105,10 +105,10 @@ entry_split v past old rest x r m g split words size few =
     ∙ ap (λ subs. entry d (addresses subs) (tape subs) (length old * (2 * trees_of d) + r)) split
     ∙ entry_is d old rest x r few words size
 
-pub asked_now : (v : Setting) (past : List Step) (old rest : List Submission) (s : State) (x : Submission)
+pub requested_now : (v : Setting) (past : List Step) (old rest : List Submission) (s : State) (x : Submission)
     → Live v past old s → s.queue ≡ x ∷ rest → Working v past old s x
     → requested s.message ≡ entry_at v past (progress v past).good
-asked_now v past old rest s x l qu w =
+requested_now v past old rest s x l qu w =
     let d = v.scheme.device in
     let ok : FitsTable d x = All-head (FitsTable d) x rest (subst (All (FitsTable d)) qu l.allowed) in
     w.asks
@@ -176,7 +176,7 @@ pair_at : (v : Setting) (past : List Step) (old queue : List Submission) (s : St
     → (is_waiting (status_by None queue b) && pair_in v.scheme (records_of v past) (requested s.message) bytes) ≡ (is_waiting (status_by None queue b) && pair_in v.scheme (records_of v past) (entry_at v past (progress v past).good) bytes)
 pair_at v past old [] s bytes b l qu w = refl
 pair_at v past old (x ∷ rest) s bytes b l qu w =
-    ap (λ (e : Entry). is_waiting (status_by None (x ∷ rest) b) && pair_in v.scheme (records_of v past) e bytes) (asked_now v past old rest s x l qu w)
+    ap (λ (e : Entry). is_waiting (status_by None (x ∷ rest) b) && pair_in v.scheme (records_of v past) e bytes) (requested_now v past old rest s x l qu w)
 
 pub pair_same : (v : Setting) (past : List Step) (s : State) (old : List Submission) (event : Event)
     (failure : Option Reason) → s.failure ≡ failure → IsFit v.scheme.device → FollowsAt v past old s failure
@@ -239,7 +239,7 @@ right_quiet v past event x n note replies sends quiet_note calm new is g =
       note = note ∙ is;
       replies = replies
           ∙ sym (replies_calm v past step x.note [] (ap fails_now note ∙ calm) (none_between (reply_of v.scheme.device (accepted past)) (accepted past) (answered_tickets v past) (answered_tickets v (step ∷ past)) (rw g refl)));
-      sends = sends_right v past step x.note false (ap is_resent note ∙ new) (none_asked v (step ∷ past) (entries_sent v past) (entries_sent v (step ∷ past)) x.sends (rw (g, a) refl) sends);
+      sends = sends_right v past step x.note false (ap is_resent note ∙ new) (asks_for_none v (step ∷ past) (entries_sent v past) (entries_sent v (step ∷ past)) x.sends (rw (g, a) refl) sends);
       placed = λ _. placed_none (PlacedBy v (step ∷ past) (answered_tickets v past)) x.sends sends;
     }
 
@@ -342,7 +342,7 @@ fails_keep v past s t old x bytes e fit l few mv is p =
         replies = mv.replies ∙ ap (map failed_reply) (sym (rest_is past old s.queue (answered_tickets v past) tickets l.split))
             ∙ sym (ap (λ (b : Bool). map (reply_of v.scheme.device (accepted past)) (slice_range (accepted past) (answered_tickets v past) (answered_tickets v (step ∷ past))) ++ (if b then map failed_reply (drop (answered_tickets v past) (accepted past)) else [])) (ap fails_now mv.note)
             ∙ ap (λ (xs : List Reply). xs ++ map failed_reply (drop (answered_tickets v past) (accepted past))) none);
-        sends = sends_right v past step x.note false (ap is_resent mv.note) (none_asked v (step ∷ past) (entries_sent v past) (entries_sent v (step ∷ past)) x.sends (rw (g, a) refl) mv.sends);
+        sends = sends_right v past step x.note false (ap is_resent mv.note) (asks_for_none v (step ∷ past) (entries_sent v past) (entries_sent v (step ∷ past)) x.sends (rw (g, a) refl) mv.sends);
         placed = λ _. placed_none (PlacedBy v (step ∷ past) (answered_tickets v past)) x.sends mv.sends;
       };
       follows = record {

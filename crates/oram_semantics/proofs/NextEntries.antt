@@ -30,7 +30,7 @@ use Rattle.oram_semantics.proofs.InTurn.{next_by, next_later}
 use Rattle.oram_semantics.proofs.Keeps.{entry_split}
 use Rattle.oram_semantics.proofs.Maps.{map_entry_here, map_entry_there}
 use Rattle.oram_semantics.proofs.Others.{all_none}
-use Rattle.oram_semantics.proofs.Told.{follows_on}
+use Rattle.oram_semantics.proofs.MatchesPast.{follows_on}
 use Rattle.oram_semantics.proofs.WholeRuns.{new_follows}
 
 -- the table names each block of the last tree as these commands, the newest first, have left it

@@ -25,7 +25,7 @@ use Rattle.oram_semantics.proofs.Maps.{data_zero, content_more, found_is, next_i
 use Rattle.oram_semantics.specs.Law.{world_of}
 use Rattle.oram_semantics.proofs.Bounds.{IsFit}
 use Rattle.oram_semantics.proofs.Follows.{FitsTable, applied, applied_none, applied_yes, applied_no, applied_same, entry_for, Working, AtWork, Live, content_is}
-use Rattle.oram_semantics.proofs.Counts.{asked_is}
+use Rattle.oram_semantics.proofs.Counts.{requested_is}
 
 -- arithmetic of stages
 
@@ -186,7 +186,7 @@ live_stored v past old rest s x step ts n m fit l qu w even calm p a sent_is is 
     let t : State = stored_state v past s x ts n m in
     let work : Working v (step ∷ past) old t x = record {
       entry_number = omega arith;
-      asks = asked_is v.scheme _ m small is ∙ ap (λ (k : ℕ). record { fetch = false; tree = i; leaf = k }) leaf
+      asks = requested_is v.scheme _ m small is ∙ ap (λ (k : ℕ). record { fetch = false; tree = i; leaf = k }) leaf
           ∙ store_entry d old x s.entry_number even;
       older = sent past;
       latest = sent_is;

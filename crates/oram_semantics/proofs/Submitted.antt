@@ -22,7 +22,7 @@ use Rattle.oram_semantics.specs.declared.events.Submission.{Submission}
 use Rattle.oram_semantics.specs.Law.{world_of}
 use Rattle.oram_semantics.proofs.Bounds.{IsFit, address_small}
 use Rattle.oram_semantics.proofs.Follows.{FitsTable, applied, applied_none, AtWork, Live, content_is}
-use Rattle.oram_semantics.proofs.Counts.{progress_cons, accepted_cons, accepted_len, none_between, none_asked, sent_is}
+use Rattle.oram_semantics.proofs.Counts.{progress_cons, accepted_cons, accepted_len, none_between, asks_for_none, sent_is}
 use Rattle.oram_semantics.proofs.Fetches.{fetch_entry}
 use Rattle.oram_semantics.proofs.Others.{live_accepted, accepted_state, applied_push, idle_stage}
 use Rattle.oram_semantics.proofs.Keeps.{Kept, replies_calm, sends_right, follows_on, entry_split}
@@ -81,7 +81,7 @@ first_due v past old (z ∷ rest) s y step fit l qu w ok p a sends =
     accepted_len past old s.queue l.split ∙ ap (λ (q : List Submission). length old + length q) qu ∙ omega arith in
     let len' : length (accepted (step ∷ past)) ≡ length old + (length rest + 1 + 1) =
     ap length a ∙ length-append (accepted past) (y ∷ []) ∙ omega arith in
-    none_asked v (step ∷ past) (entries_sent v past) (entries_sent v (step ∷ past)) step.sends
+    asks_for_none v (step ∷ past) (entries_sent v past) (entries_sent v (step ∷ past)) step.sends
     (sent_is v (step ∷ past) g (length old + (length rest + 1 + 1)) (g + 1) (ap (λ (q : Progress). q.good) p) len' (sent_before (trees_of d) (length old) (length rest + 1) s.entry_number g few l.good)
     ∙ sym (sent_is v past g (length old + (length rest + 1)) (g + 1) refl len (sent_before (trees_of d) (length old) (length rest) s.entry_number g few l.good))) sends
 

@@ -28,7 +28,7 @@ use Rattle.oram_tree.specs.Content.{Map, HasContent}
 use Rattle.oram_tree.specs.State.{State, IsStoredWith}
 use Rattle.oram_tree.specs.Edits.{edited_content, edited_block, with_entry, IsEditOf, HasRoomFor}
 use Rattle.oram_tree.specs.Access.{IsAtOrAbsent, IsNear, IsReadable, IsLookup, IsWaiting, content_in, IsRewritten, IsUpdate, part_at}
-use Rattle.oram_tree.proofs.Content.{reads_uniquely, Before, IsBefore, After, is_readable, told_by, access_content}
+use Rattle.oram_tree.proofs.Content.{reads_uniquely, Before, IsBefore, After, is_readable, reported_by, access_content}
 use Rattle.oram_tree.proofs.Evicted.{evicted}
 use Rattle.oram_tree.proofs.Gathered.{found_at}
 
@@ -169,10 +169,10 @@ updated opening sealing overhead nonce leaf d p bytes t root rest records conten
     let named_here : IsAtOrAbsent content c.address p.leaf = λ entry there. named entry there ∙ sym in_tree.leaf_is in
     let x : Before = record { p = p; old = records; stash = t.stash; content = content } in
     let b : IsBefore reads x = record { fits = in_tree.fits; held = held_by opening overhead leaf d p t records content in_tree stored; path = path } in
-    let told = told_by reads x b c.address d.block_bytes found before named_here looked (content c.address) refl in
+    let reported = reported_by reads x b c.address d.block_bytes found before named_here looked (content c.address) refl in
     record {
-      told = told.0;
-      data_told = told.1;
+      reported = reported.0;
+      data_reported = reported.1;
       updated = λ new replaced.
           let y : After = record { q = with_bytes p bytes; new = new; c = c; waiting = w.waiting; lists = w.lists; rest = rest } in
           let held = access_content reads x y (reads_uniquely opening d t.number of) b (record {

@@ -109,6 +109,6 @@ pub record IsRewritten (reads : List ℕ → List Cell → Type 0) (sealing : �
 pub record IsUpdate (opening : List ℕ → Option (List ℕ)) (overhead : ℕ) (d : Sizes)
     (p q : Path) (records : ℕ → List ℕ) (content : Map)
     (c : Cell) (found : Bool) (before : List ℕ) (t : State) : Type 0 where
-  pub told : found ≡ is_some (content c.address)
-  pub data_told : before ≡ content_or_zeros d.block_bytes (content c.address)
+  pub reported : found ≡ is_some (content c.address)
+  pub data_reported : before ≡ content_or_zeros d.block_bytes (content c.address)
   pub updated : (new : ℕ → List ℕ) → IsReplaced p q records new → IsStoredWith opening overhead d t new (put content c.address (entry_of c))

@@ -110,10 +110,10 @@ fn is_fetch(message: &[u8], tree: u8, leaf: u32) -> bool
     match HostView::read(message) {
         Ok(
             HostView::Fetch {
-                tree: asked,
-                leaf: map_entry,
+                tree: requested_tree,
+                leaf: requested_leaf,
             },
-        ) => asked == tree && map_entry == leaf,
+        ) => requested_tree == tree && requested_leaf == leaf,
         _ => false,
     }
 }
@@ -127,14 +127,14 @@ fn is_store(message: &[u8], device: &Device, overhead: usize, tree: u8) -> bool
     match HostView::read(message) {
         Ok(
             HostView::Store {
-                tree: asked,
+                tree: requested_tree,
                 leaf,
                 records,
             },
         ) => {
             let depth = device.depth(tree);
             let path_len = (usize::from(depth) + 1) * device.record_len(overhead);
-            asked == tree && leaf < 1 << depth && records.len() == path_len
+            requested_tree == tree && leaf < 1 << depth && records.len() == path_len
         }
         _ => false,
     }

@@ -7,7 +7,7 @@ use Rattle.oram_tree.specs.Edits.{edited_block}
 use Rattle.oram_tree.specs.Access.{IsNear, IsRewritten}
 use Rattle.oram_tree.proofs.Gathered.{near_block}
 use Rattle.oram_tree.proofs.Rewrites.{before_len, changed_block, waiting_blocks, rest_blocks, rewritten}
-use Rattle.oram_tree.proofs.Prepared.{looked_both, same_lookup, settled_rest, rest_waits, addresses_rise}
+use Rattle.oram_tree.proofs.Prepared.{looked_both, same_lookup, remaining_is_rest, rest_waits, addresses_rise}
 use Rattle.oram_tree.proofs.path_rewrite.rewrite.Goals as goal
 use Rattle.oram_tree.proofs.path_rewrite.rewrite.Given as given
 
@@ -31,7 +31,7 @@ returns-clause-data_len g c =
 rest_is : (g : given.Over) (c : goal.After-commit-lookup g) → c.commit-lookup.new.stash ≡ c.in_ok-prepared.ensures.prepared.rest
 rest_is g c =
     let p = c.in_ok-prepared.ensures.prepared in
-    settled_rest c.args.stash.now c.in_ok-prepared.prepared.near p.waiting p.rest c.commit-lookup.new.stash c.in_ok-prepared.prepared.stays.items c.args.request.address p.rising p.evicted.rising c.commit-lookup.ensures.rising p.stays_are
+    remaining_is_rest c.args.stash.now c.in_ok-prepared.prepared.near p.waiting p.rest c.commit-lookup.new.stash c.in_ok-prepared.prepared.stays.items c.args.request.address p.rising p.evicted.rising c.commit-lookup.ensures.rising p.stays_are
     (rest_waits p.waiting p.lists p.rest _ _ _ p.evicted) p.from_both c.commit-lookup.ensures.kept
 
 pub returns-clause-written : goal.returns-clause-written
