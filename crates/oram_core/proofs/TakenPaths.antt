@@ -8,7 +8,6 @@ use Rattle.oram_trace.specs.declared.entries.Entry.{Entry}
 use Rattle.oram_wire.specs.HostMessages.{store_body}
 use Rattle.oram_hash.specs.Path.{Path, path_of, with_bytes}
 use Rattle.oram_bucket.specs.Cell.{Cell}
-use Rattle.oram_bucket.specs.SealedBlocks.{Reads}
 use Rattle.oram_tree.specs.Content.{Map, entry_of, put}
 use Rattle.oram_tree.specs.State.{State as Tree}
 use Rattle.oram_tree.specs.Access.{IsRewritten, IsUpdate}
@@ -37,7 +36,7 @@ pub record IsAccess (v : Scheme) (s : State) (w : World) (x : Submission) (path 
   pub rewritten :
       let d = v.device in
       let i = entry_tree d s.entry_number in
-      IsRewritten (Reads v.cipher.opening d i) v.cipher.sealing d s.nonce path (slice_index_or s.trees i no_tree).stash (with_bytes path records)
+      IsRewritten (record { device = d; tree = i; cipher = v.cipher; path = path; nonce = s.nonce }) (slice_index_or s.trees i no_tree).stash (with_bytes path records)
       (record { address = block_of d i x; leaf = new_leaf d i x; content = block_after d i x before }) tree.stash
   pub update :
       let d = v.device in

@@ -29,7 +29,7 @@ pub record IsMade (v : Scheme) (i leaf nonce : ℕ) (records : ℕ → List ℕ)
   pub leaf_small : leaf < 2 ^ 32
   pub number : tree.number ≡ i
   pub rewritten :
-      IsRewritten (Reads v.cipher.opening v.device i) v.cipher.sealing v.device nonce path before.stash (with_bytes path bytes) c tree.stash
+      IsRewritten (record { device = v.device; tree = i; cipher = v.cipher; path = path; nonce = nonce }) before.stash (with_bytes path bytes) c tree.stash
   pub updated : (new : ℕ → List ℕ) → IsReplaced path (with_bytes path bytes) records new
       → IsStoredWith v.cipher.opening v.cipher.overhead v.device tree new (put content c.address (entry_of c))
 

@@ -223,15 +223,17 @@ shows_alike =
     ShowsAlike-from plain.scheme.device (5 ∷ 5 ∷ []) (5 ∷ 2 ∷ []) swapped refl
     (IsRearrangement-from plain.scheme.device (5 ∷ 5 ∷ []) (5 ∷ 2 ∷ []) swapped refl refl in_tree) (omega arith)
 
-two_worlds : AreTwoWorlds plain plain (reading 5 (6 ∷ 3 ∷ []) ∷ reading 5 (7 ∷ 1 ∷ []) ∷ []) (reading 5 (6 ∷ 7 ∷ []) ∷ reading 2 (3 ∷ 1 ∷ []) ∷ [])
-    reactions reactions (5 ∷ 5 ∷ []) (5 ∷ 2 ∷ []) (6 ∷ 3 ∷ 7 ∷ 1 ∷ []) swapped
+two_worlds : AreTwoWorlds
+    (record { setting = plain; events = reading 5 (6 ∷ 3 ∷ []) ∷ reading 5 (7 ∷ 1 ∷ []) ∷ []; reactions = reactions; addresses = 5 ∷ 5 ∷ [] })
+    (record { setting = plain; events = reading 5 (6 ∷ 7 ∷ []) ∷ reading 2 (3 ∷ 1 ∷ []) ∷ []; reactions = reactions; addresses = 5 ∷ 2 ∷ [] })
+    (6 ∷ 3 ∷ 7 ∷ 1 ∷ []) swapped
 unfolding trees_of least_from blocks_in accepted
 two_worlds = record {
   device = refl;
   overhead = refl;
   notes = refl;
-  words = refl;
+  words_are = refl;
   alike = shows_alike;
-  first = record { addresses_are = refl; tape_is = refl };
-  second = record { addresses_are = refl; tape_is = refl };
+  first_is = record { addresses_are = refl; tape_is = refl };
+  second_is = record { addresses_are = refl; tape_is = refl };
 }

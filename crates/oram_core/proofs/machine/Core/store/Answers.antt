@@ -96,8 +96,8 @@ returns-in-Ok-clause-moves g c = λ w fits on_path.
     let does = subst (λ (u : CoreValue g.row.S.Denot). (x : Submission) (rest : List Submission) (records : List ℕ) → u.state.queue ≡ x ∷ rest → message ≡ store_body c.path_access-path_access.result.tree c.path_access-path_access.result.leaf records → done c.adopt_access.result c.adopt_access.new.self.state ≡ (let s' = record u.state { trees = slice_set u.state.trees c.from.result new } in if is_misled (scheme_of g.S.Sealer.cipher u) s' x found before then failed_by s' (reason.Tampered (entry_tree u.device u.state.entry_number) 0) else stored_by (scheme_of g.S.Sealer.cipher u) s' x before records)) c.self.view_is c.adopt_access.ensures.ok in
     let does_at = subst (λ (k : ℕ). done c.adopt_access.result c.adopt_access.new.self.state ≡ (let s' = record now.state { trees = slice_set now.state.trees k new } in if is_misled v s' o.oldest found before then failed_by s' why else stored_by v s' o.oldest before records)) (c.from.ensures ∙ c.path_access-path_access.ensures.tree) (does o.oldest o.rest records o.queue body) in
     let block : Cell = edited_block c.path_access-path_access.result.block c.path_access-path_access.result.new_leaf c.edit_for.result before in
-    let written : IsRewritten (Reads v.cipher.opening now.device tree_lent.number) v.cipher.sealing now.device now.state.nonce path tree_lent.stash (with_bytes path records) block new.stash =
-    subst (λ (u : CoreValue g.row.S.Denot). IsRewritten (Reads (g.S.Sealer.cipher u.sealer).opening u.device tree_lent.number) (g.S.Sealer.cipher u.sealer).sealing u.device u.state.nonce path tree_lent.stash (with_bytes path records) block new.stash) c.self.view_is (c.in-Ok.ensures.written records gained) in
+    let written : IsRewritten (record { device = now.device; tree = tree_lent.number; cipher = v.cipher; path = path; nonce = now.state.nonce }) tree_lent.stash (with_bytes path records) block new.stash =
+    subst (λ (u : CoreValue g.row.S.Denot). IsRewritten (record { device = u.device; tree = tree_lent.number; cipher = g.S.Sealer.cipher u.sealer; path = path; nonce = u.state.nonce }) tree_lent.stash (with_bytes path records) block new.stash) c.self.view_is (c.in-Ok.ensures.written records gained) in
     let long : length records ≡ (depth_of now.device i + 1) * record_len v = c.in-Ok.ensures.whole records gained ∙ ap (λ (p : Path). (p.depth + 1) * p.record_len) c.requires.path in
     let x = o.oldest in
     let tree = c.path_access-path_access.ensures.tree in
@@ -122,8 +122,8 @@ returns-in-Ok-clause-moves g c = λ w fits on_path.
     let update_if_ok = subst (λ r. MatchResult r (λ a. (gained : List ℕ) → message ≡ header ++ gained → IsUpdate v.cipher.opening v.cipher.overhead now.device path (with_bytes path gained) (w.records i) (w.content i) (edited_block c.path_access-path_access.result.block c.path_access-path_access.result.new_leaf c.edit_for.result a.before.items) a.found a.before.items new) (λ f. f ≡ fault.OutOfMemory)) c.in-Ok.is (updates (w.records i) (w.content i) ready.stored on_path absent) in
     let update : IsUpdate v.cipher.opening v.cipher.overhead now.device path (with_bytes path records) (w.records i) (w.content i) cell found before new =
     subst (λ (d : Cell). IsUpdate v.cipher.opening v.cipher.overhead now.device path (with_bytes path records) (w.records i) (w.content i) d found before new) same (update_if_ok records gained) in
-    let made : IsRewritten (Reads v.cipher.opening now.device tree_lent.number) v.cipher.sealing now.device now.state.nonce path tree_lent.stash (with_bytes path records) cell new.stash =
-    subst (λ (d : Cell). IsRewritten (Reads v.cipher.opening now.device tree_lent.number) v.cipher.sealing now.device now.state.nonce path tree_lent.stash (with_bytes path records) d new.stash) same written in
+    let made : IsRewritten (record { device = now.device; tree = tree_lent.number; cipher = v.cipher; path = path; nonce = now.state.nonce }) tree_lent.stash (with_bytes path records) cell new.stash =
+    subst (λ (d : Cell). IsRewritten (record { device = now.device; tree = tree_lent.number; cipher = v.cipher; path = path; nonce = now.state.nonce }) tree_lent.stash (with_bytes path records) d new.stash) same written in
     access_moves v now.state w tree_lent new path found before records why c.adopt_access.result c.adopt_access.new.self.state o h.sound c.requires.entry_number fits h.at c.requires.path long c.access_to-looked.ensures.number update made does_at
 
 pub returns-in-Unreadable-clause-moves : goal.returns-in-Unreadable-clause-moves
