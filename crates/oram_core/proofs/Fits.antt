@@ -74,7 +74,7 @@ healthy_by o p w ts =
     let count : length (submissions_from t p.waiting) ≡ length p.waiting = commands_length t p.waiting in
     record {
       table = w.table.long;
-      names = w.table.names;
+      map_entries = w.table.map_entries;
       count = trees_length 0 p.trees ∙ w.count;
       kept = λ i below. let same : 0 + i ≡ i = omega arith in subst (λ (n : ℕ). IsTreeKept d n (slice_index_or (trees_from 0 p.trees) i no_tree)) same (kept_from d 0 p.trees ts i (omega (arith, below, w.count)));
       queue = allowed_from d t p.waiting w.waiting.allowed;
@@ -118,7 +118,7 @@ working_by o p h =
     let t : ℕ = p.tickets - length p.waiting in
     let count : length (submissions_from t p.waiting) ≡ length p.waiting = commands_length t p.waiting in
     record {
-      table = record { long = h.table; names = h.names };
+      table = record { long = h.table; map_entries = h.map_entries };
       count = sym (trees_length 0 p.trees) ∙ h.count;
       waiting = record { most = omega (arith, count, h.most); begun = omega (arith, count, h.begun); allowed = allowed_back p.device t p.waiting h.queue };
       work = h.work;

@@ -70,7 +70,7 @@ new_sound v putting from to trees s device small a table_is trees_is next_is non
     let answered : s.next - length s.queue ≡ 0 = omega (arith, next_is, none) in
     let whole : IsHealthy d v.cipher.overhead s = record {
       table = ap length table_is ∙ length-replicate (blocks_in d (trees_of d - 1)) 0;
-      names = subst Named (sym table_is) (All-replicate (λ e. e ≤ 2 ^ depth_of d (trees_of d - 1)) (blocks_in d (trees_of d - 1)) 0 (omega arith));
+      map_entries = subst Named (sym table_is) (All-replicate (λ e. e ≤ 2 ^ depth_of d (trees_of d - 1)) (blocks_in d (trees_of d - 1)) 0 (omega arith));
       count = ap length trees_is ∙ a.made.trees_count;
       kept = subst Kept (sym trees_is) (λ i below. record { number = (a.made.each i below).number; blocks = subst (Blocks i) (sym (a.empty i below)) (All-nil (IsBlockOf d i)) });
       queue = subst Allowed (sym queue_is) (All-nil (IsAllowed d));

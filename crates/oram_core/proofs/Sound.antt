@@ -115,7 +115,7 @@ length_amid d entry_number more = let last : (entry_number + 1 == 2 * trees_of d
 -- what the table names for a block
 map_entry_first : (d : Sizes) (o : ℕ) (s : State) (x : Submission) → IsHealthy d o s → slice_index s.table (block_of d (trees_of d - 1) x) ≤ 2 ^ depth_of d (entry_tree d 0)
 map_entry_first d o s x h = subst (λ (i : ℕ). slice_index s.table (block_of d (trees_of d - 1) x) ≤ 2 ^ depth_of d i) (sym (last_tree d))
-    (entry_small s.table (2 ^ depth_of d (trees_of d - 1)) (block_of d (trees_of d - 1) x) h.names)
+    (entry_small s.table (2 ^ depth_of d (trees_of d - 1)) (block_of d (trees_of d - 1) x) h.map_entries)
 
 -- the map entry of the block of the outstanding FETCH
 map_entry_fits : (d : Sizes) (o : ℕ) (s : State) (x : Submission) → IsHealthy d o s → s.held_entry ≤ most_map_entry d s.entry_number → s.entry_number % 2 ≡ 0 → map_entry_now d s x ≤ 2 ^ depth_of d (entry_tree d s.entry_number)
@@ -238,7 +238,7 @@ sound_begun d o s x h alive none room allowed ticket =
     let same : t.next - length t.queue ≡ s.next - length s.queue = omega (arith, more) in
     sound_by d o t h.ranges h.small (omega arith) alive (record {
       table = q.table;
-      names = q.names;
+      map_entries = q.map_entries;
       count = q.count;
       kept = q.kept;
       queue = All-push (IsAllowed d) s.queue x q.queue allowed;
@@ -264,7 +264,7 @@ sound_pushed d o s x h alive some few room allowed ticket =
     let same : t.next - length t.queue ≡ s.next - length s.queue = omega (arith, more) in
     sound_by d o t h.ranges h.small (omega arith) alive (record {
       table = q.table;
-      names = q.names;
+      map_entries = q.map_entries;
       count = q.count;
       kept = q.kept;
       queue = All-push (IsAllowed d) s.queue x q.queue allowed;
@@ -288,7 +288,7 @@ sound_fetched d o s x rest h alive queue odd more =
     most_amid d s.entry_number (omega (arith, odd)) (λ end. absurd (omega (arith, more, end))) ∙ ap (λ (k : ℕ). 2 ^ depth_of d (entry_tree d k)) next ∙ sym (most_amid d (s.entry_number + 1) (omega arith) (λ end. absurd (omega (arith, odd, end)))) in
     sound_by d o t h.ranges h.small h.next alive (record {
       table = q.table;
-      names = q.names;
+      map_entries = q.map_entries;
       count = q.count;
       kept = q.kept;
       queue = q.queue;
@@ -320,7 +320,7 @@ sound_finished d o s x rest h alive queue calm end =
     let one : s.next - length rest ≡ n + 1 = let b = q.begun in omega (arith, count) in
     sound_by d o t h.ranges h.small h.next alive (record {
       table = q.table;
-      names = q.names;
+      map_entries = q.map_entries;
       count = q.count;
       kept = q.kept;
       queue = All-tail (IsAllowed d) x rest (subst (All (IsAllowed d)) queue q.queue);
@@ -345,7 +345,7 @@ sound_lost d o s b h alive some =
     let q = healthy_of d o s h alive in
     sound_by d o (record s { lost = b }) h.ranges h.small h.next alive (record {
       table = q.table;
-      names = q.names;
+      map_entries = q.map_entries;
       count = q.count;
       kept = q.kept;
       queue = q.queue;
@@ -367,7 +367,7 @@ sound_accessed d o s i tree h alive inside is =
     let within : i < length s.trees = omega (arith, q.count) in
     sound_by d o (record s { trees = slice_set s.trees i tree }) h.ranges h.small h.next alive (record {
       table = q.table;
-      names = q.names;
+      map_entries = q.map_entries;
       count = length-set s.trees i tree ∙ q.count;
       kept = λ k below. elim (cases_eq k i) [
         | inl same ↦ rw same (subst (IsTreeKept d i) (sym (get_or-set_same s.trees i tree no_tree within)) is)
@@ -387,7 +387,7 @@ names_set : (d : Sizes) (o : ℕ) (s : State) (x : Submission) → IsHealthy d o
 names_set d o s x h =
     let small : new_leaf d (entry_tree d 0) x < 2 ^ depth_of d (entry_tree d 0) = mod-lt (slice_index x.words (2 * entry_tree d 0 + 1)) (pow_pos (depth_of d (entry_tree d 0))) in
     All-set (λ e. e ≤ 2 ^ depth_of d (trees_of d - 1)) s.table (block_of d (entry_tree d 0) x) (new_leaf d (entry_tree d 0) x + 1)
-    (subst (λ (i : ℕ). new_leaf d (entry_tree d 0) x + 1 ≤ 2 ^ depth_of d i) (last_tree d) (omega arith)) h.names
+    (subst (λ (i : ℕ). new_leaf d (entry_tree d 0) x + 1 ≤ 2 ^ depth_of d i) (last_tree d) (omega arith)) h.map_entries
 
 -- the block of tree 0 is held at a command's last STORE, and at no other stage
 kept_long : (d : Sizes) (i : ℕ) (before : List ℕ) → length before ≡ d.block_bytes → length (kept_of i before) ≡ (if i == 0 then d.block_bytes else 0)
@@ -450,9 +450,9 @@ sound_stored d o s x rest before records h alive queue even long whole fits =
     let stored : IsStoreOf d o i t.message = record { leaf = leaf; inside = work.leaf; stores = record { records = records; long = whole; body = refl } } in
     sound_by d o t h.ranges h.small h.next alive (record {
       table = elim (s.entry_number == 0) as (λ b. length (if b then slice_set s.table (block_of d i x) (new_leaf d i x + 1) else s.table) ≡ blocks_in d (trees_of d - 1)) [ true ↦ length-set s.table (block_of d i x) (new_leaf d i x + 1) ∙ q.table | false ↦ q.table ];
-      names = elim (cases_eq s.entry_number 0) [
+      map_entries = elim (cases_eq s.entry_number 0) [
         | inl first ↦ let e : (s.entry_number == 0) ≡ true = grind (arith, nat_tests) in rw (e, first) (names_set d o s x q)
-        | inr later ↦ let e : (s.entry_number == 0) ≡ false = grind (arith, nat_tests) in rw e q.names
+        | inr later ↦ let e : (s.entry_number == 0) ≡ false = grind (arith, nat_tests) in rw e q.map_entries
       ];
       count = q.count;
       kept = q.kept;

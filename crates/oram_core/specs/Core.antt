@@ -83,7 +83,7 @@ AtWork d overhead s (x ∷ rest) = IsAtWork d overhead s x
 -- the state of a core that hasn't failed
 pub record IsHealthy (d : Sizes) (overhead : ℕ) (s : State) : Type 0 where
   pub table : length s.table ≡ blocks_in d (trees_of d - 1)
-  pub names : All (λ e. e ≤ 2 ^ depth_of d (trees_of d - 1)) s.table
+  pub map_entries : All (λ e. e ≤ 2 ^ depth_of d (trees_of d - 1)) s.table
   pub count : length s.trees ≡ trees_of d
   pub kept : (i : ℕ) → i < trees_of d → IsTreeKept d i (slice_index_or s.trees i no_tree)
   pub queue : All (IsAllowed d) s.queue

@@ -18,7 +18,7 @@ use Rattle.oram_core.specs.Parts.{Parts, state_of, submission_at, submissions_fr
 -- the table has an entry for each block of the last tree, and none that is too great for its leaves
 pub record HasTable (d : Sizes) (table : List ℕ) : Type 0 where
   pub long : length table ≡ blocks_in d (trees_of d - 1)
-  pub names : All (λ e. e ≤ 2 ^ depth_of d (trees_of d - 1)) table
+  pub map_entries : All (λ e. e ≤ 2 ^ depth_of d (trees_of d - 1)) table
 
 -- the message sent last is the one that the command has at this stage
 pub record HasMessage (d : Sizes) (overhead : ℕ) (s : State) (x : Submission) : Type 0 where

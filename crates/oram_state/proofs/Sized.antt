@@ -138,7 +138,7 @@ table_by o p None w = w.table.long
 table_by o p (Some e) w = ap length w.nothing.table
 
 entries_by : (o : ℕ) (p : Parts) (f : Option Reason) → IsFitting o p f → AllByRecursion IsShort p.table
-entries_by o p None w = shorts p.device (trees_of p.device - 1) p.table w.table.names
+entries_by o p None w = shorts p.device (trees_of p.device - 1) p.table w.table.map_entries
 entries_by o p (Some e) w = subst (AllByRecursion IsShort) (sym w.nothing.table) tt
 
 count_by : (o : ℕ) (p : Parts) (f : Option Reason) → IsFitting o p f → length p.trees ≡ tree_count p.device f

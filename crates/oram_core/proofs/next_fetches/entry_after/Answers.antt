@@ -13,7 +13,7 @@ loop-at-init c =
     let d = c.args.device.now in
     record {
       value = sym (table_none d c.args.table.now c.args.queue.now.items c.args.from c.args.block);
-      range = All-get_or (λ (e : ℕ). e ≤ 2 ^ depth_of d (trees_of d - 1)) c.args.table.now c.args.block 0 c.requires.block c.requires.names;
+      range = All-get_or (λ (e : ℕ). e ≤ 2 ^ depth_of d (trees_of d - 1)) c.args.table.now c.args.block 0 c.requires.block c.requires.map_entries;
     }
 
 pub overflow_add-entry : goal.overflow_add-entry
