@@ -39,19 +39,19 @@ more_held items (Err e) (Ok v) cells x grown held = absurd grown
 more_held items (Ok u) (Ok v) cells x grown held = grown ∙ ap (λ (cs : List Cell). cs ++ x ∷ []) held
 
 -- the next piece, and the result of its test
-pub record IsPiece (d : Sizes) (i : ℕ) (bytes : List ℕ) (k : ℕ) (before : Option ℕ) (slot rest rest' : List ℕ) (size size' : ℕ) (told : Option BucketFault) : Type 0 where
+pub record IsPiece (d : Sizes) (i : ℕ) (bytes : List ℕ) (k : ℕ) (before : Option ℕ) (slot rest rest' : List ℕ) (size size' : ℕ) (reported : Option BucketFault) : Type 0 where
   pub cut : rest ≡ slot ++ rest'
   pub long : length slot ≡ size
   pub same : size' ≡ size
-  pub fault : slot_fault d i bytes k ≡ told
+  pub fault : slot_fault d i bytes k ≡ reported
 
-pub piece : (d : Sizes) (i : ℕ) (bytes : List ℕ) (k : ℕ) (before : Option ℕ) (held : List Cell → Type 0) (slot rest rest' : List ℕ) (size size' blocks depth : ℕ) (told : Option BucketFault)
+pub piece : (d : Sizes) (i : ℕ) (bytes : List ℕ) (k : ℕ) (before : Option ℕ) (held : List Cell → Type 0) (slot rest rest' : List ℕ) (size size' blocks depth : ℕ) (reported : Option BucketFault)
     → IsAt d i bytes k rest size before held → length bytes ≡ bucket_len d
     → rest ≡ slot ++ rest' → length slot ≡ size → size' ≡ size
     → blocks ≡ blocks_in d i → depth ≡ depth_of d i → depth ≤ 24
-    → told ≡ fault_behind blocks ((1 * 2 ^ depth) % 2 ^ 32) before slot
-    → IsPiece d i bytes k before slot rest rest' size size' told
-piece d i bytes k before held slot rest rest' size size' blocks depth told at all cut long same blocks_are depth_is shallow said =
+    → reported ≡ fault_behind blocks ((1 * 2 ^ depth) % 2 ^ 32) before slot
+    → IsPiece d i bytes k before slot rest rest' size size' reported
+piece d i bytes k before held slot rest rest' size size' blocks depth reported at all cut long same blocks_are depth_is shallow said =
     let next = next_slot d bytes k slot rest rest' all at.rest_is cut (long ∙ at.size_is) in
     record {
       cut = cut;

@@ -158,7 +158,7 @@ module _ {R W : Type 0} (remaining : R → Option (List ℕ)) (contents : W → 
       h.begun,
       elim h.ended [
         | inl e ↦ inl (ap (trees_fault b.refusal) e.0, e.1)
-        | inr r ↦ inr (r.body, r.why, r.begun, r.refused, ap (trees_fault b.refusal) r.told ∙ told_once b.refusal r.why)
+        | inr r ↦ inr (r.body, r.why, r.begun, r.refused, ap (trees_fault b.refusal) r.reported ∙ told_once b.refusal r.why)
       ],
     );
   }

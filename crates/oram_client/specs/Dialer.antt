@@ -1,6 +1,7 @@
 -- What can be wrong with a host, and a connection over which the host of a disk has answered.
 use Rattle.std.specs.Prelude.{◌≡◌, ◌≢◌, ℕ, Bool, true, false, List, [], ◌∷◌, Option, Ok, Some, None, MatchResult, ◌⊎◌}
 use Rattle.oram_wire.specs.HostMessages.{fetch_body, no_room_answer, payload_answer}
+use Rattle.oram_wire.specs.declared.host_messages.TheConstants.{GOOD, REFUSED}
 use Rattle.oram_cli.specs.declared.hosts.HostFault.{HostFault}
 use Rattle.oram_cli.specs.declared.hosts.HostFault.TheVariants as host
 use Rattle.oram_cli.specs.declared.sockets.SocketFault.{SocketFault}
@@ -62,10 +63,10 @@ greeting = fetch_body 255 0
 
 -- what is wrong with the answer to the greeting
 abbrev pub Shows : List ℕ → List ℕ → Trouble → Type 0
-Shows identity answer (OutOfReach fault) = (fault ≡ Io) × (answer ≡ [] ⊎ (first : ℕ) × (rest : List ℕ) × (answer ≡ first ∷ rest) × (first ≢ 128) × (first ≢ 129))
+Shows identity answer (OutOfReach fault) = (fault ≡ Io) × (answer ≡ [] ⊎ (first : ℕ) × (rest : List ℕ) × (answer ≡ first ∷ rest) × (first ≢ GOOD) × (first ≢ REFUSED))
 Shows identity answer NoRoom = answer ≡ no_room_answer
 Shows identity answer AnotherDisk = (other : List ℕ) × (answer ≡ payload_answer other) × (other ≢ identity)
-Shows identity answer NoDisk = (rest : List ℕ) × (answer ≡ 129 ∷ rest) × (answer ≢ no_room_answer)
+Shows identity answer NoDisk = (rest : List ℕ) × (answer ≡ REFUSED ∷ rest) × (answer ≢ no_room_answer)
 
 -- for streams whose bytes `remaining` and `contents` give
 module _ {S : Type 0} (remaining contents : S → Option (List ℕ)) where

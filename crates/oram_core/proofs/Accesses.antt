@@ -5,7 +5,6 @@ use Rattle.oram_geometry.specs.Sizes.{depth_of}
 use Rattle.oram_trace.specs.declared.entries.Entry.{Entry}
 use Rattle.oram_hash.specs.Path.{Path, path_of, with_bytes}
 use Rattle.oram_bucket.specs.Cell.{Cell}
-use Rattle.oram_bucket.specs.SealedBlocks.{Reads}
 use Rattle.oram_tree.specs.State.{State as Tree, IsStoredWith}
 use Rattle.oram_tree.specs.Access.{IsAtOrAbsent, IsRewritten, IsUpdate}
 use Rattle.oram_semantics.specs.Answers.Outcome.{Good}
@@ -16,7 +15,7 @@ use Rattle.oram_semantics.specs.Moves.{Moved, MovesTo, Fits, IsReady, IsReadyFor
 use Rattle.oram_semantics.specs.Progress.Status.{Waiting}
 use Rattle.oram_semantics.specs.Run.{shown_by}
 use Rattle.oram_semantics.specs.Scheme.{Scheme, record_len}
-use Rattle.oram_semantics.specs.State.{State, World, AllStand, named_now, no_tree}
+use Rattle.oram_semantics.specs.State.{State, World, AllStand, map_entry_now, no_tree}
 use Rattle.oram_semantics.specs.Trees.{Stands}
 use Rattle.oram_semantics.specs.declared.events.Reaction.{Reaction}
 use Rattle.oram_semantics.specs.declared.events.Reason.{Reason}
@@ -47,7 +46,7 @@ ready_tree v s w t o h even fits at =
     let stands : Stands v i (slice_index_or s.trees i no_tree) (w.records i) (w.content i) = holds i (tree_within v.device v.cipher.overhead s h) in
     record {
       stored = subst (λ (u : Tree). IsStoredWith v.cipher.opening v.cipher.overhead v.device u (w.records i) (w.content i)) (sym at.is) stands.stored;
-      at_leaf = subst (λ (k : ℕ). IsAtOrAbsent (w.content i) (block_of v.device i x) k) (sym (ap (λ (e : Entry). e.leaf) (work.fetch even))) (at_leaf v.device i (block_of v.device i x) (named_now v.device s x) x (w.content i) ready.held_entry);
+      at_leaf = subst (λ (k : ℕ). IsAtOrAbsent (w.content i) (block_of v.device i x) k) (sym (ap (λ (e : Entry). e.leaf) (work.fetch even))) (at_leaf v.device i (block_of v.device i x) (map_entry_now v.device s x) x (w.content i) ready.held_entry);
       ready = ready;
     }
 
@@ -57,7 +56,7 @@ pub access_moves : (v : Scheme) (s : State) (w : World) (t new : Tree) (path : P
     (let i = entry_tree v.device s.entry_number in let c : Cell = record { address = block_of v.device i o.oldest; leaf = new_leaf v.device i o.oldest; content = block_after v.device i o.oldest before } in
     IsUpdate v.cipher.opening v.cipher.overhead v.device path (with_bytes path records) (w.records i) (w.content i) c found before new) →
     (let i = entry_tree v.device s.entry_number in let c : Cell = record { address = block_of v.device i o.oldest; leaf = new_leaf v.device i o.oldest; content = block_after v.device i o.oldest before } in
-    IsRewritten (Reads v.cipher.opening v.device t.number) v.cipher.sealing v.device s.nonce path t.stash (with_bytes path records) c new.stash) →
+    IsRewritten (record { device = v.device; tree = t.number; cipher = v.cipher; path = path; nonce = s.nonce }) t.stash (with_bytes path records) c new.stash) →
     (let s' : State = record s { trees = slice_set s.trees (entry_tree v.device s.entry_number) new } in
     done y u ≡ (if is_misled v s' o.oldest found before then failed_by s' why else stored_by v s' o.oldest before records)) →
     MovesTo v s w (on_answer v s w Waiting Good) (shown_by y) u
@@ -72,8 +71,8 @@ access_moves v s w t new path found before records why y u o h even fits at path
       number = number ∙ at.number;
       path_is = path_is;
       long = long;
-      rewritten = subst (λ (q : Tree). IsRewritten (Reads v.cipher.opening v.device i) v.cipher.sealing v.device s.nonce path q.stash (with_bytes path records) c new.stash) at.is
-          (subst (λ (k : ℕ). IsRewritten (Reads v.cipher.opening v.device k) v.cipher.sealing v.device s.nonce path t.stash (with_bytes path records) c new.stash) at.number rewritten);
+      rewritten = subst (λ (q : Tree). IsRewritten (record { device = v.device; tree = i; cipher = v.cipher; path = path; nonce = s.nonce }) q.stash (with_bytes path records) c new.stash) at.is
+          (subst (λ (k : ℕ). IsRewritten (record { device = v.device; tree = k; cipher = v.cipher; path = path; nonce = s.nonce }) t.stash (with_bytes path records) c new.stash) at.number rewritten);
       update = update;
     } in
     let fine : is_misled v s' x found before ≡ false = not_misled v s w x path new found before records r.ready a in

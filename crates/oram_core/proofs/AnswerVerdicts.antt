@@ -35,10 +35,10 @@ use Rattle.oram_core.proofs.LocalRule.{waits, holds_of}
 use Rattle.oram_core.proofs.Sound.{Outstanding, at_hand, healthy_of, sound_accessed, tree_within}
 
 -- a checked path of the right length is the tree's, unless it shows two records with the same digest
-path_told : (v : Scheme) (records : ℕ → ℕ → List ℕ) (e : Entry) (bytes : List ℕ) → e.fetch ≡ true → HasLength (answered_path v e (128 ∷ bytes)) → pair_in v records e (128 ∷ bytes) ≡ false →
+path_unless_pair : (v : Scheme) (records : ℕ → ℕ → List ℕ) (e : Entry) (bytes : List ℕ) → e.fetch ≡ true → HasLength (answered_path v e (128 ∷ bytes)) → pair_in v records e (128 ∷ bytes) ≡ false →
     (IsPathOf (records e.tree) (answered_path v e (128 ∷ bytes)) ⊎ Collides (records e.tree) (answered_path v e (128 ∷ bytes))) → IsPathOf (records e.tree) (answered_path v e (128 ∷ bytes))
-path_told v records e bytes fetch whole apart (inl told) = told
-path_told v records e bytes fetch whole apart (inr pair) =
+path_unless_pair v records e bytes fetch whole apart (inl path) = path
+path_unless_pair v records e bytes fetch whole apart (inr pair) =
     let long : (length (128 ∷ bytes) == 1 + (depth_of v.device e.tree + 1) * record_len v) ≡ true = grind (arith, nat_tests, whole) in
     let payload : is_payload v e (128 ∷ bytes) ≡ true = rw (fetch, long) refl in
     absurd (let both : true ≡ false = sym (pair_is v records e (128 ∷ bytes) payload pair) ∙ apart in cc)
@@ -108,8 +108,8 @@ whole_by p a r ok short = elim (cases_eq (length p.bytes) ((p.depth + 1) * p.rec
   | inr other ↦ absurd (let no_way : Ok a ≡ Err fault.Length = sym ok ∙ short.1 other in cc)
 ]
 
-told_ok : {A P C : Type 0} (Q : HashFault → Type 0) (r : Result A HashFault) (a : A) → r ≡ Ok a → MatchResult r (λ _. P) Q ⊎ C → P ⊎ C
-told_ok {A} {P} {C} Q r a ok h = subst (λ (o : Result A HashFault). MatchResult o (λ _. P) Q ⊎ C) ok h
+judged_ok : {A P C : Type 0} (Q : HashFault → Type 0) (r : Result A HashFault) (a : A) → r ≡ Ok a → MatchResult r (λ _. P) Q ⊎ C → P ⊎ C
+judged_ok {A} {P} {C} Q r a ok h = subst (λ (o : Result A HashFault). MatchResult o (λ _. P) Q ⊎ C) ok h
 
 -- and a path that passes the check is the one last stored
 pub path_stands : {A : Type 0} (v : Scheme) (s : State) (w : World) (bytes : List ℕ) (a : A) (r : Result A HashFault) → IsSound v.device v.cipher.overhead s → status_in s ≡ Waiting → s.entry_number % 2 ≡ 0 → Fits v s w →
@@ -119,9 +119,9 @@ path_stands v s w bytes a r h now even fits apart checked ok =
     let e : Entry = requested s.message in
     let whole : HasLength (path_now v s bytes) = whole_by (path_now v s bytes) a r ok checked.short in
     subst (λ (k : ℕ). IsPathOf (w.records k) (path_of v.device k e.leaf v.cipher.overhead bytes)) out.1
-    (path_told v w.records e bytes out.0 (subst (λ (k : ℕ). HasLength (path_of v.device k e.leaf v.cipher.overhead bytes)) (sym out.1) whole) apart
+    (path_unless_pair v w.records e bytes out.0 (subst (λ (k : ℕ). HasLength (path_of v.device k e.leaf v.cipher.overhead bytes)) (sym out.1) whole) apart
     (subst (λ (k : ℕ). IsPathOf (w.records k) (path_of v.device k e.leaf v.cipher.overhead bytes) ⊎ Collides (w.records k) (path_of v.device k e.leaf v.cipher.overhead bytes)) (sym out.1)
-    (told_ok _ r a ok (checked.judged (w.records (entry_tree v.device s.entry_number)) (stored_now v s w h now fits)))))
+    (judged_ok _ r a ok (checked.judged (w.records (entry_tree v.device s.entry_number)) (stored_now v s w h now fits)))))
 
 -- the tree at work, as the code reads it
 pub record IsTreeAt (v : Scheme) (s : State) (t : Tree) : Type 0 where
@@ -196,8 +196,8 @@ both_true true b e = (refl, e)
 both_true false b e = (e, absurd (let no_way : false ≡ true = e in cc))
 
 is_refused : (bytes : List ℕ) → is_refusal bytes ≡ true → refusal_in bytes ≡ Some (slice_index bytes 1)
-is_refused bytes told =
-    let three = both_true ((length bytes == 2) && (slice_index bytes 0 == 129) && nat_le 1 (slice_index bytes 1)) (nat_le (slice_index bytes 1) 7) told in
+is_refused bytes test =
+    let three = both_true ((length bytes == 2) && (slice_index bytes 0 == 129) && nat_le 1 (slice_index bytes 1)) (nat_le (slice_index bytes 1) 7) test in
     let two = both_true ((length bytes == 2) && (slice_index bytes 0 == 129)) (nat_le 1 (slice_index bytes 1)) three.0 in
     let one = both_true (length bytes == 2) (slice_index bytes 0 == 129) two.0 in
     let some : (slice_index bytes 1 == 0) ≡ false = grind (arith, nat_tests, two.1) in
@@ -219,7 +219,7 @@ pub record IsNoRefusal (bytes : List ℕ) : Type 0 where
 
 pub not_refused : (bytes : List ℕ) → refusal_in bytes ≡ None → IsNoRefusal bytes
 not_refused bytes none = record {
-  refusal = elim (is_refusal bytes) as (λ b. is_refusal bytes ≡ b → b ≡ false) [ true ↦ λ told. absurd (let no_way : Some (slice_index bytes 1) ≡ None = sym (is_refused bytes told) ∙ none in cc) | false ↦ λ told. refl ] refl;
+  refusal = elim (is_refusal bytes) as (λ b. is_refusal bytes ≡ b → b ≡ false) [ true ↦ λ test. absurd (let no_way : Some (slice_index bytes 1) ≡ None = sym (is_refused bytes test) ∙ none in cc) | false ↦ λ test. refl ] refl;
   room = λ is. absurd (let no_way : Some 8 ≡ None = sym (ap refusal_in is) ∙ none in cc);
 }
 
@@ -251,7 +251,7 @@ empty_means v s w bytes none empty = other_means v s w bytes none (λ first. abs
 -- byte 80 and the bytes after it
 pub payload_means : (v : Scheme) (s : State) (bytes xs : List ℕ) (r : Verdict) → ((w : World) → Fits v s w → pair_in v w.records (requested s.message) (128 ∷ xs) ≡ false → Means v s w (128 ∷ xs) r) → xs ≡ drop 1 bytes → slice_index bytes 0 ≡ 128 →
     (w : World) → Fits v s w → pair_in v w.records (requested s.message) bytes ≡ false → Means v s w bytes r
-payload_means v s [] xs r told is first = absurd (omega arith)
-payload_means v s (x ∷ bytes) xs r told is first =
+payload_means v s [] xs r meant is first = absurd (omega arith)
+payload_means v s (x ∷ bytes) xs r meant is first =
     let whole : 128 ∷ xs ≡ x ∷ bytes = cc in
-    λ w fits apart. subst (λ (ys : List ℕ). pair_in v w.records (requested s.message) ys ≡ false → Means v s w ys r) whole (told w fits) apart
+    λ w fits apart. subst (λ (ys : List ℕ). pair_in v w.records (requested s.message) ys ≡ false → Means v s w ys r) whole (meant w fits) apart

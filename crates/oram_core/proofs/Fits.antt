@@ -74,7 +74,7 @@ healthy_by o p w ts =
     let count : length (submissions_from t p.waiting) ≡ length p.waiting = commands_length t p.waiting in
     record {
       table = w.table.long;
-      names = w.table.names;
+      map_entries = w.table.map_entries;
       count = trees_length 0 p.trees ∙ w.count;
       kept = λ i below. let same : 0 + i ≡ i = omega arith in subst (λ (n : ℕ). IsTreeKept d n (slice_index_or (trees_from 0 p.trees) i no_tree)) same (kept_from d 0 p.trees ts i (omega (arith, below, w.count)));
       queue = allowed_from d t p.waiting w.waiting.allowed;
@@ -91,11 +91,11 @@ ended_by p e failed h =
     let queue : submissions_from (p.tickets - length p.waiting) p.waiting ≡ [] = ap (submissions_from (p.tickets - length p.waiting)) h.nothing.waiting in
     let table = h.nothing.table in
     let entry_number = h.rests.entry_number in
-    let named = h.rests.held_entry in
+    let held_entry = h.rests.held_entry in
     let before = h.rests.held_data in
     let last = h.rests.message in
     let lost = h.rests.lost in
-    rw (trees, queue, table, entry_number, named, before, last, lost, failed) refl
+    rw (trees, queue, table, entry_number, held_entry, before, last, lost, failed) refl
 
 whole_by : (o : ℕ) (p : Parts) (f : Option Reason) → p.failure ≡ f → IsFitting o p f → AreTrees p.device 0 p.trees → IsWhole p.device o (state_of p) f
 whole_by o p None is w ts = healthy_by o p w ts
@@ -118,7 +118,7 @@ working_by o p h =
     let t : ℕ = p.tickets - length p.waiting in
     let count : length (submissions_from t p.waiting) ≡ length p.waiting = commands_length t p.waiting in
     record {
-      table = record { long = h.table; names = h.names };
+      table = record { long = h.table; map_entries = h.map_entries };
       count = sym (trees_length 0 p.trees) ∙ h.count;
       waiting = record { most = omega (arith, count, h.most); begun = omega (arith, count, h.begun); allowed = allowed_back p.device t p.waiting h.queue };
       work = h.work;
@@ -173,9 +173,9 @@ pub begun_waiting : (o : ℕ) (p : Parts) → IsFitting o p p.failure → length
 begun_waiting o p w = begun_by o p p.failure w
 
 -- a property of an error is one of the error that it equals
-pub told_err : {A E : Type 0} (r : Result A E) (P : E → Type 0) (e : E) → r ≡ Err e → IsErrAnd r P → P e
-told_err {A = A} {E = E} r P e is h = subst (λ (q : Result A E). IsErrAnd q P) is h
+pub at_err : {A E : Type 0} (r : Result A E) (P : E → Type 0) (e : E) → r ≡ Err e → IsErrAnd r P → P e
+at_err {A = A} {E = E} r P e is h = subst (λ (q : Result A E). IsErrAnd q P) is h
 
 -- memory ran out, which says nothing of the parts
 pub memory_apart : {A : Type 0} (r : Result A PartsFault) → IsErrAnd r (λ e. e ≡ PartsFault.OutOfMemory) → r ≡ Err PartsFault.Content → ⊥
-memory_apart r is same = let no_way : PartsFault.Content ≡ PartsFault.OutOfMemory = told_err r _ PartsFault.Content same is in cc
+memory_apart r is same = let no_way : PartsFault.Content ≡ PartsFault.OutOfMemory = at_err r _ PartsFault.Content same is in cc

@@ -14,7 +14,7 @@ use Rattle.oram_semantics.specs.Content.{block_of, entry_tree, new_leaf}
 use Rattle.oram_semantics.specs.InTurn.{AsksInTurn, IsFirstNext, IsNoFirstFetch}
 use Rattle.oram_semantics.specs.Moves.{fetch_at, leaf_for}
 use Rattle.oram_semantics.specs.NextFetches.{fetch_bodies, first_fetches, next_fetches, table_after, to_begin}
-use Rattle.oram_semantics.specs.State.{State, named_now}
+use Rattle.oram_semantics.specs.State.{State, map_entry_now}
 use Rattle.oram_semantics.specs.declared.events.Submission.{Submission}
 use Rattle.oram_semantics.proofs.InTurn.{next_by, next_cons, no_first_fetch, no_first_store}
 use Rattle.oram_core.specs.Core.{AtWork, IsAtWork, IsSound, IsStoreOf}
@@ -45,7 +45,7 @@ later_at_work d o s x w some = elim (eqb_tells (s.entry_number % 2) 0) [
       let two : s.entry_number % 2 ≡ 0 = even.1 in
       let few : s.entry_number < 2 * trees_of d = w.entry_number in
       let apart : tree ≢ trees_of d - 1 = λ same. absurd (omega arith) in
-      no_first_fetch d tree (leaf_for d tree (named_now d s x) x) s.message apart (w.fetch even.1)
+      no_first_fetch d tree (leaf_for d tree (map_entry_now d s x) x) s.message apart (w.fetch even.1)
   | inr odd ↦
       let ne : s.entry_number % 2 ≢ 0 = odd.1 in
       let store : IsStoreOf d o (entry_tree d s.entry_number) s.message = w.store (omega arith) in
@@ -75,12 +75,12 @@ most d = 2 ^ depth_of d (trees_of d - 1)
 -- the first FETCHes of any commands, if the table names leaves of the last tree
 all_first : (d : Sizes) (table : List ℕ) (xs : List Submission) → All (λ e. e ≤ most d) table → All (IsFirstFetch d) (fetch_bodies (first_fetches d table xs))
 unfolding first_fetches table_after
-all_first d table [] names = All-nil (IsFirstFetch d)
-all_first d table (x ∷ rest) names =
+all_first d table [] map_entries = All-nil (IsFirstFetch d)
+all_first d table (x ∷ rest) map_entries =
     let top : ℕ = trees_of d - 1 in
     let block : ℕ = block_of d top x in
     let last : entry_tree d 0 ≡ top = omega arith in
-    let fits : slice_index table block ≤ most d = entry_small table (most d) block names in
+    let fits : slice_index table block ≤ most d = entry_small table (most d) block map_entries in
     let new : new_leaf d top x < most d = mod-lt (slice_index x.words (2 * top + 1)) (pow_pos (depth_of d top)) in
     All-cons (IsFirstFetch d) _ _
     (record {
@@ -88,12 +88,12 @@ all_first d table (x ∷ rest) names =
       leaf_in = leaf_for-range d top (slice_index table block) x fits;
       named = ap (λ (i : ℕ). fetch_body i (leaf_for d i (slice_index table block) x)) last;
     })
-    (all_first d (slice_set table block (new_leaf d top x + 1)) rest (All-set (λ e. e ≤ most d) table block (new_leaf d top x + 1) (omega (arith, new)) names))
+    (all_first d (slice_set table block (new_leaf d top x + 1)) rest (All-set (λ e. e ≤ most d) table block (new_leaf d top x + 1) (omega (arith, new)) map_entries))
 
 fetches : (d : Sizes) (o : ℕ) (s : State) → IsSound d o s → All (IsFirstFetch d) (fetch_bodies (next_fetches d s))
 fetches d o s h = elim (cases_eq (length s.queue) 0) [
   | inl none ↦ subst (All (IsFirstFetch d)) (none_next d s (none_left s.queue none)) (All-nil (IsFirstFetch d))
-  | inr some ↦ all_first d s.table (to_begin s) (healthy_of d o s h (some_healthy d o s h (omega (arith, some)))).names
+  | inr some ↦ all_first d s.table (to_begin s) (healthy_of d o s h (some_healthy d o s h (omega (arith, some)))).map_entries
 ]
 
 pub sound_cores_are_in_turn : SoundCoresAreInTurn

@@ -32,32 +32,32 @@ record MeetsPremises (v : Scheme) (s : State) (w : World) (event : Event) (x : S
   pub steps : StepsByRule v s event x t
   pub alive : t.failure ≡ None
 
-abbrev asked : ℕ → Command → List ℕ → Submission
-asked session c words = record { session = session; ticket = 0; command = c; words = words }
+abbrev submission : ℕ → Command → List ℕ → Submission
+submission session c words = record { session = session; ticket = 0; command = c; words = words }
 
-abbrev shown : Done → Shown
-shown d = record { note = d.note; replies = d.replies; sends = d.sends }
+abbrev reaction_in : Done → Shown
+reaction_in d = record { note = d.note; replies = d.replies; sends = d.sends }
 
 -- the first command of a device is one that there is no reason to refuse
 begins : (v : Setting) (trees : List Tree) (session : ℕ) (c : Command) (words : List ℕ) → refusal_of v.scheme.device false 0 0 c words ≡ None
-    → let d = accepted_by v.scheme (new_state v trees) (asked session c words) in
-    StepsByRule v.scheme (new_state v trees) (Submit session c words) (shown d) d.state
+    → let d = accepted_by v.scheme (new_state v trees) (submission session c words) in
+    StepsByRule v.scheme (new_state v trees) (Submit session c words) (reaction_in d) d.state
 begins v trees session c words free w fits apart =
     let s : State = new_state v trees in
-    let x : Submission = asked session c words in
+    let x : Submission = submission session c words in
     subst (λ (o : Option Refusal). Meets v.scheme s w (on_submission v.scheme s w x o) (accepted_by v.scheme s x)) (sym free) (accepts_met v.scheme s w x (holds_of v.scheme s w fits))
 
 in_turn_example : (v : Setting) (trees : List Tree) (session : ℕ) (c : Command) (words : List ℕ) → IsDevice v.scheme.device → IsFormatted v trees
     → refusal_of v.scheme.device false 0 0 c words ≡ None
-    → let d = accepted_by v.scheme (new_state v trees) (asked session c words) in
-    MeetsPremises v.scheme (new_state v trees) (world_of v []) (Submit session c words) (shown d) d.state
-    × StepsTo v [] (new_state v trees) (Submit session c words ∷ []) (shown d ∷ []) (step_of (Submit session c words) (shown d) ∷ []) d.state
+    → let d = accepted_by v.scheme (new_state v trees) (submission session c words) in
+    MeetsPremises v.scheme (new_state v trees) (world_of v []) (Submit session c words) (reaction_in d) d.state
+    × StepsTo v [] (new_state v trees) (Submit session c words ∷ []) (reaction_in d ∷ []) (step_of (Submit session c words) (reaction_in d) ∷ []) d.state
     × AsksInTurn v.scheme.device (new_state v trees)
 in_turn_example v trees session c words device made free =
     let fit : IsFit v.scheme.device = fit_device v.scheme.device device in
     let s : State = new_state v trees in
-    let d : Done = accepted_by v.scheme s (asked session c words) in
-    let step : StepsByRule v.scheme s (Submit session c words) (shown d) d.state = begins v trees session c words free in (
+    let d : Done = accepted_by v.scheme s (submission session c words) in
+    let step : StepsByRule v.scheme s (Submit session c words) (reaction_in d) d.state = begins v trees session c words free in (
       record {
         orderly = orderly_new v trees fit;
         holds = formatted_holds v trees made;

@@ -23,14 +23,14 @@ use Rattle.oram_core.specs.declared.verdicts.Verdict.TheVariants as verdict
 use Rattle.oram_core.proofs.AnswerVerdicts.{IsRefused, IsTreeAt, refused_so, not_refused}
 
 -- from the use of a path to the verdict on the answer
-pub use_told : (v : Scheme) (s : State) (bytes : List ℕ) (p : Path) (n : Note) → Tells v s bytes (verdict.Path p) → IsUseOf v s p n → IsVerdict v s bytes n
-use_told v s bytes p (FailedNow e) t u =
+pub use_verdict : (v : Scheme) (s : State) (bytes : List ℕ) (p : Path) (n : Note) → Tells v s bytes (verdict.Path p) → IsUseOf v s p n → IsVerdict v s bytes n
+use_verdict v s bytes p (FailedNow e) t u =
     let q : Path = path_now v s p.bytes in
     let root : List ℕ = (tree_now v s).root in
     let accepted : IsAccepted q root = subst (λ (x : Path). IsAccepted x root) t.2 t.3 in
     let useless : IsUseless v s q = subst (IsUseless v s) t.2 u.1 in
     subst (IsReasonFor v s bytes) (sym u.0) (refl, record { fetched = t.0; records = p.bytes; answer = t.1; spoilt = inr (refl, accepted, useless) })
-use_told v s bytes p Taken t leads =
+use_verdict v s bytes p Taken t leads =
     let root : List ℕ = (tree_now v s).root in
     record {
       fetched = λ even. record {
@@ -41,15 +41,15 @@ use_told v s bytes p Taken t leads =
       };
       stored = λ odd. absurd (let even : s.entry_number % 2 ≡ 0 = t.0 in omega arith);
     }
-use_told v s bytes p (Accepted k) t u = absurd u
-use_told v s bytes p (Refused e) t u = absurd u
-use_told v s bytes p Stalled t u = absurd u
-use_told v s bytes p Resent t u = absurd u
-use_told v s bytes p Unexpected t u = absurd u
+use_verdict v s bytes p (Accepted k) t u = absurd u
+use_verdict v s bytes p (Refused e) t u = absurd u
+use_verdict v s bytes p Stalled t u = absurd u
+use_verdict v s bytes p Resent t u = absurd u
+use_verdict v s bytes p Unexpected t u = absurd u
 
 -- a STORE with a good answer
-pub stored_told : (v : Scheme) (s : State) (bytes : List ℕ) → Tells v s bytes verdict.Stored → IsVerdict v s bytes Taken
-stored_told v s bytes t = record {
+pub stored_verdict : (v : Scheme) (s : State) (bytes : List ℕ) → Tells v s bytes verdict.Stored → IsVerdict v s bytes Taken
+stored_verdict v s bytes t = record {
   fetched = λ even. absurd (let odd : s.entry_number % 2 ≡ 1 = t.0 in omega arith);
   stored = λ odd. t.1;
 }
@@ -84,8 +84,8 @@ pub readable_now : (v : Scheme) (s : State) (t : Tree) (p : Path) → IsTreeAt v
 readable_now v s t p at h =
     subst (λ (k : Tree). IsReadable (reads_now v s) p k.stash) at.is (subst (λ (i : ℕ). IsReadable (Reads v.cipher.opening v.device i) p t.stash) at.number h)
 
-pub readable_told : (v : Scheme) (s : State) (t : Tree) (p : Path) → IsTreeAt v s t → IsReadableNow v s p → IsReadable (Reads v.cipher.opening v.device t.number) p t.stash
-readable_told v s t p at h =
+pub readable_in : (v : Scheme) (s : State) (t : Tree) (p : Path) → IsTreeAt v s t → IsReadableNow v s p → IsReadable (Reads v.cipher.opening v.device t.number) p t.stash
+readable_in v s t p at h =
     subst (λ (i : ℕ). IsReadable (Reads v.cipher.opening v.device i) p t.stash) (sym at.number) (subst (λ (k : Tree). IsReadable (reads_now v s) p k.stash) (sym at.is) h)
 
 pub looked_now : (v : Scheme) (s : State) (t : Tree) (p : Path) (block : ℕ) (x : Submission) (found : Bool) (before : List ℕ) → IsTreeAt v s t → block ≡ block_of v.device (entry_tree v.device s.entry_number) x →
@@ -113,10 +113,10 @@ pub empty_tells : (v : Scheme) (s : State) (bytes : List ℕ) → refusal_in byt
 empty_tells v s bytes none empty = ((not_refused bytes none).refusal, ap (is_formed v s) (nothing bytes empty))
 
 pub payload_tells : (v : Scheme) (s : State) (bytes xs : List ℕ) (r : Verdict) → Tells v s (128 ∷ xs) r → xs ≡ drop 1 bytes → slice_index bytes 0 ≡ 128 → Tells v s bytes r
-payload_tells v s [] xs r told is first = absurd (omega arith)
-payload_tells v s (x ∷ bytes) xs r told is first =
+payload_tells v s [] xs r tells is first = absurd (omega arith)
+payload_tells v s (x ∷ bytes) xs r tells is first =
     let whole : 128 ∷ xs ≡ x ∷ bytes = cc in
-    subst (λ (ys : List ℕ). Tells v s ys r) whole told
+    subst (λ (ys : List ℕ). Tells v s ys r) whole tells
 
 -- byte 80 begins no refusal
 payload_is_none : (xs : List ℕ) → is_refusal (128 ∷ xs) ≡ false
@@ -151,7 +151,7 @@ path_tells v s xs p even is accepted =
     (even, ap (λ b. 128 ∷ b) (sym bytes), is ∙ ap (λ b. path_now v s b) (sym bytes), subst (λ (q : Path). IsAccepted q (tree_now v s).root) (sym is) accepted)
 
 pub refused_tells : (v : Scheme) (s : State) (bytes : List ℕ) (code : ℕ) → refusal_in bytes ≡ Some code → code ≢ 8 → IsReasonFor v s bytes (HostRefused code)
-refused_tells v s bytes code told other =
-    let r : IsRefused bytes code = refused_so bytes code told in
+refused_tells v s bytes code refused other =
+    let r : IsRefused bytes code = refused_so bytes code refused in
     let high : code ≤ 8 = r.high in
     (r.is, r.low, omega (arith, high, other))

@@ -194,14 +194,14 @@ pub answer_ignored : (v : Scheme) (s : State) (bytes : List ℕ) (y : Reaction) 
 answer_ignored v s bytes y t other h = ignored v s (Answer bytes) y t (answer_by s (bytes_eq bytes (129 ∷ 8 ∷ [])) (status_in s) other) (λ w. answer_rule v s w (status_in s) (outcome_of v w.records (requested s.message) bytes) other)
     (λ given answer waiting. absurd (let no_way : true ≡ false = sym (ap is_waiting waiting) ∙ other in cc)) h
 
-told_room : (s : State) (d : Done) (b : Bool) → (if b then Some (stalled_by s) else None) ≡ Some d → (b ≡ true) × (stalled_by s ≡ d)
-told_room s d true h = (refl, ap (λ o. unwrap_or o d) h)
-told_room s d false h = absurd (let no_way : None ≡ Some d = h in cc)
+stalls_for_room : (s : State) (d : Done) (b : Bool) → (if b then Some (stalled_by s) else None) ≡ Some d → (b ≡ true) × (stalled_by s ≡ d)
+stalls_for_room s d true h = (refl, ap (λ o. unwrap_or o d) h)
+stalls_for_room s d false h = absurd (let no_way : None ≡ Some d = h in cc)
 
 plain_answer : (v : Scheme) (s : State) (bytes : List ℕ) (y : Reaction) (t : State) (d : Done) → status_in s ≡ Waiting → (bytes ≡ 129 ∷ 8 ∷ [] → done y t ≡ stalled_by s) → plain_step v s (Answer bytes) ≡ Some d → done y t ≡ d
 plain_answer v s bytes y t d now room h =
-    let told = told_room s d (bytes_eq bytes (129 ∷ 8 ∷ [])) (sym (ap (unheard_by s (bytes_eq bytes (129 ∷ 8 ∷ []))) now) ∙ h) in
-    room ((bytes_eq-Decides bytes (129 ∷ 8 ∷ [])).0 told.0) ∙ told.1
+    let stalls = stalls_for_room s d (bytes_eq bytes (129 ∷ 8 ∷ [])) (sym (ap (unheard_by s (bytes_eq bytes (129 ∷ 8 ∷ []))) now) ∙ h) in
+    room ((bytes_eq-Decides bytes (129 ∷ 8 ∷ [])).0 stalls.0) ∙ stalls.1
 
 -- an answer that the core waits for
 pub hear_steps : {E : Type 0} (v : Scheme) (s : State) (bytes : List ℕ) (r : Result Reaction E) (t : State) → status_in s ≡ Waiting →
@@ -273,5 +273,5 @@ resend_bound v s d now is note =
 -- of the answers that the core waits for, only the refusal for lack of room has a plain step
 pub plain_refusal : (v : Scheme) (s : State) (bytes : List ℕ) (d : Done) → status_in s ≡ Waiting → plain_step v s (Answer bytes) ≡ Some d → bytes ≡ 129 ∷ 8 ∷ []
 plain_refusal v s bytes d now is =
-    let told = told_room s d (bytes_eq bytes (129 ∷ 8 ∷ [])) (sym (ap (unheard_by s (bytes_eq bytes (129 ∷ 8 ∷ []))) now) ∙ is) in
-    (bytes_eq-Decides bytes (129 ∷ 8 ∷ [])).0 told.0
+    let stalls = stalls_for_room s d (bytes_eq bytes (129 ∷ 8 ∷ [])) (sym (ap (unheard_by s (bytes_eq bytes (129 ∷ 8 ∷ []))) now) ∙ is) in
+    (bytes_eq-Decides bytes (129 ∷ 8 ∷ [])).0 stalls.0

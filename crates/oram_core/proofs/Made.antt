@@ -55,7 +55,7 @@ nonce_first d some = let all : trees_of d - (0 + 1) / 2 ≡ trees_of d = omega a
 -- a core just formatted is sound
 pub new_sound : {K : Type 0} (v : Scheme) (putting : K → List ℕ → K → Type 0) (from to : K) (trees : List Tree) (s : State) → IsDevice v.device → v.cipher.overhead ≤ 64 → AreMade v putting from (trees_of v.device) trees to
     → s.table ≡ replicate (blocks_in v.device (trees_of v.device - 1)) 0 → s.trees ≡ trees → s.next ≡ 0 → s.nonce ≡ formatted v.device → s.queue ≡ [] → s.entry_number ≡ 0 → s.held_entry ≡ 0 → s.held_data ≡ [] → s.message ≡ [] → s.lost ≡ false → s.failure ≡ None → IsSound v.device v.cipher.overhead s
-new_sound v putting from to trees s device small a table_is trees_is next_is nonce_is queue_is stage_is named_is before_is last_is lost_is alive =
+new_sound v putting from to trees s device small a table_is trees_is next_is nonce_is queue_is stage_is map_entry_is before_is last_is lost_is alive =
     let d = v.device in
     let few : trees_of d ≤ 13 = trees_of-few d device in
     let tree = λ (ts : List Tree) (i : ℕ). slice_index_or ts i no_tree in
@@ -70,14 +70,14 @@ new_sound v putting from to trees s device small a table_is trees_is next_is non
     let answered : s.next - length s.queue ≡ 0 = omega (arith, next_is, none) in
     let whole : IsHealthy d v.cipher.overhead s = record {
       table = ap length table_is ∙ length-replicate (blocks_in d (trees_of d - 1)) 0;
-      names = subst Named (sym table_is) (All-replicate (λ e. e ≤ 2 ^ depth_of d (trees_of d - 1)) (blocks_in d (trees_of d - 1)) 0 (omega arith));
+      map_entries = subst Named (sym table_is) (All-replicate (λ e. e ≤ 2 ^ depth_of d (trees_of d - 1)) (blocks_in d (trees_of d - 1)) 0 (omega arith));
       count = ap length trees_is ∙ a.made.trees_count;
       kept = subst Kept (sym trees_is) (λ i below. record { number = (a.made.each i below).number; blocks = subst (Blocks i) (sym (a.empty i below)) (All-nil (IsBlockOf d i)) });
       queue = subst Allowed (sym queue_is) (All-nil (IsAllowed d));
       tickets = subst Tickets (sym queue_is) tt;
       most = omega (arith, none);
       begun = omega (arith, none);
-      work = subst Work (sym queue_is) (record { entry_number = stage_is; held_entry = named_is; held_data = before_is; message = last_is; lost = lost_is });
+      work = subst Work (sym queue_is) (record { entry_number = stage_is; held_entry = map_entry_is; held_data = before_is; message = last_is; lost = lost_is });
       nonce = nonce_is ∙ sym (nonce_first d some) ∙ ap (λ (k : ℕ). next_nonce d 0 k) (sym stage_is) ∙ ap (λ (k : ℕ). next_nonce d k s.entry_number) (sym answered);
     } in
     record { ranges = device; small = small; next = omega (arith, next_is); whole = subst (IsWhole d v.cipher.overhead s) (sym alive) whole }

@@ -9,10 +9,10 @@ use Rattle.oram_wire.specs.HostMessages.{store_body}
 use Rattle.oram_semantics.specs.Content.{block_of, new_leaf, entry_tree}
 use Rattle.oram_semantics.specs.Messages.{requested}
 use Rattle.oram_semantics.specs.Moves.{fetch_at, latest}
-use Rattle.oram_semantics.specs.Blocks.{next_named, kept_of, body_from}
+use Rattle.oram_semantics.specs.Blocks.{next_map_entry, kept_of, body_from}
 use Rattle.oram_semantics.specs.Scheme.{Scheme}
 use Rattle.oram_semantics.specs.Progress.Status.{Waiting}
-use Rattle.oram_semantics.specs.State.{State, status_in, named_now}
+use Rattle.oram_semantics.specs.State.{State, status_in, map_entry_now}
 use Rattle.oram_semantics.specs.declared.events.Note.TheVariants.{Accepted, Taken}
 use Rattle.oram_semantics.specs.declared.events.Reaction.{Reaction}
 use Rattle.oram_semantics.specs.declared.events.Reply.{Reply}
@@ -20,7 +20,7 @@ use Rattle.oram_semantics.specs.declared.events.Submission.{Submission}
 use Rattle.oram_core.specs.Core.{IsSound, IsPathStore}
 use Rattle.oram_core.specs.PlainSteps.{Done, done, accepted_by, sent_if_idle, fetch_of, first_message, first_messages, fetched_by, finished_by, stored_by, is_misled}
 use Rattle.oram_core.proofs.Heard.{if_ok}
-use Rattle.oram_core.proofs.Small.{named_none}
+use Rattle.oram_core.proofs.Small.{map_entry_none}
 use Rattle.oram_core.proofs.Sound.{HasOldest, has_oldest, stage_within, fetched_as, finished_as, stored_as}
 
 -- the number of stages is small
@@ -35,24 +35,24 @@ pub leaf_here : (d : Sizes) (o : ℕ) (s : State) → IsSound d o s → status_i
 leaf_here d o s h now = (has_oldest d o s h now).work.leaf
 
 -- a path is stored
-pub commit_sound : (d : Sizes) (o : ℕ) (s : State) (tree block leaf named nonce : ℕ) (before table kept last : List ℕ) → IsSound d o s → status_in s ≡ Waiting → s.entry_number % 2 ≡ 0 → tree ≡ entry_tree d s.entry_number →
+pub commit_sound : (d : Sizes) (o : ℕ) (s : State) (tree block leaf map_entry nonce : ℕ) (before table kept last : List ℕ) → IsSound d o s → status_in s ≡ Waiting → s.entry_number % 2 ≡ 0 → tree ≡ entry_tree d s.entry_number →
     length before ≡ d.block_bytes → IsPathStore d o tree (requested s.message).leaf last →
-    ((x : Submission) (rest : List Submission) → s.queue ≡ x ∷ rest → (block ≡ block_of d tree x) × (leaf ≡ new_leaf d tree x) × (named ≡ next_named d tree x before)) →
-    named ≤ 2 ^ depth_of d (tree - 1) →
+    ((x : Submission) (rest : List Submission) → s.queue ≡ x ∷ rest → (block ≡ block_of d tree x) × (leaf ≡ new_leaf d tree x) × (map_entry ≡ next_map_entry d tree x before)) →
+    map_entry ≤ 2 ^ depth_of d (tree - 1) →
     table ≡ (if s.entry_number == 0 then slice_set s.table block (leaf + 1) else s.table) → nonce ≡ s.nonce + (depth_of d tree + 1) → kept ≡ kept_of tree before →
-    IsSound d o (record s { table = table; nonce = nonce; entry_number = s.entry_number + 1; held_entry = named; held_data = kept; message = last })
-commit_sound d o s tree block leaf named nonce before table kept last h now even here long sent oldest low t n k =
+    IsSound d o (record s { table = table; nonce = nonce; entry_number = s.entry_number + 1; held_entry = map_entry; held_data = kept; message = last })
+commit_sound d o s tree block leaf map_entry nonce before table kept last h now even here long sent oldest low t n k =
     let w : HasOldest d s = has_oldest d o s h now in
     let x : Submission = w.oldest in
     let of = oldest x w.rest w.queue in
     let i : ℕ = entry_tree d s.entry_number in
     let block_is : block ≡ block_of d i x = of.0 ∙ ap (λ j. block_of d j x) here in
     let leaf_is : leaf ≡ new_leaf d i x = of.1 ∙ ap (λ j. new_leaf d j x) here in
-    let named_is : named ≡ next_named d i x before = of.2 ∙ ap (λ j. next_named d j x before) here in
+    let map_entry_is : map_entry ≡ next_map_entry d i x before = of.2 ∙ ap (λ j. next_map_entry d j x before) here in
     let table_is : table ≡ (if s.entry_number == 0 then slice_set s.table (block_of d i x) (new_leaf d i x + 1) else s.table) =
     t ∙ ap (λ b. if s.entry_number == 0 then slice_set s.table b (leaf + 1) else s.table) block_is ∙ ap (λ l. if s.entry_number == 0 then slice_set s.table (block_of d i x) (l + 1) else s.table) leaf_is in
-    let fits : next_named d i x before ≤ 2 ^ depth_of d (i - 1) = subst (λ (z : ℕ). z ≤ 2 ^ depth_of d (i - 1)) named_is (subst (λ (j : ℕ). named ≤ 2 ^ depth_of d (j - 1)) here low) in
-    stored_as d o s x w.rest before sent.records table nonce named kept last h w.healthy w.queue even long (sent.long ∙ ap (λ j. (depth_of d j + 1) * record_len_of d o) here) fits table_is (n ∙ ap (λ j. s.nonce + (depth_of d j + 1)) here) named_is (k ∙ ap (λ j. kept_of j before) here)
+    let fits : next_map_entry d i x before ≤ 2 ^ depth_of d (i - 1) = subst (λ (z : ℕ). z ≤ 2 ^ depth_of d (i - 1)) map_entry_is (subst (λ (j : ℕ). map_entry ≤ 2 ^ depth_of d (j - 1)) here low) in
+    stored_as d o s x w.rest before sent.records table nonce map_entry kept last h w.healthy w.queue even long (sent.long ∙ ap (λ j. (depth_of d j + 1) * record_len_of d o) here) fits table_is (n ∙ ap (λ j. s.nonce + (depth_of d j + 1)) here) map_entry_is (k ∙ ap (λ j. kept_of j before) here)
     (sent.body ∙ ap (λ j. store_body j (requested s.message).leaf sent.records) here)
 
 -- the path of the next tree is fetched
@@ -115,19 +115,19 @@ fetched_so v s x replies sends last h l m r =
     cc
 
 -- what the core did if it stored a path
-pub stored_so : (v : Scheme) (s : State) (x : Submission) (tree block new named : ℕ) (before records kept : List ℕ) → tree ≡ entry_tree v.device s.entry_number → block ≡ block_of v.device tree x → new ≡ new_leaf v.device tree x →
-    named ≡ next_named v.device tree x before → kept ≡ store_body tree (requested s.message).leaf records →
+pub stored_so : (v : Scheme) (s : State) (x : Submission) (tree block new map_entry : ℕ) (before records kept : List ℕ) → tree ≡ entry_tree v.device s.entry_number → block ≡ block_of v.device tree x → new ≡ new_leaf v.device tree x →
+    map_entry ≡ next_map_entry v.device tree x before → kept ≡ store_body tree (requested s.message).leaf records →
     (let d : Done = record {
       note = Taken;
       replies = [];
       sends = kept ∷ [];
-      state = record s { table = if s.entry_number == 0 then slice_set s.table block (new + 1) else s.table; nonce = s.nonce + (depth_of v.device tree + 1); entry_number = s.entry_number + 1; held_entry = named; held_data = kept_of tree before; message = kept };
+      state = record s { table = if s.entry_number == 0 then slice_set s.table block (new + 1) else s.table; nonce = s.nonce + (depth_of v.device tree + 1); entry_number = s.entry_number + 1; held_entry = map_entry; held_data = kept_of tree before; message = kept };
     } in d ≡ stored_by v s x before records)
-stored_so v s x tree block new named before records kept t b n m k =
+stored_so v s x tree block new map_entry before records kept t b n m k =
     let i : ℕ = entry_tree v.device s.entry_number in
     let block_is : block ≡ block_of v.device i x = b ∙ ap (λ j. block_of v.device j x) t in
     let new_is : new ≡ new_leaf v.device i x = n ∙ ap (λ j. new_leaf v.device j x) t in
-    let named_is : named ≡ next_named v.device i x before = m ∙ ap (λ j. next_named v.device j x before) t in
+    let map_entry_is : map_entry ≡ next_map_entry v.device i x before = m ∙ ap (λ j. next_map_entry v.device j x before) t in
     let kept_is : kept ≡ store_body i (requested s.message).leaf records = k ∙ ap (λ j. store_body j (requested s.message).leaf records) t in
     let deep : depth_of v.device tree ≡ depth_of v.device i = ap (λ j. depth_of v.device j) t in
     let read : kept_of tree before ≡ kept_of i before = ap (λ j. kept_of j before) t in
@@ -146,17 +146,17 @@ not_both true b first e = e
 not_both false b first e = absurd (let no_way : false ≡ true = first in cc)
 
 -- if the map hasn't led astray, it names a leaf of the tree below
-pub led_right : (v : Scheme) (s : State) (x : Submission) (found : Bool) (before : List ℕ) (tree named : ℕ) → is_misled v s x found before ≡ false → tree ≡ entry_tree v.device s.entry_number → named ≡ next_named v.device tree x before →
-    named ≤ 2 ^ depth_of v.device (tree - 1)
-led_right v s x found before tree named right t m =
+pub led_right : (v : Scheme) (s : State) (x : Submission) (found : Bool) (before : List ℕ) (tree map_entry : ℕ) → is_misled v s x found before ≡ false → tree ≡ entry_tree v.device s.entry_number → map_entry ≡ next_map_entry v.device tree x before →
+    map_entry ≤ 2 ^ depth_of v.device (tree - 1)
+led_right v s x found before tree map_entry right t m =
     let i : ℕ = entry_tree v.device s.entry_number in
-    let n : ℕ = next_named v.device i x before in
-    let low : (nat_lt 0 i && nat_lt (2 ^ depth_of v.device (i - 1)) n) ≡ false = neither (not (named_now v.device s x == 0) && not found) _ right in
+    let n : ℕ = next_map_entry v.device i x before in
+    let low : (nat_lt 0 i && nat_lt (2 ^ depth_of v.device (i - 1)) n) ≡ false = neither (not (map_entry_now v.device s x == 0) && not found) _ right in
     let fits : n ≤ 2 ^ depth_of v.device (i - 1) = elim (cases_eq i 0) [
-      | inl none ↦ subst (λ (z : ℕ). z ≤ 2 ^ depth_of v.device (i - 1)) (named_none v.device i x before none) (omega arith)
+      | inl none ↦ subst (λ (z : ℕ). z ≤ 2 ^ depth_of v.device (i - 1)) (map_entry_none v.device i x before none) (omega arith)
       | inr some ↦ let positive : nat_lt 0 i ≡ true = grind (arith, nat_tests) in let small : nat_lt (2 ^ depth_of v.device (i - 1)) n ≡ false = not_both (nat_lt 0 i) _ positive low in grind (arith, nat_tests)
     ] in
-    subst (λ (z : ℕ). z ≤ 2 ^ depth_of v.device (tree - 1)) (sym (m ∙ ap (λ j. next_named v.device j x before) t)) (subst (λ (j : ℕ). n ≤ 2 ^ depth_of v.device (j - 1)) (sym t) fits)
+    subst (λ (z : ℕ). z ≤ 2 ^ depth_of v.device (tree - 1)) (sym (m ∙ ap (λ j. next_map_entry v.device j x before) t)) (subst (λ (j : ℕ). n ≤ 2 ^ depth_of v.device (j - 1)) (sym t) fits)
 
 first_sent : (queue : List Submission) (m : List ℕ) → length queue ≡ 0 → sent_if_idle queue m ≡ m ∷ []
 first_sent [] m none = refl

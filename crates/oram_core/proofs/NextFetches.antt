@@ -39,10 +39,10 @@ pub between_all : {X : Type 0} (from at : ℕ) (xs : List X) → length xs ≤ a
 between_all from at xs long = ap (drop from) (take_all at xs long)
 
 -- the entry of a block once one more command has had its answer: the new leaf, if it is the command's block,
-pub entry_named : (d : Sizes) (table : List ℕ) (queue : List Submission) (from at block : ℕ) (y : Submission) → from ≤ at → at < length queue
+pub entry_behind : (d : Sizes) (table : List ℕ) (queue : List Submission) (from at block : ℕ) (y : Submission) → from ≤ at → at < length queue
     → y ≡ slice_index_or queue at y → block < length table → block_of d (trees_of d - 1) y ≡ block
     → slice_index (table_after d table (between from (at + 1) queue)) block ≡ new_leaf d (trees_of d - 1) y + 1
-entry_named d table queue from at block y low high is inside same =
+entry_behind d table queue from at block y low high is inside same =
     let before : List Submission = between from at queue in
     let long : length (table_after d table before) ≡ length table = length-table_after d table before in
     ap (λ (xs : List Submission). slice_index (table_after d table xs) block) (between_more from at queue y low high is)
@@ -72,13 +72,13 @@ pub fetches_more : (d : Sizes) (table : List ℕ) (queue : List Submission) (fro
     → entry ≡ slice_index (table_after d table (between from at queue)) (block_of d (trees_of d - 1) y)
     → body.items ≡ fetch_of (fetch_at d 0 entry y)
     → bodies_in (bodies ++ body ∷ []) ≡ fetch_bodies (first_fetches d table (between from (at + 1) queue))
-fetches_more d table queue from at entry y bodies body low high is made named body_is =
+fetches_more d table queue from at entry y bodies body low high is made map_entry_is body_is =
     let before : List Submission = between from at queue in
     let last : Entry = fetch_at d 0 (slice_index (table_after d table before) (block_of d (trees_of d - 1) y)) y in
     let fetch : Entry → List ℕ = λ e. fetch_body e.tree e.leaf in
     map-append (λ (b : Vec ℕ). b.items) bodies (body ∷ [])
     ∙ ap (λ (bs : List (List ℕ)). bs ++ body.items ∷ []) made
-    ∙ ap (λ (b : List ℕ). fetch_bodies (first_fetches d table before) ++ b ∷ []) (body_is ∙ ap (λ (k : ℕ). fetch_of (fetch_at d 0 k y)) named)
+    ∙ ap (λ (b : List ℕ). fetch_bodies (first_fetches d table before) ++ b ∷ []) (body_is ∙ ap (λ (k : ℕ). fetch_of (fetch_at d 0 k y)) map_entry_is)
     ∙ sym (map-append fetch (first_fetches d table before) (last ∷ []))
     ∙ sym (ap (λ (es : List Entry). fetch_bodies es) (ap (λ (xs : List Submission). first_fetches d table xs) (between_more from at queue y low high is) ∙ first_fetches-push d table before y))
 

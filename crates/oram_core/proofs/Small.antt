@@ -7,7 +7,7 @@ use Rattle.std.proofs.Math.Pow.{pow_mono}
 use Rattle.oram_geometry.specs.Sizes.{fanout, blocks_in, trees_of, depth_of}
 use Rattle.oram_tree.specs.Edits.{with_entry}
 use Rattle.oram_semantics.specs.Content.{block_of, new_leaf}
-use Rattle.oram_semantics.specs.Blocks.{entry_in, next_named, block_after, left_by}
+use Rattle.oram_semantics.specs.Blocks.{entry_in, next_map_entry, block_after, left_by}
 use Rattle.oram_semantics.specs.Events.{address_of}
 use Rattle.oram_semantics.specs.Messages.{requested, message_place}
 use Rattle.oram_semantics.specs.Run.{refusal_of, has_bad_length, is_over}
@@ -23,16 +23,16 @@ use Rattle.oram_geometry.proofs.DeviceSizes.{blocks_in-zero}
 use Rattle.oram_semantics.specs.Agree.{IsAllowed}
 
 -- a block of tree 0 has no map entries
-pub named_none : (d : Sizes) (i : ℕ) (x : Submission) (bytes : List ℕ) → i ≡ 0 → 0 ≡ next_named d i x bytes
-unfolding next_named
-named_none d zero x bytes e = refl
-named_none d (suc i) x bytes e = absurd (omega arith)
+pub map_entry_none : (d : Sizes) (i : ℕ) (x : Submission) (bytes : List ℕ) → i ≡ 0 → 0 ≡ next_map_entry d i x bytes
+unfolding next_map_entry
+map_entry_none d zero x bytes e = refl
+map_entry_none d (suc i) x bytes e = absurd (omega arith)
 
 -- a map block has an entry for the command's block in the tree below
-pub named_some : (d : Sizes) (i : ℕ) (x : Submission) (bytes : List ℕ) → 0 < i → (let j = block_of d (i - 1) x % fanout d in from_be_bytes w32 (slice_range bytes (4 * j) (4 * j + 4)) ≡ next_named d i x bytes)
-unfolding next_named entry_in
-named_some d zero x bytes e = absurd (omega arith)
-named_some d (suc i) x bytes e = ap (λ (k : ℕ). entry_in bytes (block_of d k x % fanout d)) (let same : suc i - 1 ≡ i = omega arith in same)
+pub map_entry_some : (d : Sizes) (i : ℕ) (x : Submission) (bytes : List ℕ) → 0 < i → (let j = block_of d (i - 1) x % fanout d in from_be_bytes w32 (slice_range bytes (4 * j) (4 * j + 4)) ≡ next_map_entry d i x bytes)
+unfolding next_map_entry entry_in
+map_entry_some d zero x bytes e = absurd (omega arith)
+map_entry_some d (suc i) x bytes e = ap (λ (k : ℕ). entry_in bytes (block_of d k x % fanout d)) (let same : suc i - 1 ≡ i = omega arith in same)
 
 passed : (a b c e f : Bool) →
     (if a then Some refusal.BadAddress else if b then Some refusal.BadLength else if c then Some refusal.BadWords else if e then Some refusal.Busy else if f then Some refusal.Exhausted else None) ≡ None →
@@ -115,6 +115,6 @@ block_mapped d (suc i) x bytes j leaf some place is =
 pub leaf_fits : (d : Sizes) (i leaf : ℕ) → leaf < 2 ^ depth_of d i → leaf < 2 ^ 24
 leaf_fits d i leaf fits = omega (arith, fits, pow_mono {i = depth_of d i} {j = 24} (depth_small d i))
 
-pub asked_leaf : (m : List ℕ) → message_place m ≡ (requested m).leaf
+pub requested_leaf : (m : List ℕ) → message_place m ≡ (requested m).leaf
 unfolding requested
-asked_leaf m = refl
+requested_leaf m = refl

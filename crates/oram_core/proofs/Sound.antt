@@ -18,10 +18,10 @@ use Rattle.oram_trace.specs.declared.entries.Entry.{Entry}
 use Rattle.oram_semantics.specs.Content.{block_of, new_leaf, entry_tree}
 use Rattle.oram_semantics.specs.Messages.{requested}
 use Rattle.oram_semantics.specs.Moves.{fetch_at, leaf_for, latest}
-use Rattle.oram_semantics.specs.Blocks.{next_named, kept_of}
+use Rattle.oram_semantics.specs.Blocks.{next_map_entry, kept_of}
 use Rattle.oram_semantics.specs.Progress.Status.{Idle, Waiting, Stalling, Over}
 use Rattle.oram_semantics.specs.Nonces.{next_nonce, buckets_below, formatted}
-use Rattle.oram_semantics.specs.State.{State, failed_state, named_now, no_tree, status_by, status_in}
+use Rattle.oram_semantics.specs.State.{State, failed_state, map_entry_now, no_tree, status_by, status_in}
 use Rattle.oram_semantics.specs.declared.events.Reason.{Reason}
 use Rattle.oram_semantics.specs.declared.events.Submission.{Submission}
 use Rattle.oram_semantics.proofs.Bounds.{some_trees, depth_small}
@@ -30,35 +30,35 @@ use Rattle.oram_semantics.proofs.Nonces.{nonce_split, nonce_stored, nonce_fetche
 use Rattle.oram_semantics.proofs.Others.{tickets_push}
 use Rattle.oram_semantics.specs.Agree.{IsAllowed, TicketsFrom}
 use Rattle.oram_semantics.specs.Progress.{Setting}
-use Rattle.oram_core.specs.Core.{IsTreeKept, IsStoreOf, IsAtWork, IsResting, AtWork, IsHealthy, IsReasonOf, IsWhole, IsSound, most_named}
-use Rattle.oram_core.proofs.Small.{named_none}
+use Rattle.oram_core.specs.Core.{IsTreeKept, IsStoreOf, IsAtWork, IsResting, AtWork, IsHealthy, IsReasonOf, IsWhole, IsSound, most_map_entry}
+use Rattle.oram_core.proofs.Small.{map_entry_none}
 use Rattle.oram_core.specs.PlainSteps.{fetch_of, first_message, first_messages}
 
 -- the leaf that a command fetches is one of the tree
-pub leaf_for-range : (d : Sizes) (i named : ℕ) (x : Submission) → named ≤ 2 ^ depth_of d i → leaf_for d i named x < 2 ^ depth_of d i
-leaf_for-range d i named x fits = elim (cases_eq named 0) [
-  | inl none ↦ let e : (named == 0) ≡ true = grind (arith, nat_tests) in rw e (mod-lt (slice_index x.words (2 * i)) (pow_pos (depth_of d i)))
-  | inr some ↦ let e : (named == 0) ≡ false = grind (arith, nat_tests) in rw e (omega arith)
+pub leaf_for-range : (d : Sizes) (i map_entry : ℕ) (x : Submission) → map_entry ≤ 2 ^ depth_of d i → leaf_for d i map_entry x < 2 ^ depth_of d i
+leaf_for-range d i map_entry x fits = elim (cases_eq map_entry 0) [
+  | inl none ↦ let e : (map_entry == 0) ≡ true = grind (arith, nat_tests) in rw e (mod-lt (slice_index x.words (2 * i)) (pow_pos (depth_of d i)))
+  | inr some ↦ let e : (map_entry == 0) ≡ false = grind (arith, nat_tests) in rw e (omega arith)
 ]
 
 -- what a FETCH asks for,
-pub asked_fetch : (i leaf : ℕ) → leaf < 2 ^ 32 → requested (fetch_body i leaf) ≡ record { fetch = true; tree = i; leaf = leaf }
+pub requested_fetch : (i leaf : ℕ) → leaf < 2 ^ 32 → requested (fetch_body i leaf) ≡ record { fetch = true; tree = i; leaf = leaf }
 unfolding requested
-asked_fetch i leaf small = ap (λ (k : ℕ). record { fetch = true; tree = i; leaf = k }) (from_be_bytes-to_be_bytes_4 leaf small)
+requested_fetch i leaf small = ap (λ (k : ℕ). record { fetch = true; tree = i; leaf = k }) (from_be_bytes-to_be_bytes_4 leaf small)
 
 -- and a STORE
-pub asked_store : (i leaf : ℕ) (records : List ℕ) → leaf < 2 ^ 32 → requested (store_body i leaf records) ≡ record { fetch = false; tree = i; leaf = leaf }
+pub requested_store : (i leaf : ℕ) (records : List ℕ) → leaf < 2 ^ 32 → requested (store_body i leaf records) ≡ record { fetch = false; tree = i; leaf = leaf }
 unfolding requested
-asked_store i leaf records small = ap (λ (k : ℕ). record { fetch = false; tree = i; leaf = k }) (from_be_bytes-to_be_bytes_4 leaf small)
+requested_store i leaf records small = ap (λ (k : ℕ). record { fetch = false; tree = i; leaf = k }) (from_be_bytes-to_be_bytes_4 leaf small)
 
 small_leaf : (d : Sizes) (i leaf : ℕ) → leaf < 2 ^ depth_of d i → leaf < 2 ^ 32
 small_leaf d i leaf fits = omega (arith, fits, pow_mono {i = depth_of d i} {j = 24} (depth_small d i))
 
 -- the fetch of a stage
-pub fetch_asked : (d : Sizes) (entry_number named : ℕ) (x : Submission) → named ≤ 2 ^ depth_of d (entry_tree d entry_number) → requested (fetch_of (fetch_at d entry_number named x)) ≡ fetch_at d entry_number named x
-fetch_asked d entry_number named x fits =
+pub requested_fetch_at : (d : Sizes) (entry_number map_entry : ℕ) (x : Submission) → map_entry ≤ 2 ^ depth_of d (entry_tree d entry_number) → requested (fetch_of (fetch_at d entry_number map_entry x)) ≡ fetch_at d entry_number map_entry x
+requested_fetch_at d entry_number map_entry x fits =
     let i : ℕ = entry_tree d entry_number in
-    asked_fetch i (leaf_for d i named x) (small_leaf d i _ (leaf_for-range d i named x fits))
+    requested_fetch i (leaf_for d i map_entry x) (small_leaf d i _ (leaf_for-range d i map_entry x fits))
 
 -- an entry of the table, 0 past its end
 pub entry_small : (xs : List ℕ) (n k : ℕ) → All (λ e. e ≤ n) xs → slice_index xs k ≤ n
@@ -71,7 +71,7 @@ pub record Outstanding (d : Sizes) (s : State) (x : Submission) : Type 0 where
   pub entry_number : s.entry_number < 2 * trees_of d
   pub header : 6 ≤ length s.message
   pub leaf : (requested s.message).leaf < 2 ^ depth_of d (entry_tree d s.entry_number)
-  pub fetch : s.entry_number % 2 ≡ 0 → requested s.message ≡ fetch_at d s.entry_number (named_now d s x) x
+  pub fetch : s.entry_number % 2 ≡ 0 → requested s.message ≡ fetch_at d s.entry_number (map_entry_now d s x) x
   pub store : s.entry_number % 2 ≡ 1 → requested s.message ≡ record { fetch = false; tree = entry_tree d s.entry_number; leaf = (requested s.message).leaf }
   pub held_entry : s.held_entry ≤ 2 ^ depth_of d (entry_tree d (s.entry_number + s.entry_number % 2))
   pub held_data : s.entry_number + 1 ≡ 2 * trees_of d → length s.held_data ≡ d.block_bytes
@@ -80,27 +80,27 @@ pub record Outstanding (d : Sizes) (s : State) (x : Submission) : Type 0 where
 last_tree : (d : Sizes) → entry_tree d 0 ≡ trees_of d - 1
 last_tree d = omega arith
 
-named_low : (d : Sizes) (entry_number named : ℕ) → named ≤ most_named d entry_number → named ≤ 2 ^ depth_of d (entry_tree d (entry_number + entry_number % 2))
-named_low d entry_number named h = elim (cases_eq entry_number 0) [
-  | inl first ↦ let e : (entry_number == 0) ≡ true = grind (arith, nat_tests) in let none : named ≤ 0 = subst (λ (b : Bool). named ≤ (if b then 0 else if entry_number + 1 == 2 * trees_of d then 0 else 2 ^ depth_of d (entry_tree d (entry_number + entry_number % 2)))) e h in omega arith
+map_entry_low : (d : Sizes) (entry_number map_entry : ℕ) → map_entry ≤ most_map_entry d entry_number → map_entry ≤ 2 ^ depth_of d (entry_tree d (entry_number + entry_number % 2))
+map_entry_low d entry_number map_entry h = elim (cases_eq entry_number 0) [
+  | inl first ↦ let e : (entry_number == 0) ≡ true = grind (arith, nat_tests) in let none : map_entry ≤ 0 = subst (λ (b : Bool). map_entry ≤ (if b then 0 else if entry_number + 1 == 2 * trees_of d then 0 else 2 ^ depth_of d (entry_tree d (entry_number + entry_number % 2)))) e h in omega arith
   | inr later ↦
       let e : (entry_number == 0) ≡ false = grind (arith, nat_tests) in
-      let low : named ≤ (if entry_number + 1 == 2 * trees_of d then 0 else 2 ^ depth_of d (entry_tree d (entry_number + entry_number % 2))) = subst (λ (b : Bool). named ≤ (if b then 0 else if entry_number + 1 == 2 * trees_of d then 0 else 2 ^ depth_of d (entry_tree d (entry_number + entry_number % 2)))) e h in
-      elim (entry_number + 1 == 2 * trees_of d) as (λ b. named ≤ (if b then 0 else 2 ^ depth_of d (entry_tree d (entry_number + entry_number % 2))) → named ≤ 2 ^ depth_of d (entry_tree d (entry_number + entry_number % 2))) [
+      let low : map_entry ≤ (if entry_number + 1 == 2 * trees_of d then 0 else 2 ^ depth_of d (entry_tree d (entry_number + entry_number % 2))) = subst (λ (b : Bool). map_entry ≤ (if b then 0 else if entry_number + 1 == 2 * trees_of d then 0 else 2 ^ depth_of d (entry_tree d (entry_number + entry_number % 2)))) e h in
+      elim (entry_number + 1 == 2 * trees_of d) as (λ b. map_entry ≤ (if b then 0 else 2 ^ depth_of d (entry_tree d (entry_number + entry_number % 2))) → map_entry ≤ 2 ^ depth_of d (entry_tree d (entry_number + entry_number % 2))) [
         | true ↦ λ none. omega (arith, none)
         | false ↦ λ fits. fits
       ] low
 ]
 
 -- in the middle of a command
-most_amid : (d : Sizes) (entry_number : ℕ) → 0 < entry_number → entry_number + 1 ≢ 2 * trees_of d → most_named d entry_number ≡ 2 ^ depth_of d (entry_tree d (entry_number + entry_number % 2))
+most_amid : (d : Sizes) (entry_number : ℕ) → 0 < entry_number → entry_number + 1 ≢ 2 * trees_of d → most_map_entry d entry_number ≡ 2 ^ depth_of d (entry_tree d (entry_number + entry_number % 2))
 most_amid d entry_number some more =
     let first : (entry_number == 0) ≡ false = grind (arith, nat_tests) in
     let last : (entry_number + 1 == 2 * trees_of d) ≡ false = grind (arith, nat_tests, more) in
     rw (first, last) refl
 
 -- at its last STORE
-most_at_end : (d : Sizes) (entry_number : ℕ) → entry_number + 1 ≡ 2 * trees_of d → most_named d entry_number ≡ 0
+most_at_end : (d : Sizes) (entry_number : ℕ) → entry_number + 1 ≡ 2 * trees_of d → most_map_entry d entry_number ≡ 0
 most_at_end d entry_number end = elim (entry_number == 0) as (λ b. (if b then 0 else if entry_number + 1 == 2 * trees_of d then 0 else 2 ^ depth_of d (entry_tree d (entry_number + entry_number % 2))) ≡ 0) [
   | true ↦ refl
   | false ↦ let last : (entry_number + 1 == 2 * trees_of d) ≡ true = grind (arith, nat_tests, end) in rw last refl
@@ -113,35 +113,35 @@ length_amid : (d : Sizes) (entry_number : ℕ) → entry_number + 1 ≢ 2 * tree
 length_amid d entry_number more = let last : (entry_number + 1 == 2 * trees_of d) ≡ false = grind (arith, nat_tests, more) in rw last refl
 
 -- what the table names for a block
-named_first : (d : Sizes) (o : ℕ) (s : State) (x : Submission) → IsHealthy d o s → slice_index s.table (block_of d (trees_of d - 1) x) ≤ 2 ^ depth_of d (entry_tree d 0)
-named_first d o s x h = subst (λ (i : ℕ). slice_index s.table (block_of d (trees_of d - 1) x) ≤ 2 ^ depth_of d i) (sym (last_tree d))
-    (entry_small s.table (2 ^ depth_of d (trees_of d - 1)) (block_of d (trees_of d - 1) x) h.names)
+map_entry_first : (d : Sizes) (o : ℕ) (s : State) (x : Submission) → IsHealthy d o s → slice_index s.table (block_of d (trees_of d - 1) x) ≤ 2 ^ depth_of d (entry_tree d 0)
+map_entry_first d o s x h = subst (λ (i : ℕ). slice_index s.table (block_of d (trees_of d - 1) x) ≤ 2 ^ depth_of d i) (sym (last_tree d))
+    (entry_small s.table (2 ^ depth_of d (trees_of d - 1)) (block_of d (trees_of d - 1) x) h.map_entries)
 
 -- the map entry of the block of the outstanding FETCH
-named_fits : (d : Sizes) (o : ℕ) (s : State) (x : Submission) → IsHealthy d o s → s.held_entry ≤ most_named d s.entry_number → s.entry_number % 2 ≡ 0 → named_now d s x ≤ 2 ^ depth_of d (entry_tree d s.entry_number)
-named_fits d o s x h named even =
+map_entry_fits : (d : Sizes) (o : ℕ) (s : State) (x : Submission) → IsHealthy d o s → s.held_entry ≤ most_map_entry d s.entry_number → s.entry_number % 2 ≡ 0 → map_entry_now d s x ≤ 2 ^ depth_of d (entry_tree d s.entry_number)
+map_entry_fits d o s x h held_entry even =
     elim (cases_eq s.entry_number 0) [
       | inl first ↦
           let e : (s.entry_number == 0) ≡ true = grind (arith, nat_tests) in
-          rw e (subst (λ (k : ℕ). slice_index s.table (block_of d (trees_of d - 1) x) ≤ 2 ^ depth_of d (entry_tree d k)) (sym first) (named_first d o s x h))
+          rw e (subst (λ (k : ℕ). slice_index s.table (block_of d (trees_of d - 1) x) ≤ 2 ^ depth_of d (entry_tree d k)) (sym first) (map_entry_first d o s x h))
       | inr later ↦
           let e : (s.entry_number == 0) ≡ false = grind (arith, nat_tests) in
-          rw e (subst (λ (k : ℕ). s.held_entry ≤ 2 ^ depth_of d (entry_tree d k)) (let same : s.entry_number + s.entry_number % 2 ≡ s.entry_number = omega (arith, even) in same) (named_low d s.entry_number s.held_entry named))
+          rw e (subst (λ (k : ℕ). s.held_entry ≤ 2 ^ depth_of d (entry_tree d k)) (let same : s.entry_number + s.entry_number % 2 ≡ s.entry_number = omega (arith, even) in same) (map_entry_low d s.entry_number s.held_entry held_entry))
     ]
 
 fetch_outstanding : (d : Sizes) (o : ℕ) (s : State) (x : Submission) → IsHealthy d o s → IsAtWork d o s x → s.entry_number % 2 ≡ 0 → Outstanding d s x
 fetch_outstanding d o s x h w even =
-    let n : ℕ = named_now d s x in
-    let fits : n ≤ 2 ^ depth_of d (entry_tree d s.entry_number) = named_fits d o s x h w.held_entry even in
+    let n : ℕ = map_entry_now d s x in
+    let fits : n ≤ 2 ^ depth_of d (entry_tree d s.entry_number) = map_entry_fits d o s x h w.held_entry even in
     let message : s.message ≡ fetch_of (fetch_at d s.entry_number n x) = w.fetch even in
-    let e : requested s.message ≡ fetch_at d s.entry_number n x = ap requested message ∙ fetch_asked d s.entry_number n x fits in
+    let e : requested s.message ≡ fetch_at d s.entry_number n x = ap requested message ∙ requested_fetch_at d s.entry_number n x fits in
     record {
       entry_number = w.entry_number;
       header = rw message (omega arith);
       leaf = rw e (leaf_for-range d (entry_tree d s.entry_number) n x fits);
       fetch = λ _. e;
       store = λ odd. absurd (omega (arith, even, odd));
-      held_entry = named_low d s.entry_number s.held_entry w.held_entry;
+      held_entry = map_entry_low d s.entry_number s.held_entry w.held_entry;
       held_data = length_at_end d s.entry_number s.held_data w.held_data;
     }
 
@@ -149,7 +149,7 @@ store_outstanding : (d : Sizes) (o : ℕ) (s : State) (x : Submission) → IsAtW
 store_outstanding d o s x w odd =
     let i : ℕ = entry_tree d s.entry_number in
     let m : IsStoreOf d o i s.message = w.store odd in
-    let e : requested s.message ≡ record { fetch = false; tree = i; leaf = m.leaf } = ap requested m.stores.body ∙ asked_store i m.leaf m.stores.records (small_leaf d i m.leaf m.inside) in
+    let e : requested s.message ≡ record { fetch = false; tree = i; leaf = m.leaf } = ap requested m.stores.body ∙ requested_store i m.leaf m.stores.records (small_leaf d i m.leaf m.inside) in
     let leaf : (requested s.message).leaf ≡ m.leaf = ap (λ (k : Entry). k.leaf) e in
     record {
       entry_number = w.entry_number;
@@ -157,7 +157,7 @@ store_outstanding d o s x w odd =
       leaf = subst (λ (k : ℕ). k < 2 ^ depth_of d i) (sym leaf) m.inside;
       fetch = λ even. absurd (omega (arith, even, odd));
       store = λ _. e ∙ ap (λ (k : ℕ). record { fetch = false; tree = i; leaf = k }) (sym leaf);
-      held_entry = named_low d s.entry_number s.held_entry w.held_entry;
+      held_entry = map_entry_low d s.entry_number s.held_entry w.held_entry;
       held_data = length_at_end d s.entry_number s.held_data w.held_data;
     }
 
@@ -214,16 +214,16 @@ alone d o t (y ∷ rest) x none w = absurd (omega arith)
 
 -- a command begins, once its first FETCH was sent
 begun_work : (d : Sizes) (o : ℕ) (s t : State) (x : Submission) → t.entry_number ≡ 0 → t.held_entry ≡ 0 → t.held_data ≡ [] → t.table ≡ s.table → t.message ≡ first_message d s x → IsAtWork d o t x
-begun_work d o s t x entry_number named before table last =
+begun_work d o s t x entry_number held_entry before table last =
     let n : ℕ = slice_index s.table (block_of d (trees_of d - 1) x) in
     let some : 0 < trees_of d = some_trees d in
-    let now : named_now d t x ≡ n = rw entry_number (ap (λ (ts : List ℕ). slice_index ts (block_of d (trees_of d - 1) x)) table) in
-    let same : fetch_at d t.entry_number (named_now d t x) x ≡ fetch_at d 0 n x = ap (λ (k : ℕ). fetch_at d k (named_now d t x) x) entry_number ∙ ap (λ (k : ℕ). fetch_at d 0 k x) now in
+    let now : map_entry_now d t x ≡ n = rw entry_number (ap (λ (ts : List ℕ). slice_index ts (block_of d (trees_of d - 1) x)) table) in
+    let same : fetch_at d t.entry_number (map_entry_now d t x) x ≡ fetch_at d 0 n x = ap (λ (k : ℕ). fetch_at d k (map_entry_now d t x) x) entry_number ∙ ap (λ (k : ℕ). fetch_at d 0 k x) now in
     record {
       entry_number = omega (arith, entry_number, some);
       fetch = λ even. last ∙ sym (ap fetch_of same);
       store = λ odd. absurd (omega (arith, entry_number));
-      held_entry = rw named (omega arith);
+      held_entry = rw held_entry (omega arith);
       held_data = ap length before ∙ sym (length_amid d t.entry_number (λ end. absurd (omega (arith, entry_number, end, some))));
     }
 
@@ -238,7 +238,7 @@ sound_begun d o s x h alive none room allowed ticket =
     let same : t.next - length t.queue ≡ s.next - length s.queue = omega (arith, more) in
     sound_by d o t h.ranges h.small (omega arith) alive (record {
       table = q.table;
-      names = q.names;
+      map_entries = q.map_entries;
       count = q.count;
       kept = q.kept;
       queue = All-push (IsAllowed d) s.queue x q.queue allowed;
@@ -264,7 +264,7 @@ sound_pushed d o s x h alive some few room allowed ticket =
     let same : t.next - length t.queue ≡ s.next - length s.queue = omega (arith, more) in
     sound_by d o t h.ranges h.small (omega arith) alive (record {
       table = q.table;
-      names = q.names;
+      map_entries = q.map_entries;
       count = q.count;
       kept = q.kept;
       queue = All-push (IsAllowed d) s.queue x q.queue allowed;
@@ -284,11 +284,11 @@ sound_fetched d o s x rest h alive queue odd more =
     let t : State = record s { entry_number = s.entry_number + 1; message = fetch_of (fetch_at d (s.entry_number + 1) s.held_entry x) } in
     let later : (s.entry_number + 1 == 0) ≡ false = grind (arith, nat_tests) in
     let next : s.entry_number + s.entry_number % 2 ≡ s.entry_number + 1 + (s.entry_number + 1) % 2 = omega (arith, odd) in
-    let same : most_named d s.entry_number ≡ most_named d (s.entry_number + 1) =
+    let same : most_map_entry d s.entry_number ≡ most_map_entry d (s.entry_number + 1) =
     most_amid d s.entry_number (omega (arith, odd)) (λ end. absurd (omega (arith, more, end))) ∙ ap (λ (k : ℕ). 2 ^ depth_of d (entry_tree d k)) next ∙ sym (most_amid d (s.entry_number + 1) (omega arith) (λ end. absurd (omega (arith, odd, end)))) in
     sound_by d o t h.ranges h.small h.next alive (record {
       table = q.table;
-      names = q.names;
+      map_entries = q.map_entries;
       count = q.count;
       kept = q.kept;
       queue = q.queue;
@@ -306,8 +306,8 @@ sound_fetched d o s x rest h alive queue odd more =
     })
 
 next_work : (d : Sizes) (o : ℕ) (s t : State) (rest : List Submission) → t.lost ≡ false → t.entry_number ≡ 0 → t.held_entry ≡ 0 → t.held_data ≡ [] → t.table ≡ s.table → t.message ≡ latest (first_messages d s rest) [] → AtWork d o t rest
-next_work d o s t [] lost entry_number named before table last = record { entry_number = entry_number; held_entry = named; held_data = before; message = last; lost = lost }
-next_work d o s t (y ∷ rest) lost entry_number named before table last = begun_work d o s t y entry_number named before table last
+next_work d o s t [] lost entry_number held_entry before table last = record { entry_number = entry_number; held_entry = held_entry; held_data = before; message = last; lost = lost }
+next_work d o s t (y ∷ rest) lost entry_number held_entry before table last = begun_work d o s t y entry_number held_entry before table last
 
 -- the oldest command gets its reply
 pub sound_finished : (d : Sizes) (o : ℕ) (s : State) (x : Submission) (rest : List Submission) → IsSound d o s → s.failure ≡ None → s.queue ≡ x ∷ rest → s.lost ≡ false → s.entry_number + 1 ≡ 2 * trees_of d →
@@ -320,7 +320,7 @@ sound_finished d o s x rest h alive queue calm end =
     let one : s.next - length rest ≡ n + 1 = let b = q.begun in omega (arith, count) in
     sound_by d o t h.ranges h.small h.next alive (record {
       table = q.table;
-      names = q.names;
+      map_entries = q.map_entries;
       count = q.count;
       kept = q.kept;
       queue = All-tail (IsAllowed d) x rest (subst (All (IsAllowed d)) queue q.queue);
@@ -345,7 +345,7 @@ sound_lost d o s b h alive some =
     let q = healthy_of d o s h alive in
     sound_by d o (record s { lost = b }) h.ranges h.small h.next alive (record {
       table = q.table;
-      names = q.names;
+      map_entries = q.map_entries;
       count = q.count;
       kept = q.kept;
       queue = q.queue;
@@ -367,7 +367,7 @@ sound_accessed d o s i tree h alive inside is =
     let within : i < length s.trees = omega (arith, q.count) in
     sound_by d o (record s { trees = slice_set s.trees i tree }) h.ranges h.small h.next alive (record {
       table = q.table;
-      names = q.names;
+      map_entries = q.map_entries;
       count = length-set s.trees i tree ∙ q.count;
       kept = λ k below. elim (cases_eq k i) [
         | inl same ↦ rw same (subst (IsTreeKept d i) (sym (get_or-set_same s.trees i tree no_tree within)) is)
@@ -387,7 +387,7 @@ names_set : (d : Sizes) (o : ℕ) (s : State) (x : Submission) → IsHealthy d o
 names_set d o s x h =
     let small : new_leaf d (entry_tree d 0) x < 2 ^ depth_of d (entry_tree d 0) = mod-lt (slice_index x.words (2 * entry_tree d 0 + 1)) (pow_pos (depth_of d (entry_tree d 0))) in
     All-set (λ e. e ≤ 2 ^ depth_of d (trees_of d - 1)) s.table (block_of d (entry_tree d 0) x) (new_leaf d (entry_tree d 0) x + 1)
-    (subst (λ (i : ℕ). new_leaf d (entry_tree d 0) x + 1 ≤ 2 ^ depth_of d i) (last_tree d) (omega arith)) h.names
+    (subst (λ (i : ℕ). new_leaf d (entry_tree d 0) x + 1 ≤ 2 ^ depth_of d i) (last_tree d) (omega arith)) h.map_entries
 
 -- the block of tree 0 is held at a command's last STORE, and at no other stage
 kept_long : (d : Sizes) (i : ℕ) (before : List ℕ) → length before ≡ d.block_bytes → length (kept_of i before) ≡ (if i == 0 then d.block_bytes else 0)
@@ -406,28 +406,28 @@ kept_here d entry_number before within even long =
     ]
 
 -- the entry of a map block for the tree below is a leaf there or 0; tree 0 has no such entry
-named_next : (d : Sizes) (entry_number : ℕ) (x : Submission) (before : List ℕ) → entry_number < 2 * trees_of d → entry_number % 2 ≡ 0 → next_named d (entry_tree d entry_number) x before ≤ 2 ^ depth_of d (entry_tree d entry_number - 1) →
-    next_named d (entry_tree d entry_number) x before ≤ most_named d (entry_number + 1)
-named_next d entry_number x before within even fits = elim (cases_eq (entry_number + 1 + 1) (2 * trees_of d)) [
+map_entry_next : (d : Sizes) (entry_number : ℕ) (x : Submission) (before : List ℕ) → entry_number < 2 * trees_of d → entry_number % 2 ≡ 0 → next_map_entry d (entry_tree d entry_number) x before ≤ 2 ^ depth_of d (entry_tree d entry_number - 1) →
+    next_map_entry d (entry_tree d entry_number) x before ≤ most_map_entry d (entry_number + 1)
+map_entry_next d entry_number x before within even fits = elim (cases_eq (entry_number + 1 + 1) (2 * trees_of d)) [
   | inl end ↦
-      let none : 0 ≡ next_named d (entry_tree d entry_number) x before = named_none d (entry_tree d entry_number) x before (omega (arith, within, even, end)) in
-      subst (λ (k : ℕ). next_named d (entry_tree d entry_number) x before ≤ k) (sym (most_at_end d (entry_number + 1) end)) (omega (arith, none))
+      let none : 0 ≡ next_map_entry d (entry_tree d entry_number) x before = map_entry_none d (entry_tree d entry_number) x before (omega (arith, within, even, end)) in
+      subst (λ (k : ℕ). next_map_entry d (entry_tree d entry_number) x before ≤ k) (sym (most_at_end d (entry_number + 1) end)) (omega (arith, none))
   | inr more ↦
       let below : entry_tree d entry_number - 1 ≡ entry_tree d (entry_number + 1 + (entry_number + 1) % 2) = omega (arith, within, even) in
-      subst (λ (k : ℕ). next_named d (entry_tree d entry_number) x before ≤ k) (sym (most_amid d (entry_number + 1) (omega arith) more)) (subst (λ (i : ℕ). next_named d (entry_tree d entry_number) x before ≤ 2 ^ depth_of d i) below fits)
+      subst (λ (k : ℕ). next_map_entry d (entry_tree d entry_number) x before ≤ k) (sym (most_amid d (entry_number + 1) (omega arith) more)) (subst (λ (i : ℕ). next_map_entry d (entry_tree d entry_number) x before ≤ 2 ^ depth_of d i) below fits)
 ]
 
 -- the path of an access is stored
 pub sound_stored : (d : Sizes) (o : ℕ) (s : State) (x : Submission) (rest : List Submission) (before records : List ℕ) → IsSound d o s → s.failure ≡ None → s.queue ≡ x ∷ rest → s.entry_number % 2 ≡ 0 → length before ≡ d.block_bytes →
     length records ≡ (depth_of d (entry_tree d s.entry_number) + 1) * record_len_of d o →
-    next_named d (entry_tree d s.entry_number) x before ≤ 2 ^ depth_of d (entry_tree d s.entry_number - 1) →
+    next_map_entry d (entry_tree d s.entry_number) x before ≤ 2 ^ depth_of d (entry_tree d s.entry_number - 1) →
     (let d = d in
     let i = entry_tree d s.entry_number in
     IsSound d o (record s {
       table = if s.entry_number == 0 then slice_set s.table (block_of d i x) (new_leaf d i x + 1) else s.table;
       nonce = s.nonce + (depth_of d i + 1);
       entry_number = s.entry_number + 1;
-      held_entry = next_named d i x before;
+      held_entry = next_map_entry d i x before;
       held_data = kept_of i before;
       message = store_body i (requested s.message).leaf records;
     }))
@@ -443,16 +443,16 @@ sound_stored d o s x rest before records h alive queue even long whole fits =
       table = if s.entry_number == 0 then slice_set s.table (block_of d i x) (new_leaf d i x + 1) else s.table;
       nonce = s.nonce + (depth_of d i + 1);
       entry_number = s.entry_number + 1;
-      held_entry = next_named d i x before;
+      held_entry = next_map_entry d i x before;
       held_data = kept_of i before;
       message = store_body i leaf records;
     } in
     let stored : IsStoreOf d o i t.message = record { leaf = leaf; inside = work.leaf; stores = record { records = records; long = whole; body = refl } } in
     sound_by d o t h.ranges h.small h.next alive (record {
       table = elim (s.entry_number == 0) as (λ b. length (if b then slice_set s.table (block_of d i x) (new_leaf d i x + 1) else s.table) ≡ blocks_in d (trees_of d - 1)) [ true ↦ length-set s.table (block_of d i x) (new_leaf d i x + 1) ∙ q.table | false ↦ q.table ];
-      names = elim (cases_eq s.entry_number 0) [
+      map_entries = elim (cases_eq s.entry_number 0) [
         | inl first ↦ let e : (s.entry_number == 0) ≡ true = grind (arith, nat_tests) in rw (e, first) (names_set d o s x q)
-        | inr later ↦ let e : (s.entry_number == 0) ≡ false = grind (arith, nat_tests) in rw e q.names
+        | inr later ↦ let e : (s.entry_number == 0) ≡ false = grind (arith, nat_tests) in rw e q.map_entries
       ];
       count = q.count;
       kept = q.kept;
@@ -464,7 +464,7 @@ sound_stored d o s x rest before records h alive queue even long whole fits =
         entry_number = omega (arith, within, even);
         fetch = λ turn. absurd (omega (arith, even, turn));
         store = λ odd. subst (λ (k : ℕ). IsStoreOf d o k t.message) next_tree stored;
-        held_entry = named_next d s.entry_number x before within even fits;
+        held_entry = map_entry_next d s.entry_number x before within even fits;
         held_data = kept_here d s.entry_number before within even long;
       });
       nonce = ap (λ (k : ℕ). k + (depth_of d i + 1)) q.nonce ∙ sym (next_stored d n s.entry_number within even);
@@ -491,20 +491,20 @@ finished_as d o s x rest queue before last h alive is calm end q b l =
     (subst (λ (xs : List Submission). IsSound d o (record s { queue = xs; entry_number = 0; held_entry = 0; held_data = []; message = latest (first_messages d s rest) [] })) (sym q)
     (sound_finished d o s x rest h alive is calm end)))
 
-pub stored_as : (d : Sizes) (o : ℕ) (s : State) (x : Submission) (rest : List Submission) (before records table : List ℕ) (nonce named : ℕ) (kept last : List ℕ) → IsSound d o s → s.failure ≡ None → s.queue ≡ x ∷ rest → s.entry_number % 2 ≡ 0 → length before ≡ d.block_bytes →
+pub stored_as : (d : Sizes) (o : ℕ) (s : State) (x : Submission) (rest : List Submission) (before records table : List ℕ) (nonce map_entry : ℕ) (kept last : List ℕ) → IsSound d o s → s.failure ≡ None → s.queue ≡ x ∷ rest → s.entry_number % 2 ≡ 0 → length before ≡ d.block_bytes →
     length records ≡ (depth_of d (entry_tree d s.entry_number) + 1) * record_len_of d o →
-    next_named d (entry_tree d s.entry_number) x before ≤ 2 ^ depth_of d (entry_tree d s.entry_number - 1) →
+    next_map_entry d (entry_tree d s.entry_number) x before ≤ 2 ^ depth_of d (entry_tree d s.entry_number - 1) →
     (let d = d in
     let i = entry_tree d s.entry_number in
-    table ≡ (if s.entry_number == 0 then slice_set s.table (block_of d i x) (new_leaf d i x + 1) else s.table) → nonce ≡ s.nonce + (depth_of d i + 1) → named ≡ next_named d i x before → kept ≡ kept_of i before → last ≡ store_body i (requested s.message).leaf records →
-    IsSound d o (record s { table = table; nonce = nonce; entry_number = s.entry_number + 1; held_entry = named; held_data = kept; message = last }))
-stored_as d o s x rest before records table nonce named kept last h alive queue even long whole fits t n m k l =
+    table ≡ (if s.entry_number == 0 then slice_set s.table (block_of d i x) (new_leaf d i x + 1) else s.table) → nonce ≡ s.nonce + (depth_of d i + 1) → map_entry ≡ next_map_entry d i x before → kept ≡ kept_of i before → last ≡ store_body i (requested s.message).leaf records →
+    IsSound d o (record s { table = table; nonce = nonce; entry_number = s.entry_number + 1; held_entry = map_entry; held_data = kept; message = last }))
+stored_as d o s x rest before records table nonce map_entry kept last h alive queue even long whole fits t n m k l =
     let i : ℕ = entry_tree d s.entry_number in
     let remapped : List ℕ = if s.entry_number == 0 then slice_set s.table (block_of d i x) (new_leaf d i x + 1) else s.table in
     let body : List ℕ = store_body i (requested s.message).leaf records in
-    let next : ℕ = next_named d i x before in
-    subst (λ (ts : List ℕ). IsSound d o (record s { table = ts; nonce = nonce; entry_number = s.entry_number + 1; held_entry = named; held_data = kept; message = last })) (sym t)
-    (subst (λ (z : ℕ). IsSound d o (record s { table = remapped; nonce = z; entry_number = s.entry_number + 1; held_entry = named; held_data = kept; message = last })) (sym n)
+    let next : ℕ = next_map_entry d i x before in
+    subst (λ (ts : List ℕ). IsSound d o (record s { table = ts; nonce = nonce; entry_number = s.entry_number + 1; held_entry = map_entry; held_data = kept; message = last })) (sym t)
+    (subst (λ (z : ℕ). IsSound d o (record s { table = remapped; nonce = z; entry_number = s.entry_number + 1; held_entry = map_entry; held_data = kept; message = last })) (sym n)
     (subst (λ (z : ℕ). IsSound d o (record s { table = remapped; nonce = s.nonce + (depth_of d i + 1); entry_number = s.entry_number + 1; held_entry = z; held_data = kept; message = last })) (sym m)
     (subst (λ (bs : List ℕ). IsSound d o (record s { table = remapped; nonce = s.nonce + (depth_of d i + 1); entry_number = s.entry_number + 1; held_entry = next; held_data = bs; message = last })) (sym k)
     (subst (λ (ms : List ℕ). IsSound d o (record s { table = remapped; nonce = s.nonce + (depth_of d i + 1); entry_number = s.entry_number + 1; held_entry = next; held_data = kept_of i before; message = ms })) (sym l)

@@ -8,26 +8,25 @@ use Rattle.oram_trace.specs.declared.entries.Entry.{Entry}
 use Rattle.oram_wire.specs.HostMessages.{store_body}
 use Rattle.oram_hash.specs.Path.{Path, path_of, with_bytes}
 use Rattle.oram_bucket.specs.Cell.{Cell}
-use Rattle.oram_bucket.specs.SealedBlocks.{Reads}
 use Rattle.oram_tree.specs.Content.{Map, entry_of, put}
 use Rattle.oram_tree.specs.State.{State as Tree}
 use Rattle.oram_tree.specs.Access.{IsRewritten, IsUpdate}
 use Rattle.oram_semantics.specs.Content.{block_of, new_leaf, entry_tree}
 use Rattle.oram_semantics.specs.Messages.{requested}
 use Rattle.oram_semantics.specs.Moves.{PlacedIn, IsReadyFor, stores, records_after}
-use Rattle.oram_semantics.specs.Blocks.{found_in, block_after, next_named, put_in}
+use Rattle.oram_semantics.specs.Blocks.{found_in, block_after, next_map_entry, put_in}
 use Rattle.oram_semantics.specs.Scheme.{Scheme, record_len}
-use Rattle.oram_semantics.specs.State.{State, World, AllStand, named_now, no_tree}
+use Rattle.oram_semantics.specs.State.{State, World, AllStand, map_entry_now, no_tree}
 use Rattle.oram_semantics.specs.Trees.{Stands, IsPlaced}
 use Rattle.oram_semantics.specs.declared.events.Submission.{Submission}
 use Rattle.oram_semantics.proofs.Others.{all_one}
 use Rattle.oram_semantics.proofs.Bounds.{some_trees, depth_small}
-use Rattle.oram_semantics.proofs.PlacedStores.{IsMade, store_stands, store_places, holds_stored, there_if_named}
+use Rattle.oram_semantics.proofs.PlacedStores.{IsMade, store_stands, store_places, holds_stored, there_by_map_entry}
 use Rattle.oram_core.specs.Core.{IsSound}
 use Rattle.oram_core.proofs.Sound.{Outstanding, healthy_of}
 use Rattle.oram_core.specs.PlainSteps.{stored_by, is_misled}
 use Rattle.oram_core.proofs.Quiet.{Meets}
-use Rattle.oram_core.proofs.Sound.{asked_store}
+use Rattle.oram_core.proofs.Sound.{requested_store}
 
 -- an access to the tree at work: the block as changed, and the tree and the records that it has made
 pub record IsAccess (v : Scheme) (s : State) (w : World) (x : Submission) (path : Path) (tree : Tree) (found : Bool) (before records : List ℕ) : Type 0 where
@@ -37,7 +36,7 @@ pub record IsAccess (v : Scheme) (s : State) (w : World) (x : Submission) (path 
   pub rewritten :
       let d = v.device in
       let i = entry_tree d s.entry_number in
-      IsRewritten (Reads v.cipher.opening d i) v.cipher.sealing d s.nonce path (slice_index_or s.trees i no_tree).stash (with_bytes path records)
+      IsRewritten (record { device = d; tree = i; cipher = v.cipher; path = path; nonce = s.nonce }) (slice_index_or s.trees i no_tree).stash (with_bytes path records)
       (record { address = block_of d i x; leaf = new_leaf d i x; content = block_after d i x before }) tree.stash
   pub update :
       let d = v.device in
@@ -55,11 +54,11 @@ pub not_misled : (v : Scheme) (s : State) (w : World) (x : Submission) (path : P
 not_misled v s w x path tree found before records ready a =
     let d = v.device in
     let i : ℕ = entry_tree d s.entry_number in
-    let there : found ≡ not (named_now v.device s x == 0) = a.update.told ∙ there_if_named (w.content i (block_of d i x)) (named_now v.device s x) ready.held_entry in
-    let fits : next_named d i x before ≤ 2 ^ depth_of d (i - 1) = subst (λ (bytes : List ℕ). next_named d i x bytes ≤ 2 ^ depth_of d (i - 1)) (sym a.update.data_told) ready.next in
-    let leaf : nat_lt (2 ^ depth_of d (i - 1)) (next_named d i x before) ≡ false = grind (arith, nat_tests) in
-    let none : (nat_lt 0 i && nat_lt (2 ^ depth_of d (i - 1)) (next_named d i x before)) ≡ false = rw leaf (elim (nat_lt 0 i) as (λ b. (b && false) ≡ false) [ true ↦ refl | false ↦ refl ]) in
-    rw (there, both_ways (named_now v.device s x == 0)) none
+    let there : found ≡ not (map_entry_now v.device s x == 0) = a.update.reported ∙ there_by_map_entry (w.content i (block_of d i x)) (map_entry_now v.device s x) ready.held_entry in
+    let fits : next_map_entry d i x before ≤ 2 ^ depth_of d (i - 1) = subst (λ (bytes : List ℕ). next_map_entry d i x bytes ≤ 2 ^ depth_of d (i - 1)) (sym a.update.data_reported) ready.next in
+    let leaf : nat_lt (2 ^ depth_of d (i - 1)) (next_map_entry d i x before) ≡ false = grind (arith, nat_tests) in
+    let none : (nat_lt 0 i && nat_lt (2 ^ depth_of d (i - 1)) (next_map_entry d i x before)) ≡ false = rw leaf (elim (nat_lt 0 i) as (λ b. (b && false) ≡ false) [ true ↦ refl | false ↦ refl ]) in
+    rw (there, both_ways (map_entry_now v.device s x == 0)) none
 
 -- The core takes over the access by the rule, if the access found what the tree's content has.
 taken_over : (v : Scheme) (s : State) (w : World) (x : Submission) (path : Path) (tree : Tree) (found : Bool) (records : List ℕ) → IsSound v.device v.cipher.overhead s → s.failure ≡ None → Outstanding v.device s x → AllStand v s w →
@@ -94,7 +93,7 @@ taken_over v s w x path tree found records sound alive work holds a =
       state = refl;
       holds = λ ok. holds_stored v s u w i leaf records b (entry_of c) tree holds refl inside here;
       placed = λ new. all_one (PlacedIn v s.nonce after) (store_body i leaf records) (λ store.
-          subst (λ (e : Entry). IsPlaced v e.tree e.leaf s.nonce (after.records e.tree) (after.content e.tree)) (sym (asked_store i leaf records small)) placed_here);
+          subst (λ (e : Entry). IsPlaced v e.tree e.leaf s.nonce (after.records e.tree) (after.content e.tree)) (sym (requested_store i leaf records small)) placed_here);
     }
 
 pub stores_met : (v : Scheme) (s : State) (w : World) (x : Submission) (path : Path) (tree : Tree) (found : Bool) (before records : List ℕ) → IsSound v.device v.cipher.overhead s → s.failure ≡ None → Outstanding v.device s x → AllStand v s w →
@@ -102,6 +101,6 @@ pub stores_met : (v : Scheme) (s : State) (w : World) (x : Submission) (path : P
     Meets v s w (stores v s w x) (stored_by v (record s { trees = slice_set s.trees (entry_tree v.device s.entry_number) tree }) x before records)
 stores_met v s w x path tree found before records sound alive work holds a =
     let i : ℕ = entry_tree v.device s.entry_number in
-    let e : before ≡ found_in v.device (w.content i (block_of v.device i x)) = a.update.data_told in
+    let e : before ≡ found_in v.device (w.content i (block_of v.device i x)) = a.update.data_reported in
     subst (λ (b : List ℕ). Meets v s w (stores v s w x) (stored_by v (record s { trees = slice_set s.trees i tree }) x b records)) (sym e)
     (taken_over v s w x path tree found records sound alive work holds (subst (λ (b : List ℕ). IsAccess v s w x path tree found b records) e a))

@@ -98,16 +98,16 @@ whole_along v s from to bodies fresh is new =
     (w.0, subst F (sym is) w.1.0)
 
 pub cut_short : (v : Scheme) (fault : FormatFault) (from to : List (List ℕ)) (r : Run) → from ≡ [] → bodies_in r.format.items ≡ to → r.reactions.items ≡ [] → r.out_of_memory ≡ true → IsBrokenOff keeps keeps_none (IsFormatBegun v) from fault to → IsCutShort v r
-cut_short v fault from to r fresh is none told b =
+cut_short v fault from to r fresh is none reported b =
     let B = λ (f : List (List ℕ)). IsBrokenOff keeps keeps_none (IsFormatBegun v) f fault to in
-    record { begun = subst (IsFormatBegun v) (sym is) (kept_begun v fault to (subst B fresh b)); nothing = none; told = told }
+    record { begun = subst (IsFormatBegun v) (sym is) (kept_begun v fault to (subst B fresh b)); nothing = none; reported = reported }
 
 -- whether memory ran out at a step says how many reactions there are
 
 pub all_carried : {T E : Type 0} (r : Result T E) (b : Bool) (m n : ℕ) → b ≡ is_err r → OnOk r (m ≡ n) → b ≡ false → m ≡ n
-all_carried (Ok x) b m n is h told = h
-all_carried (Err e) b m n is h told = absurd (let both : true ≡ false = sym is ∙ told in cc)
+all_carried (Ok x) b m n is h reported = h
+all_carried (Err e) b m n is h reported = absurd (let both : true ≡ false = sym is ∙ reported in cc)
 
 pub fewer_carried : {T E : Type 0} (r : Result T E) (b : Bool) (m n : ℕ) → b ≡ is_err r → OnErr r (m < n) → b ≡ true → m < n
-fewer_carried (Ok x) b m n is h told = absurd (let both : false ≡ true = sym is ∙ told in cc)
-fewer_carried (Err e) b m n is h told = h
+fewer_carried (Ok x) b m n is h reported = absurd (let both : false ≡ true = sym is ∙ reported in cc)
+fewer_carried (Err e) b m n is h reported = h

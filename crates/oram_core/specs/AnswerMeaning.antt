@@ -23,6 +23,7 @@ use Rattle.oram_semantics.specs.declared.events.Reason.TheVariants.{Malformed, T
 use Rattle.oram_semantics.specs.declared.events.Submission.{Submission}
 use Rattle.oram_core.specs.PlainSteps.{is_misled}
 use Rattle.oram_wire.specs.HostMessages.{done_answer, payload_answer, refusal_answer}
+use Rattle.oram_wire.specs.declared.host_messages.TheConstants.{GOOD}
 
 -- the tree of the outstanding path, as the core has it
 abbrev pub tree_now : Scheme → State → Tree
@@ -52,7 +53,7 @@ answer_len v s = if s.entry_number % 2 == 0 then (depth_of v.device (entry_tree 
 -- the answer is byte 80 and the right number of bytes
 abbrev pub is_formed : Scheme → State → List ℕ → Bool
 is_formed v s [] = false
-is_formed v s (first ∷ rest) = (first == 128) && (length rest == answer_len v s)
+is_formed v s (first ∷ rest) = (first == GOOD) && (length rest == answer_len v s)
 
 abbrev pub IsReadableNow : Scheme → State → Path → Type 0
 IsReadableNow v s p = IsReadable (reads_now v s) p (tree_now v s).stash

@@ -12,7 +12,7 @@ use Rattle.oram_semantics.specs.Scheme.{Scheme}
 use Rattle.oram_semantics.specs.Content.{entry_tree}
 use Rattle.oram_semantics.specs.Moves.{fetch_at}
 use Rattle.oram_semantics.specs.Nonces.{next_nonce}
-use Rattle.oram_semantics.specs.State.{State, failed_state, named_now, no_tree}
+use Rattle.oram_semantics.specs.State.{State, failed_state, map_entry_now, no_tree}
 use Rattle.oram_semantics.specs.declared.events.Reason.{Reason}
 use Rattle.oram_semantics.specs.declared.events.Reason.TheVariants.{Malformed, Tampered, HostRefused}
 use Rattle.oram_semantics.specs.declared.events.Submission.{Submission}
@@ -56,16 +56,16 @@ pub record IsStoreOf (d : Sizes) (overhead i : ℕ) (message : List ℕ) : Type 
 -- The greatest map entry that can be held at this stage of a command: a leaf of the tree that is fetched next, or was
 -- fetched last, plus one. It is 0 at the first FETCH, whose entry is in the table, and at the last STORE, which no
 -- FETCH follows.
-abbrev pub most_named : Sizes → ℕ → ℕ
-most_named d entry_number = if entry_number == 0 then 0 else if entry_number + 1 == 2 * trees_of d then 0 else 2 ^ depth_of d (entry_tree d (entry_number + entry_number % 2))
+abbrev pub most_map_entry : Sizes → ℕ → ℕ
+most_map_entry d entry_number = if entry_number == 0 then 0 else if entry_number + 1 == 2 * trees_of d then 0 else 2 ^ depth_of d (entry_tree d (entry_number + entry_number % 2))
 
 -- The oldest command is at work: the message sent last is its FETCH of the leaf that the map names for its block, or a
 -- STORE of a path of that tree. The block of tree 0 is held at the last STORE.
 pub record IsAtWork (d : Sizes) (overhead : ℕ) (s : State) (x : Submission) : Type 0 where
   pub entry_number : s.entry_number < 2 * trees_of d
-  pub fetch : s.entry_number % 2 ≡ 0 → s.message ≡ fetch_of (fetch_at d s.entry_number (named_now d s x) x)
+  pub fetch : s.entry_number % 2 ≡ 0 → s.message ≡ fetch_of (fetch_at d s.entry_number (map_entry_now d s x) x)
   pub store : s.entry_number % 2 ≡ 1 → IsStoreOf d overhead (entry_tree d s.entry_number) s.message
-  pub held_entry : s.held_entry ≤ most_named d s.entry_number
+  pub held_entry : s.held_entry ≤ most_map_entry d s.entry_number
   pub held_data : length s.held_data ≡ (if s.entry_number + 1 == 2 * trees_of d then d.block_bytes else 0)
 
 -- no command is at work
@@ -83,7 +83,7 @@ AtWork d overhead s (x ∷ rest) = IsAtWork d overhead s x
 -- the state of a core that hasn't failed
 pub record IsHealthy (d : Sizes) (overhead : ℕ) (s : State) : Type 0 where
   pub table : length s.table ≡ blocks_in d (trees_of d - 1)
-  pub names : All (λ e. e ≤ 2 ^ depth_of d (trees_of d - 1)) s.table
+  pub map_entries : All (λ e. e ≤ 2 ^ depth_of d (trees_of d - 1)) s.table
   pub count : length s.trees ≡ trees_of d
   pub kept : (i : ℕ) → i < trees_of d → IsTreeKept d i (slice_index_or s.trees i no_tree)
   pub queue : All (IsAllowed d) s.queue

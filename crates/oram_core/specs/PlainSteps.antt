@@ -10,11 +10,11 @@ use Rattle.oram_semantics.specs.Scheme.{Scheme}
 use Rattle.oram_semantics.specs.Content.{block_of, new_leaf, entry_tree}
 use Rattle.oram_semantics.specs.Messages.{requested}
 use Rattle.oram_semantics.specs.Moves.{fetch_at, latest}
-use Rattle.oram_semantics.specs.Blocks.{body_from, next_named, kept_of}
+use Rattle.oram_semantics.specs.Blocks.{body_from, next_map_entry, kept_of}
 use Rattle.oram_semantics.specs.Progress.{Status}
 use Rattle.oram_semantics.specs.Progress.Status.{Idle, Waiting, Stalling, Over}
 use Rattle.oram_semantics.specs.Run.{refusal_of, is_over}
-use Rattle.oram_semantics.specs.State.{State, failed_state, named_now, status_in}
+use Rattle.oram_semantics.specs.State.{State, failed_state, map_entry_now, status_in}
 use Rattle.oram_semantics.specs.declared.events.Event.{Event}
 use Rattle.oram_semantics.specs.declared.events.Event.TheVariants.{Submit, Answer, Lost, Reopen, Retry}
 use Rattle.oram_semantics.specs.declared.events.Note.{Note}
@@ -100,7 +100,7 @@ stored_by v s x before records =
         table = if s.entry_number == 0 then slice_set s.table (block_of d i x) (new_leaf d i x + 1) else s.table;
         nonce = s.nonce + (depth_of d i + 1);
         entry_number = s.entry_number + 1;
-        held_entry = next_named d i x before;
+        held_entry = next_map_entry d i x before;
         held_data = kept_of i before;
         message = m;
       };
@@ -124,7 +124,7 @@ is_stalled Over = false
 abbrev pub is_misled : Scheme → State → Submission → Bool → List ℕ → Bool
 is_misled v s x found before =
     let i = entry_tree v.device s.entry_number in
-    (not (named_now v.device s x == 0) && not found) || (nat_lt 0 i && nat_lt (2 ^ depth_of v.device (i - 1)) (next_named v.device i x before))
+    (not (map_entry_now v.device s x == 0) && not found) || (nat_lt 0 i && nat_lt (2 ^ depth_of v.device (i - 1)) (next_map_entry v.device i x before))
 
 -- the core refuses a submission, or adds it to the queue
 abbrev pub submitted_by : Scheme → State → Submission → Option Refusal → Done

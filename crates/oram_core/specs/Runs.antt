@@ -27,4 +27,4 @@ pub record IsCarriedOut (v : Scheme) (events : List Event) (r : Run) : Type 0 wh
 pub record IsCutShort (v : Scheme) (r : Run) : Type 0 where
   pub begun : IsFormatBegun v (bodies_in r.format.items)
   pub nothing : r.reactions.items ≡ []
-  pub told : r.out_of_memory ≡ true
+  pub reported : r.out_of_memory ≡ true

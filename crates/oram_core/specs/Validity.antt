@@ -8,7 +8,7 @@ use Rattle.oram_semantics.specs.Agree.{IsAllowed}
 use Rattle.oram_semantics.specs.Content.{entry_tree}
 use Rattle.oram_semantics.specs.Moves.{fetch_at}
 use Rattle.oram_semantics.specs.Nonces.{next_nonce}
-use Rattle.oram_semantics.specs.State.{State, named_now}
+use Rattle.oram_semantics.specs.State.{State, map_entry_now}
 use Rattle.oram_semantics.specs.declared.events.Submission.{Submission}
 use Rattle.oram_semantics.specs.declared.events.Reason.{Reason}
 use Rattle.oram_core.specs.Core.{AtWork, IsReasonOf, IsResting, IsStoreOf}
@@ -18,11 +18,11 @@ use Rattle.oram_core.specs.Parts.{Parts, state_of, submission_at, submissions_fr
 -- the table has an entry for each block of the last tree, and none that is too great for its leaves
 pub record HasTable (d : Sizes) (table : List ℕ) : Type 0 where
   pub long : length table ≡ blocks_in d (trees_of d - 1)
-  pub names : All (λ e. e ≤ 2 ^ depth_of d (trees_of d - 1)) table
+  pub map_entries : All (λ e. e ≤ 2 ^ depth_of d (trees_of d - 1)) table
 
 -- the message sent last is the one that the command has at this stage
 pub record HasMessage (d : Sizes) (overhead : ℕ) (s : State) (x : Submission) : Type 0 where
-  pub fetch : s.entry_number % 2 ≡ 0 → s.message ≡ fetch_of (fetch_at d s.entry_number (named_now d s x) x)
+  pub fetch : s.entry_number % 2 ≡ 0 → s.message ≡ fetch_of (fetch_at d s.entry_number (map_entry_now d s x) x)
   pub store : s.entry_number % 2 ≡ 1 → IsStoreOf d overhead (entry_tree d s.entry_number) s.message
 
 -- at most 64 commands wait, no more than were accepted, and the device allows each

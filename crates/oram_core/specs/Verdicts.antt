@@ -12,6 +12,7 @@ use Rattle.oram_core.specs.AnswerMeaning.{path_now, tree_now, IsReasonFor}
 use Rattle.oram_core.specs.declared.verdicts.Verdict.{Verdict}
 use Rattle.oram_core.specs.declared.verdicts.Verdict.TheVariants as verdict
 use Rattle.oram_wire.specs.HostMessages.{done_answer, no_room_answer, payload_answer}
+use Rattle.oram_wire.specs.declared.host_messages.TheConstants.{REFUSED}
 
 -- the verdict agrees with the answer's outcome in a world
 abbrev pub Means : Scheme → State → World → List ℕ → Verdict → Type 0
@@ -31,7 +32,7 @@ Tells v s bytes (verdict.Bad e) = IsReasonFor v s bytes e
 abbrev pub refusal_in : List ℕ → Option ℕ
 refusal_in bytes =
     if not (length bytes == 2) then None
-    else if not (slice_index bytes 0 == 129) then None
+    else if not (slice_index bytes 0 == REFUSED) then None
     else if slice_index bytes 1 == 0 then None
     else if nat_lt 8 (slice_index bytes 1) then None
     else Some (slice_index bytes 1)

@@ -10,7 +10,7 @@ ghost use Rattle.oram_wire.specs.HostMessages.{store_body};
 ghost use Rattle.oram_semantics.specs.Content.{block_of, new_leaf, entry_tree};
 ghost use Rattle.oram_semantics.specs.Messages.{requested};
 ghost use Rattle.oram_semantics.specs.Moves.{Fits, MovesTo, on_answer, stores};
-ghost use Rattle.oram_semantics.specs.Blocks.{next_named, kept_of};
+ghost use Rattle.oram_semantics.specs.Blocks.{next_map_entry, kept_of};
 ghost use Rattle.oram_semantics.specs.Progress.Status.{Waiting};
 ghost use Rattle.oram_semantics.specs.Run.{shown_by};
 ghost use Rattle.oram_semantics.specs.State.{World, status_in};
@@ -23,7 +23,7 @@ ghost use Rattle.oram_core.specs.Rooms.{IsRoom};
 
 use crate::machine::Core;
 use crate::messages::{MessageCopies, Room, begun_store};
-use crate::path_access::{PathAccess, edit_for, named_below};
+use crate::path_access::{PathAccess, edit_for, map_entry_below};
 use oram_bucket::Sealer;
 use oram_bytes::Bytes;
 use oram_hash::PathView;
@@ -33,7 +33,7 @@ use oram_wire::HEADER_LEN;
 use std::alloc::{AllocError, Global};
 
 /// At a command's first access, enters the new leaf of its block into the table.
-fn name_block(table: &mut Vec<u32>, entry_number: u8, block: u32, leaf: u32)
+fn set_map_entry(table: &mut Vec<u32>, entry_number: u8, block: u32, leaf: u32)
     requires block { entry_number ≡ 0 → block < length table.old.items }
     requires leaf { leaf < 2 ^ 24 }
     ensures { table.new.items ≡ (if entry_number == 0 then slice_set table.old.items block (leaf + 1) else table.old.items) }
@@ -108,13 +108,13 @@ impl<S: Sealer> Core<S> {
 
     /// Returns whether the map has led astray: it names a block that wasn't found, or the entry that it has for the tree
     /// below is no leaf there.
-    fn is_misled(&self, path_access: &PathAccess, found: bool, named: u32) -> bool
+    fn is_misled(&self, path_access: &PathAccess, found: bool, map_entry: u32) -> bool
         requires healthy { self.now.state.failure ≡ None }
         requires tree { path_access.now.tree ≡ entry_tree self.now.device self.now.state.entry_number }
         requires range { path_access.now.tree < trees_of self.now.device }
         requires block { path_access.now.block < blocks_in self.now.device path_access.now.tree }
         ensures { (x : Submission) (before : List ℕ) → path_access.now.block ≡ block_of self.now.device path_access.now.tree x
-            → named ≡ next_named self.now.device path_access.now.tree x before
+            → map_entry ≡ next_map_entry self.now.device path_access.now.tree x before
             → result ≡ is_misled (scheme_of S.cipher self.now) self.now.state x found before }
     {
         let expected = match self.entry_number {
@@ -123,7 +123,7 @@ impl<S: Sealer> Core<S> {
         };
         let is_missing = expected != 0 && !found;
         let is_no_leaf = path_access.tree > 0
-            && named > 1 << self.device.depth(path_access.tree - 1);
+            && map_entry > 1 << self.device.depth(path_access.tree - 1);
         is_missing || is_no_leaf
     }
 
@@ -156,12 +156,12 @@ impl<S: Sealer> Core<S> {
             else stored_by v s x lookup.before.items records) }
     {
         let Lookup { before, found } = lookup;
-        let named = named_below(&self.device, path_access.tree, self.oldest(), &before);
-        if self.is_misled(&path_access, found, named) {
+        let map_entry = map_entry_below(&self.device, path_access.tree, self.oldest(), &before);
+        if self.is_misled(&path_access, found, map_entry) {
             let replies = room.fail(&self.queue);
             return self.fail(alloc, Reason::Tampered(path_access.tree, 0), replies);
         }
-        self.commit(alloc, path_access, before, named, room.send(message))
+        self.commit(alloc, path_access, before, map_entry, room.send(message))
     }
 
     /// Sends the path of an access to the host, and changes the state accordingly.
@@ -170,7 +170,7 @@ impl<S: Sealer> Core<S> {
         alloc: Global,
         path_access: PathAccess,
         before: Vec<u8>,
-        named: u32,
+        map_entry: u32,
         sending: MessageCopies,
     ) -> Reaction
         requires waiting { status_in self.old.state ≡ Waiting }
@@ -181,10 +181,10 @@ impl<S: Sealer> Core<S> {
             × (sending.sends.items ≡ sending.kept ∷ []) }
         requires oldest { (x : Submission) (rest : List Submission) → self.old.state.queue ≡ x ∷ rest
             → (path_access.block ≡ block_of self.old.device path_access.tree x) × (path_access.new_leaf ≡ new_leaf self.old.device path_access.tree x)
-            × (named ≡ next_named self.old.device path_access.tree x before.items) }
+            × (map_entry ≡ next_map_entry self.old.device path_access.tree x before.items) }
         requires block { path_access.block < blocks_in self.old.device path_access.tree }
         requires leaf { path_access.new_leaf < 2 ^ depth_of self.old.device path_access.tree }
-        requires named { named ≤ 2 ^ depth_of self.old.device (path_access.tree - 1) }
+        requires map_entry { map_entry ≤ 2 ^ depth_of self.old.device (path_access.tree - 1) }
         ensures kept { IsSameDevice self.old self.new }
         ensures ok { let s = self.old.state in
             done result self.new.state ≡ record {
@@ -195,13 +195,13 @@ impl<S: Sealer> Core<S> {
                 table = if s.entry_number == 0 then slice_set s.table path_access.block (path_access.new_leaf + 1) else s.table;
                 nonce = s.nonce + (depth_of self.old.device path_access.tree + 1);
                 entry_number = s.entry_number + 1;
-                held_entry = named;
+                held_entry = map_entry;
                 held_data = kept_of path_access.tree before.items;
                 message = sending.kept;
               };
             } }
     {
-        name_block(
+        set_map_entry(
             &mut self.table,
             self.entry_number,
             path_access.block,
@@ -209,7 +209,7 @@ impl<S: Sealer> Core<S> {
         );
         self.nonce += u64::from(self.device.depth(path_access.tree)) + 1;
         self.entry_number += 1;
-        self.held_entry = named;
+        self.held_entry = map_entry;
         self.held_data = kept_for_reply(alloc, path_access.tree, before);
         let MessageCopies { kept, sends } = sending;
         self.message = kept;

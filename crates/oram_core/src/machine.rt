@@ -317,8 +317,8 @@ impl<S: Sealer> Core<S> {
     {
         let tree = self.device.trees() - 1;
         let block = self.device.address_in(tree, submission.command.address());
-        let named = self.table[block as usize];
-        let leaf = leaf_for(&self.device, tree, named, submission.words.as_slice());
+        let map_entry = self.table[block as usize];
+        let leaf = leaf_for(&self.device, tree, map_entry, submission.words.as_slice());
         MessageCopies::fetch(alloc, tree, leaf)
     }
 

@@ -29,7 +29,7 @@ fn entry_after(
     block: u32,
 ) -> u32
     requires sized { length table.now ≡ blocks_in device.now (trees_of device.now - 1) }
-    requires names { All (λ e. e ≤ 2 ^ depth_of device.now (trees_of device.now - 1)) table.now }
+    requires map_entries { All (λ e. e ≤ 2 ^ depth_of device.now (trees_of device.now - 1)) table.now }
     requires allowed { All (IsAllowed device.now) queue.now.items }
     requires block { block < length table.now }
     requires from { from ≤ to }
@@ -75,7 +75,7 @@ fn first_bodies(
     from: usize,
 ) -> Result<Vec<Vec<u8>>, AllocError>
     requires sized { length table.now ≡ blocks_in device.now (trees_of device.now - 1) }
-    requires names { All (λ e. e ≤ 2 ^ depth_of device.now (trees_of device.now - 1)) table.now }
+    requires map_entries { All (λ e. e ≤ 2 ^ depth_of device.now (trees_of device.now - 1)) table.now }
     requires allowed { All (IsAllowed device.now) queue.now.items }
     requires from { from ≤ length queue.now.items }
     ensures { IfOk result (λ v. bodies_in v.items ≡ fetch_bodies (first_fetches device.now table.now (drop from queue.now.items))) }

@@ -3,7 +3,7 @@ ghost use Rattle.std.specs.Prelude.{◌≡◌, ◌+◌, ◌-◌, ◌*◌, ◌%�
 ghost use Rattle.std.specs.Int.{w32, from_be_bytes};
 ghost use Rattle.oram_geometry.specs.Sizes.{trees_of, depth_of, blocks_in, fanout, leaf_of};
 ghost use Rattle.oram_tree.specs.Edits.{IsEditOf, edited_content};
-ghost use Rattle.oram_semantics.specs.Blocks.{block_after, next_named};
+ghost use Rattle.oram_semantics.specs.Blocks.{block_after, next_map_entry};
 ghost use Rattle.oram_semantics.specs.Content.{block_of, new_leaf, entry_tree};
 ghost use Rattle.oram_semantics.specs.Messages.{requested};
 ghost use Rattle.oram_semantics.specs.Progress.Status.{Waiting};
@@ -32,7 +32,7 @@ pub(crate) struct PathAccess {
 
 /// Returns the entry that `map_block`, a block of `tree`, has for the command's block in the tree below: 0, or its leaf
 /// plus one. Returns 0 for tree 0, which is no map.
-pub(crate) fn named_below(
+pub(crate) fn map_entry_below(
     device: &Device,
     tree: u8,
     submission: &Submission,
@@ -41,7 +41,7 @@ pub(crate) fn named_below(
     requires tree { tree < trees_of device.now }
     requires allowed { IsAllowed device.now submission.now }
     requires whole { length map_block.now ≡ device.now.block_bytes }
-    ensures { result ≡ next_named device.now tree submission.now map_block.now }
+    ensures { result ≡ next_map_entry device.now tree submission.now map_block.now }
 {
     match tree {
         0 => 0,
@@ -77,18 +77,18 @@ pub(crate) fn new_leaf(device: &Device, tree: u8, submission: &Submission) -> u3
     device.leaf_of(tree, submission.words.as_slice()[2 * usize::from(tree) + 1])
 }
 
-/// Returns the leaf whose path a command with these words fetches in `tree`. `named` is the map entry of the command's
+/// Returns the leaf whose path a command with these words fetches in `tree`. `map_entry` is the map entry of the command's
 /// block; if it is 0, the command's spare word names the leaf.
-pub(crate) fn leaf_for(device: &Device, tree: u8, named: u32, words: &[u64]) -> u32
+pub(crate) fn leaf_for(device: &Device, tree: u8, map_entry: u32, words: &[u64]) -> u32
     requires tree { tree < trees_of device.now }
-    requires named { named ≤ 2 ^ depth_of device.now tree }
+    requires map_entry { map_entry ≤ 2 ^ depth_of device.now tree }
     requires words { length words.now ≡ 2 * trees_of device.now }
-    ensures value { result ≡ (if named == 0 then leaf_of device.now tree (slice_index words.now (2 * tree)) else named - 1) }
+    ensures value { result ≡ (if map_entry == 0 then leaf_of device.now tree (slice_index words.now (2 * tree)) else map_entry - 1) }
     ensures range { result < 2 ^ depth_of device.now tree }
 {
-    match named {
+    match map_entry {
         0 => device.leaf_of(tree, words[2 * usize::from(tree)]),
-        named => named - 1,
+        map_entry => map_entry - 1,
     }
 }
 

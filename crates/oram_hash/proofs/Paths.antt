@@ -65,5 +65,5 @@ expected-below p root (suc level) pos =
 
 pub genuine_test : (xs ys d e : List ℕ) (r : Bool) → r ≡ bytes_eq xs ys → xs ≡ d → ys ≡ e → IsTrue r ↔ (d ≡ e)
 genuine_test xs ys d e r test left right =
-    let told = bytes_eq-Decides xs ys in
-    (λ yes. sym left ∙ told.0 (sym test ∙ yes) ∙ right, λ same. test ∙ told.1 (left ∙ same ∙ sym right))
+    let decides = bytes_eq-Decides xs ys in
+    (λ yes. sym left ∙ decides.0 (sym test ∙ yes) ∙ right, λ same. test ∙ decides.1 (left ∙ same ∙ sym right))

@@ -46,24 +46,24 @@ shape_in-same : (old new : BTreeMap ℕ Tree) (t : ℕ) → get nat_cmp new t �
 unfolding shape_in
 shape_in-same old new t same = ap (option_map (λ x. (x.depth, x.record_len))) same
 
--- the record that a host shows for a slot
-shown : (o : Option Tree) (n : ℕ) → ((kept : Tree) → o ≡ Some kept → IsTree kept)
+-- the record that a host has in a slot
+slot_record : (o : Option Tree) (n : ℕ) → ((kept : Tree) → o ≡ Some kept → IsTree kept)
     → option_and_then (λ (k : Kept). record_of k n) (option_map kept_by o) ≡ option_filter is_there (option_and_then (λ (x : Tree). get nat_cmp x.records n) o)
-shown None n are = refl
-shown (Some kept) n are = record_of-kept kept n (are kept refl).ordered
+slot_record None n are = refl
+slot_record (Some kept) n are = record_of-kept kept n (are kept refl).ordered
 
 pub stored_at-slot : (trees : BTreeMap ℕ Tree) (t n : ℕ) → AreTrees trees → stored_at (host_of trees) t n ≡ option_filter is_there (slot_at trees t n)
 unfolding stored_at slot_at
 stored_at-slot trees t n h =
-    ap (option_and_then (λ (k : Kept). record_of k n)) (tree_at-host_of trees t) ∙ shown (get nat_cmp trees t) n (λ kept found. tree_is trees t kept h found)
+    ap (option_and_then (λ (k : Kept). record_of k n)) (tree_at-host_of trees t) ∙ slot_record (get nat_cmp trees t) n (λ kept found. tree_is trees t kept h found)
 
-shape_shown : (o : Option Tree) → option_map {T = Kept} {U = ℕ × ℕ} (λ k. (k.depth, k.record_len)) (option_map kept_by o) ≡ option_map {T = Tree} {U = ℕ × ℕ} (λ x. (x.depth, x.record_len)) o
-shape_shown None = refl
-shape_shown (Some kept) = refl
+shape_kept : (o : Option Tree) → option_map {T = Kept} {U = ℕ × ℕ} (λ k. (k.depth, k.record_len)) (option_map kept_by o) ≡ option_map {T = Tree} {U = ℕ × ℕ} (λ x. (x.depth, x.record_len)) o
+shape_kept None = refl
+shape_kept (Some kept) = refl
 
 shape_at-host_of : (trees : BTreeMap ℕ Tree) (t : ℕ) → shape_at (host_of trees) t ≡ shape_in trees t
 unfolding shape_at shape_in
-shape_at-host_of trees t = ap (option_map (λ (k : Kept). (k.depth, k.record_len))) (tree_at-host_of trees t) ∙ shape_shown (get nat_cmp trees t)
+shape_at-host_of trees t = ap (option_map (λ (k : Kept). (k.depth, k.record_len))) (tree_at-host_of trees t) ∙ shape_kept (get nat_cmp trees t)
 
 filtered : (o : Option (List ℕ)) (bytes : List ℕ) → option_filter is_there o ≡ Some bytes → o ≡ Some bytes
 filtered None bytes e = absurd cc

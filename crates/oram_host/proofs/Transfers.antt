@@ -1,18 +1,11 @@
 -- A beginning of a text is written piece by piece, and read piece by piece.
-use Rattle.std.proofs.Common.{◌≡◌, ℕ, ◌+◌, ◌-◌, List, [], ◌++◌, length, take, take_all, drop, Option, sym, ap, ◌∙◌, subst, append_assoc, append-nil, take-append-drop, length-drop, arith}
-use lib.Seq.{take-add, take-append_seam}
+use Rattle.std.proofs.Common.{◌≡◌, ℕ, List, [], ◌++◌, length, take, drop, Option, sym, ap, ◌∙◌, subst, append_assoc, append-nil, take-append-drop}
+use lib.Seq.{take-append_seam}
 use Rattle.std.proofs.KnownBytes.{Appends-trans, Consumes-trans}
 use Rattle.std.specs.Io.KnownBytes.{Appends}
 use Rattle.oram_host.specs.Transfers.{Begins, TakesFrom}
 
 -- ---- writing
-
-pub Appends-next : (a b c : Option (List ℕ)) (text : List ℕ) (at count : ℕ) → Appends a b (take at text) → Appends b c (take count (drop at text)) → Appends a c (take (at + count) text)
-Appends-next a b c text at count p q = subst (Appends a c) (sym (take-add at count text)) (Appends-trans a b c _ _ p q)
-
--- all that is left of a text, as a range of it
-pub rest_is : (text : List ℕ) (at : ℕ) → take (length text - at) (drop at text) ≡ drop at text
-rest_is text at = take_all (length text - at) (drop at text) (omega (arith, length-drop {A = ℕ}))
 
 -- the front of the text was written
 pub begun : (a b : Option (List ℕ)) (front rest text : List ℕ) → Appends a b front → front ++ rest ≡ text → Begins a b text

@@ -3,8 +3,8 @@ use Rattle.std.specs.Prelude.{◌≡◌, ◌≢◌, ℕ, ◌+◌, ◌-◌, ◌*�
 use Rattle.oram_wire.specs.declared.TheConstants.{LONGEST_BODY}
 use Rattle.oram_host.specs.Host.{Kept, record_of}
 
--- the node at a level of a leaf's path, from level 0 at the root on; oram_geometry has the same function for the client, whose crates a host
--- doesn't use
+-- the node at a level of a leaf's path, from level 0 at the root on; oram_geometry has the same function for the client,
+-- and a host uses no crate of the client
 unfoldable pub node_on : ℕ → ℕ → ℕ → ℕ
 node_on depth leaf level = 2 ^ level - 1 + leaf / 2 ^ (depth - level)
 

@@ -20,7 +20,7 @@ pub record Serves (host : Host) (body : List ℕ) (answer : HostAnswer) (after :
   pub op : names_request body ≡ false → (answer ≡ Refused 7) × (after ≡ host)
   pub misfit : IsMisfit body → (answer ≡ Refused 4) × (after ≡ host)
 
--- the fault that an answer is for the formatting of the host
+-- the fault that a formatting of the host has with this answer, if the answer isn't `Done`
 abbrev pub fault_by : HostAnswer → Option SinkFault
 fault_by Done = None
 fault_by (Payload bytes) = Some fault.Refused

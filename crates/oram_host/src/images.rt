@@ -42,7 +42,7 @@ pub fn images_are_exact()
 {}
 
 impl ImageFault {
-    /// Returns the number that is shown for the fault, from 1 to 4 in the order above. `Io` and
+    /// Returns the number by which programs name the fault, from 1 to 4 in the order above. `Io` and
     /// `OutOfMemory` have none.
     pub fn number(self) -> Option<u8>
         ensures { result ≡ fault_number self }

@@ -126,9 +126,9 @@ kept_now v s w host b fetch =
     let same : w.records ≡ b.before = b.leaves ∙ ap (λ (m : List ℕ). records_after v b.before (m ∷ [])) body ∙ fetch_leaves v b.before e.tree e.leaf in
     elim b.keeps [ inl lacks ↦ subst (λ (r : ℕ → ℕ → List ℕ). KeepsAll v r host) (sym same) lacks | inr whole ↦ whole ]
 
-shown : (v : Scheme) (s : State) (w : World) (host : Host) (bytes : List ℕ) → HostsWork v s w host
+pair_found : (v : Scheme) (s : State) (w : World) (host : Host) (bytes : List ℕ) → HostsWork v s w host
     → pair_in v w.records (requested s.message) bytes ≡ true → ShowsPair v host s.message bytes
-shown v s w host bytes b h =
+pair_found v s w host bytes b h =
     let e : Entry = requested s.message in
     let c = collides v w.records e bytes h in
     let some : 0 < trees_of v.device = some_trees v.device in
@@ -141,7 +141,7 @@ module _ (v : Scheme) (s : State) (w : World) (fit : IsFit v.device) (alive : s.
   apart bytes none = by (pair_in v w.records (requested s.message) bytes) refl
     where
       by : (k : Bool) → pair_in v w.records (requested s.message) bytes ≡ k → k ≡ false
-      by true e = absurd (none (shown v s w host bytes b.work e))
+      by true e = absurd (none (pair_found v s w host bytes b.work e))
       by false e = refl
 
   -- an answer lets the core go on only if the honest host keeps what it says

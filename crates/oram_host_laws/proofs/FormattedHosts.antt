@@ -425,5 +425,5 @@ broken_off_for_room v fault to device light broken = elim broken.ended [
   | inl elsewhere ↦ elsewhere.0
   | inr refused ↦
       let by = refused.refused in
-      refused.told ∙ room_alone by.0 refused.why broken.mid to (format_taken v broken.taken refused.body broken.mid to by.0 device light refused.begun broken.puts by.1) by.2
+      refused.reported ∙ room_alone by.0 refused.why broken.mid to (format_taken v broken.taken refused.body broken.mid to by.0 device light refused.begun broken.puts by.1) by.2
 ]

@@ -14,14 +14,14 @@ use Rattle.oram_semantics.specs.Moves.{Ask, IsReady, IsReadyFor, Moved, MovesTo,
 use Rattle.oram_semantics.specs.Moves.Ask.{Nothing, For}
 use Rattle.oram_semantics.specs.Run.{Shown, fails_now}
 use Rattle.oram_semantics.specs.Scheme.{Scheme}
-use Rattle.oram_semantics.specs.State.{AllStand, State, World, named_now}
+use Rattle.oram_semantics.specs.State.{AllStand, State, World, map_entry_now}
 use Rattle.oram_semantics.specs.declared.events.Note.{Note}
 use Rattle.oram_semantics.specs.declared.events.Note.TheVariants.{Refused}
 use Rattle.oram_semantics.specs.declared.events.Refusal.{Refusal}
 use Rattle.oram_semantics.specs.declared.events.Submission.{Submission}
 use Rattle.oram_semantics.proofs.AgreeSteps.{agreeing_fits}
 use Rattle.oram_semantics.proofs.Bounds.{IsFit, depth_small}
-use Rattle.oram_semantics.proofs.Counts.{asked_is}
+use Rattle.oram_semantics.proofs.Counts.{requested_is}
 use Rattle.oram_host_laws.specs.Honest.{KeepsAll}
 use Rattle.oram_host_laws.specs.HostRecords.{Hosts, HostsBy, HostsWork, IsPosted}
 
@@ -109,13 +109,13 @@ hosts_sent : (v : Scheme) (t : State) (u w : World) (x : Submission) (rest : Lis
 hosts_sent v t u w x rest e m host tree leaf is queue last leaves keeps =
     let depth : ℕ = depth_of v.device (entry_tree v.device t.entry_number) in
     let most : 2 ^ depth ≤ 2 ^ 24 = pow-le-pow_right {n = 2} (omega arith) {i = depth} {j = 24} (depth_small v.device (entry_tree v.device t.entry_number)) in
-    let asks : requested m ≡ e = asked_is v e m (omega arith) is in
-    let named : requested t.message ≡ e = ap requested last ∙ asks in
+    let asks : requested m ≡ e = requested_is v e m (omega arith) is in
+    let request_is : requested t.message ≡ e = ap requested last ∙ asks in
     subst (HostsBy v t u host) (sym queue) (record {
       posted = record {
         whole = subst (λ (k : List ℕ). IsMessage v (requested k) k) (sym last) (subst (λ (f : Entry). IsMessage v f m) (sym asks) is);
-        tree = ap (λ (f : Entry). f.tree) named ∙ tree;
-        leaf = subst (λ (f : Entry). f.leaf < 2 ^ depth) (sym named) leaf;
+        tree = ap (λ (f : Entry). f.tree) request_is ∙ tree;
+        leaf = subst (λ (f : Entry). f.leaf < 2 ^ depth) (sym request_is) leaf;
       };
       before = w.records;
       leaves = leaves ∙ ap (λ (k : List ℕ). records_after v w.records (k ∷ [])) (sym last);
@@ -123,11 +123,11 @@ hosts_sent v t u w x rest e m host tree leaf is queue last leaves keeps =
     })
 
 -- the same, if the rule asks for an entry
-hosts_asked : (v : Scheme) (s t : State) (w : World) (host : Host) (m : Moved) (x : Shown) (y : Submission) (rest : List Submission) (e : Entry)
+hosts_requested : (v : Scheme) (s t : State) (w : World) (host : Host) (m : Moved) (x : Shown) (y : Submission) (rest : List Submission) (e : Entry)
     → m.ask ≡ For e → e.tree ≡ entry_tree v.device m.state.entry_number
     → e.leaf < 2 ^ depth_of v.device (entry_tree v.device m.state.entry_number) → m.state.queue ≡ y ∷ rest → KeepsAll v w.records host
     → MovesTo v s w m x t → Hosts v t (world_after v w m x.sends) host
-hosts_asked v s t w host m x y rest e ask tree leaf queue keeps mv =
+hosts_requested v s t w host m x y rest e ask tree leaf queue keeps mv =
     let sent : (k : List ℕ) × (x.sends ≡ k ∷ []) × IsMessage v e k = subst (λ (a : Ask). Sends v s.message a x.sends) ask mv.sends in
     let entry_number : t.entry_number ≡ m.state.entry_number = ap (λ (u : State). u.entry_number) mv.state in
     hosts_sent v t (world_after v w m x.sends) w y rest e sent.0 host (tree ∙ ap (λ (r : ℕ). entry_tree v.device r) (sym entry_number))
@@ -138,17 +138,17 @@ hosts_asked v s t w host m x y rest e ask tree leaf queue keeps mv =
 
 -- the map entry of the outstanding FETCH names a leaf of its tree, or none
 
-leaf_inside : (d : Sizes) (i named : ℕ) (x : Submission) → named ≤ 2 ^ depth_of d i → leaf_for d i named x < 2 ^ depth_of d i
-leaf_inside d i named x few =
+leaf_inside : (d : Sizes) (i map_entry : ℕ) (x : Submission) → map_entry ≤ 2 ^ depth_of d i → leaf_for d i map_entry x < 2 ^ depth_of d i
+leaf_inside d i map_entry x few =
     let some : 0 < 2 ^ depth_of d i = pow_pos (depth_of d i) in
-    elim (eqb_tells named 0) [
-      | inl none ↦ subst (λ (b : Bool). (if b then leaf_of d i (slice_index x.words (2 * i)) else named - 1) < 2 ^ depth_of d i) (sym none.0) (omega arith)
-      | inr other ↦ subst (λ (b : Bool). (if b then leaf_of d i (slice_index x.words (2 * i)) else named - 1) < 2 ^ depth_of d i) (sym other.0) (omega arith)
+    elim (eqb_tells map_entry 0) [
+      | inl none ↦ subst (λ (b : Bool). (if b then leaf_of d i (slice_index x.words (2 * i)) else map_entry - 1) < 2 ^ depth_of d i) (sym none.0) (omega arith)
+      | inr other ↦ subst (λ (b : Bool). (if b then leaf_of d i (slice_index x.words (2 * i)) else map_entry - 1) < 2 ^ depth_of d i) (sym other.0) (omega arith)
     ]
 
-named_inside : (v : Scheme) (t : State) (u : World) (x : Submission) (rest : List Submission) → IsFit v.device → Stays v t u
-    → t.queue ≡ x ∷ rest → t.entry_number % 2 ≡ 0 → named_now v.device t x ≤ 2 ^ depth_of v.device (entry_tree v.device t.entry_number)
-named_inside v t u x rest fit st queue even =
+map_entry_inside : (v : Scheme) (t : State) (u : World) (x : Submission) (rest : List Submission) → IsFit v.device → Stays v t u
+    → t.queue ≡ x ∷ rest → t.entry_number % 2 ≡ 0 → map_entry_now v.device t x ≤ 2 ^ depth_of v.device (entry_tree v.device t.entry_number)
+map_entry_inside v t u x rest fit st queue even =
     let some : 0 < trees_of v.device = fit.some in
     let ready : IsReadyFor v t u x = (subst (IsReady v t u) queue (agreeing_fits v t u fit st.orderly st.agrees st.holds st.alive).1) even in
     subst (λ (k : ℕ). k ≤ 2 ^ depth_of v.device (entry_tree v.device t.entry_number)) ready.held_entry
@@ -157,21 +157,21 @@ named_inside v t u x rest fit st queue even =
 -- the fetch of the command at work
 pub goes_fetch : (v : Scheme) (s : State) (w : World) (host : Host) (m : Moved) (y : Submission) (rest : List Submission)
     → IsFit v.device → m.state.failure ≡ None → fails_now m.note ≡ false
-    → m.ask ≡ For (fetch_at v.device m.state.entry_number (named_now v.device m.state y) y) → m.state.queue ≡ y ∷ rest
+    → m.ask ≡ For (fetch_at v.device m.state.entry_number (map_entry_now v.device m.state y) y) → m.state.queue ≡ y ∷ rest
     → m.state.entry_number % 2 ≡ 0 → KeepsAll v w.records host → Goes v s w host m
 goes_fetch v s w host m y rest fit alive calm ask queue even keeps = record {
   alive = alive;
   calm = calm;
   hosts = λ x t mv st.
       let entry_number : t.entry_number ≡ m.state.entry_number = ap (λ (u : State). u.entry_number) mv.state in
-      let named : named_now v.device t y ≡ named_now v.device m.state y = ap (λ (u : State). named_now v.device u y) mv.state in
-      let few : named_now v.device t y ≤ 2 ^ depth_of v.device (entry_tree v.device t.entry_number) =
-      named_inside v t (world_after v w m x.sends) y rest fit st (ap (λ (u : State). u.queue) mv.state ∙ queue) (ap (λ (r : ℕ). r % 2) entry_number ∙ even) in
-      let small : named_now v.device m.state y ≤ 2 ^ depth_of v.device (entry_tree v.device m.state.entry_number) =
-      subst (λ (k : ℕ). k ≤ 2 ^ depth_of v.device (entry_tree v.device m.state.entry_number)) named
-      (subst (λ (r : ℕ). named_now v.device t y ≤ 2 ^ depth_of v.device (entry_tree v.device r)) entry_number few) in
-      hosts_asked v s t w host m x y rest (fetch_at v.device m.state.entry_number (named_now v.device m.state y) y) ask refl
-      (leaf_inside v.device (entry_tree v.device m.state.entry_number) (named_now v.device m.state y) y small) queue keeps mv;
+      let map_entry_is : map_entry_now v.device t y ≡ map_entry_now v.device m.state y = ap (λ (u : State). map_entry_now v.device u y) mv.state in
+      let few : map_entry_now v.device t y ≤ 2 ^ depth_of v.device (entry_tree v.device t.entry_number) =
+      map_entry_inside v t (world_after v w m x.sends) y rest fit st (ap (λ (u : State). u.queue) mv.state ∙ queue) (ap (λ (r : ℕ). r % 2) entry_number ∙ even) in
+      let small : map_entry_now v.device m.state y ≤ 2 ^ depth_of v.device (entry_tree v.device m.state.entry_number) =
+      subst (λ (k : ℕ). k ≤ 2 ^ depth_of v.device (entry_tree v.device m.state.entry_number)) map_entry_is
+      (subst (λ (r : ℕ). map_entry_now v.device t y ≤ 2 ^ depth_of v.device (entry_tree v.device r)) entry_number few) in
+      hosts_requested v s t w host m x y rest (fetch_at v.device m.state.entry_number (map_entry_now v.device m.state y) y) ask refl
+      (leaf_inside v.device (entry_tree v.device m.state.entry_number) (map_entry_now v.device m.state y) y small) queue keeps mv;
 }
 
 -- a command joins the queue
@@ -213,7 +213,7 @@ goes_stored v s w host x rest alive qu even posted keeps =
       alive = alive;
       calm = refl;
       hosts = λ z t mv st.
-          hosts_asked v s t w host (stores v s w x) z x rest (record { fetch = false; tree = entry_tree v.device s.entry_number; leaf = (requested s.message).leaf }) refl
+          hosts_requested v s t w host (stores v s w x) z x rest (record { fetch = false; tree = entry_tree v.device s.entry_number; leaf = (requested s.message).leaf }) refl
           (sym same) (subst (λ (i : ℕ). (requested s.message).leaf < 2 ^ depth_of v.device i) (sym same) posted.leaf) qu keeps mv;
     }
 

@@ -5,7 +5,7 @@ use Rattle.std.specs.List.{AllByRecursion, FoldsTo}
 use Rattle.sha2.specs.Sha256.{sha256}
 use Rattle.oram_geometry.specs.Sizes.{IsDevice}
 use Rattle.oram_bucket.specs.Cipher.{plain_cipher}
-use Rattle.oram_wire.specs.HostMessages.{fetch_body, store_body}
+use Rattle.oram_wire.specs.HostMessages.{done_answer, fetch_body, payload_answer, store_body}
 use Rattle.oram_wire.specs.FrameStream.{IsBody, frame}
 use Rattle.oram_wire.specs.declared.session_messages.SessionReply.TheVariants.{Refused}
 use Rattle.oram_host.specs.Answers.{IsFetched}
@@ -51,7 +51,7 @@ ResendingExample = AreStores both_stores × IsHost (small_host 30 21 31)
 
 -- the first STORE, whose answer was lost, and the same STORE again, which was acknowledged
 abbrev pub heard_twice : List Exchange
-heard_twice = (store_left, Err Io) ∷ (store_left, Ok (128 ∷ [])) ∷ []
+heard_twice = (store_left, Err Io) ∷ (store_left, Ok done_answer) ∷ []
 
 -- The host received the first STORE twice, and then carried out both.
 abbrev pub MendingExample : Type 0
@@ -77,11 +77,11 @@ over_bytes unread written = record { reader = unread; writer = written; faults =
 
 -- a FETCH of the path of leaf 0, and its answer
 abbrev pub one_fetch : List Exchange
-one_fetch = (fetch_body 0 0, Ok (128 ∷ 10 ∷ 11 ∷ [])) ∷ []
+one_fetch = (fetch_body 0 0, Ok (payload_answer (10 ∷ 11 ∷ []))) ∷ []
 
 -- the frame of this answer
 abbrev pub answer_bytes : List ℕ
-answer_bytes = 0 ∷ 0 ∷ 0 ∷ 3 ∷ 128 ∷ 10 ∷ 11 ∷ []
+answer_bytes = 0 ∷ 0 ∷ 0 ∷ 3 ∷ payload_answer (10 ∷ 11 ∷ [])
 
 -- The reader has the frame of the answer to a FETCH.
 abbrev pub StreamExample : Type 0

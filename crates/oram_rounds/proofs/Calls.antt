@@ -17,7 +17,7 @@ use Rattle.oram_host.specs.Answers.{Answers, IsFetched}
 use Rattle.oram_host.specs.Host.{Host, Kept, record_of, tree_at}
 use Rattle.oram_host.specs.Path.{record_at as host_record}
 use Rattle.oram_host.specs.Service.{Serves}
-use Rattle.oram_core.proofs.Sound.{asked_fetch}
+use Rattle.oram_core.proofs.Sound.{requested_fetch}
 use Rattle.oram_semantics.specs.Answers.{answered_path, is_payload}
 use Rattle.oram_semantics.specs.Messages.{requested}
 use Rattle.oram_semantics.specs.Scheme.{Scheme, record_len}
@@ -107,7 +107,7 @@ module _ (v : Scheme) (host later : Host) (held : List (List ℕ)) (c : CatchesU
   -- a lie about the host beside is one about the host later
 
   requested_is : requested body ≡ record { fetch = true; tree = f.tree; leaf = f.leaf }
-  requested_is = ap requested f.named ∙ asked_fetch f.tree f.leaf small
+  requested_is = ap requested f.named ∙ requested_fetch f.tree f.leaf small
 
   abbrev entry : Entry
   entry = record { fetch = true; tree = f.tree; leaf = f.leaf }

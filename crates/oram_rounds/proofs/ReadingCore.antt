@@ -66,7 +66,7 @@ pub sound : IsSound one_block.device 0 reading_core
 sound =
     let healthy : IsHealthy one_block.device 0 reading_core = record {
       table = table_len;
-      names = names;
+      map_entries = names;
       count = sym one_tree;
       kept = λ i low. kept i (omega (arith, low, one_tree));
       queue = All-cons (IsAllowed one_block.device) one_read [] allowed (All-nil _);

@@ -25,7 +25,7 @@ use Rattle.oram_semantics.proofs.Replaced.{store_leaves, store_replaces}
 use Rattle.oram_core.specs.AnswerMeaning.{IsVerdict}
 use Rattle.oram_core.specs.PlainSteps.{Done, finished_by}
 use Rattle.oram_core.specs.Steps.{Steps}
-use Rattle.oram_core.proofs.Judged.{stored_told}
+use Rattle.oram_core.proofs.Judged.{stored_verdict}
 use Rattle.oram_core.proofs.LocalRule.{holds_of}
 use Rattle.oram_core.proofs.Quiet.{finishes_met}
 use Rattle.oram_host_laws.specs.Honest.{KeepsAll}
@@ -193,7 +193,7 @@ replies = record {
   heard = λ bytes is waits other. inr (inr (record { oldest = one_read; rest = []; queue = refl; does = refl; long = refl }));
   verdict = λ bytes is waits other.
       let same : done_answer ≡ bytes = (let both : Answer done_answer ≡ Answer bytes = is in cc) in
-      subst (λ (b : List ℕ). IsVerdict one_block storing_core b Taken) same (stored_told one_block storing_core done_answer (refl, refl));
+      subst (λ (b : List ℕ). IsVerdict one_block storing_core b Taken) same (stored_verdict one_block storing_core done_answer (refl, refl));
   moves = λ w fits apart. met w fits;
 }
 

@@ -3,6 +3,7 @@ use Rattle.std.specs.Prelude.{◌≡◌, ◌≢◌, ◌⊎◌, ℕ, ◌+◌, ◌
 use Rattle.oram_geometry.specs.declared.Sizes.{Sizes}
 use Rattle.oram_geometry.specs.Sizes.{depth_of}
 use Rattle.oram_wire.specs.HostMessages.{payload_answer}
+use Rattle.oram_wire.specs.declared.host_messages.TheConstants.{GOOD}
 use Rattle.oram_link_laws.specs.Overlay.{IsLaidOver}
 use Rattle.oram_rounds.specs.PathMessages.{IsPathStore}
 
@@ -20,7 +21,7 @@ module _ (d : Sizes) (record_len tree leaf : ℕ) where
 
   -- whether an answer has as many bytes as the path
   abbrev pub holds_path : List ℕ → Bool
-  holds_path answer = (slice_index answer 0 == 128) && (length answer == 1 + (depth_of d tree + 1) * record_len)
+  holds_path answer = (slice_index answer 0 == GOOD) && (length answer == 1 + (depth_of d tree + 1) * record_len)
 
   -- The records of the STOREs are laid over the path in an answer. An answer without a path stays as it is.
   abbrev pub IsOverlaid : List (List ℕ) → List ℕ → List ℕ → Type 0

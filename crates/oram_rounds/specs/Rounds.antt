@@ -3,6 +3,7 @@ use Rattle.std.specs.Prelude.{◌≡◌, ◌≢◌, ◌⊎◌, ℕ, ◌==◌, �
 use Rattle.std.specs.List.{AllByRecursion}
 use Rattle.oram_geometry.specs.declared.Sizes.{Sizes}
 use Rattle.oram_wire.specs.HostMessages.{done_answer}
+use Rattle.oram_wire.specs.declared.host_messages.TheConstants.{REFUSED}
 use Rattle.oram_session.specs.Outcome.{Outcome, faults_after}
 use Rattle.oram_session.specs.declared.link.LinkFault.{LinkFault}
 use Rattle.oram_session.specs.declared.link.LinkFault.TheVariants.{Closed, OutOfMemory}
@@ -28,7 +29,7 @@ waiting l = l.kept ++ l.held
 
 -- what the core receives where the host doesn't acknowledge a STORE: the host's refusal, or no bytes
 abbrev pub is_refusal_body : List ℕ → Bool
-is_refusal_body answer = (length answer == 2) && (slice_index answer 0 == 129)
+is_refusal_body answer = (length answer == 2) && (slice_index answer 0 == REFUSED)
 
 abbrev pub refused_with : List ℕ → List ℕ
 refused_with answer = if is_refusal_body answer then answer else []

@@ -17,10 +17,10 @@ use Rattle.oram_semantics.specs.Scheme.{Scheme}
 use Rattle.oram_semantics.specs.Progress.{Setting}
 use Rattle.oram_semantics.specs.Content.{content_of}
 use Rattle.oram_semantics.specs.Trees.{Stands}
-use Rattle.oram_semantics.specs.State.{State, name_of}
+use Rattle.oram_semantics.specs.State.{State, map_entry_of}
 use Rattle.oram_semantics.specs.Blocks.{found_in, entry_in}
 use Rattle.oram_semantics.specs.Law.{new_state, world_of}
-use Rattle.oram_semantics.specs.Agree.{named_for, IsNext, Agrees, IsOrderly}
+use Rattle.oram_semantics.specs.Agree.{map_entry_for, IsNext, Agrees, IsOrderly}
 use Rattle.oram_semantics.specs.declared.events.Submission.{Submission}
 use Rattle.oram_semantics.proofs.Bounds.{IsFit}
 use Rattle.oram_semantics.proofs.Others.{all_none}
@@ -56,7 +56,7 @@ held_fits v i tree records content a e stands stash some is =
 -- what a tree that stands has for a block
 pub record IsFound (d : Sizes) (i : ℕ) (o : Option Held) : Type 0 where
   pub sized : length (found_in d o) ≡ d.block_bytes
-  pub leaves : name_of o ≤ 2 ^ depth_of d i
+  pub leaves : map_entry_of o ≤ 2 ^ depth_of d i
 
 found_by : (d : Sizes) (i : ℕ) (o : Option Held) → ((e : Held) → o ≡ Some e → IsEntryOf d i e) → IsFound d i o
 found_by d i None h = record { sized = length-replicate d.block_bytes 0; leaves = omega arith }
@@ -76,9 +76,9 @@ zeros_name n j fits =
     ∙ ap (λ k. from_be_bytes w32 (take k (replicate (n - 4 * j) 0))) four
     ∙ ap (λ k. from_be_bytes w32 (take 4 (replicate k 0))) rest
 
-none_named : (v : Setting) (trees : List Tree) (i b : ℕ) → IsFit v.scheme.device → i < trees_of v.scheme.device
-    → b < blocks_in v.scheme.device i → named_for v.scheme (new_state v trees) (world_of v []) i b ≡ 0
-none_named v trees i b fit below inside =
+no_map_entry : (v : Setting) (trees : List Tree) (i b : ℕ) → IsFit v.scheme.device → i < trees_of v.scheme.device
+    → b < blocks_in v.scheme.device i → map_entry_for v.scheme (new_state v trees) (world_of v []) i b ≡ 0
+no_map_entry v trees i b fit below inside =
     let d = v.scheme.device in
     let n : ℕ = blocks_in d (trees_of d - 1) in
     let j : b % fanout d < fanout d = mod_below b (fanout d) fit.words.some in
@@ -97,8 +97,8 @@ none_named v trees i b fit below inside =
 pub agrees_new : (v : Setting) (trees : List Tree) → IsFit v.scheme.device → Agrees v.scheme (new_state v trees) (world_of v [])
 agrees_new v trees fit = record {
   sized = λ i b below. ap (λ (m : Map). length (found_in v.scheme.device (m b))) (empty_content v i) ∙ length-replicate v.scheme.device.block_bytes 0;
-  leaves = λ i b below. subst (λ (m : Map). name_of (m b) ≤ 2 ^ depth_of v.scheme.device i) (sym (empty_content v i)) (omega arith);
-  others = λ i b below inside apart. none_named v trees i b fit below inside ∙ sym (ap (λ (m : Map). name_of (m b)) (empty_content v i));
+  leaves = λ i b below. subst (λ (m : Map). map_entry_of (m b) ≤ 2 ^ depth_of v.scheme.device i) (sym (empty_content v i)) (omega arith);
+  others = λ i b below inside apart. no_map_entry v trees i b fit below inside ∙ sym (ap (λ (m : Map). map_entry_of (m b)) (empty_content v i));
   between = tt;
 }
 

@@ -8,17 +8,17 @@ use Rattle.oram_geometry.specs.Sizes.{trees_of, depth_of, blocks_in, fanout}
 use Rattle.oram_semantics.specs.Content.{entry_tree}
 use Rattle.oram_semantics.specs.Scheme.{Scheme}
 use Rattle.oram_semantics.specs.Content.{block_of, new_leaf}
-use Rattle.oram_semantics.specs.State.{State, World, name_of}
+use Rattle.oram_semantics.specs.State.{State, World, map_entry_of}
 use Rattle.oram_tree.specs.Edits.{with_entry}
-use Rattle.oram_semantics.specs.Blocks.{found_in, entry_in, block_after, next_named, left_by, put_in}
+use Rattle.oram_semantics.specs.Blocks.{found_in, entry_in, block_after, next_map_entry, left_by, put_in}
 use Rattle.oram_semantics.specs.Run.{has_bad_length}
-use Rattle.oram_semantics.specs.Agree.{named_for, next_tree, IsAmid, IsBetween, AtBetween, IsNext, Agrees}
+use Rattle.oram_semantics.specs.Agree.{map_entry_for, next_tree, IsAmid, IsBetween, AtBetween, IsNext, Agrees}
 use Rattle.oram_semantics.specs.declared.events.Command.{Command}
 use Rattle.oram_semantics.specs.declared.events.Command.TheVariants.{Read, Write, Discard}
 use Rattle.oram_semantics.specs.declared.events.Submission.{Submission}
 use Rattle.oram_semantics.proofs.Bounds.{HasEntries}
 use Rattle.oram_semantics.proofs.Maps.{block_after-suc, above, leaf_small}
-use Rattle.oram_semantics.proofs.AgreedFetches.{next_is_named}
+use Rattle.oram_semantics.proofs.AgreedFetches.{next_map_entry_is}
 use Rattle.oram_semantics.proofs.MapEntries.{entry_here, entry_there, length-edit}
 
 -- a good answer to the fetch of tree i, at the block a, with what was found there
@@ -33,7 +33,7 @@ pub record Accessed (v : Scheme) (s t : State) (w w' : World) (x : Submission) (
   pub queue' : t.queue ≡ x ∷ rest
   pub stage' : t.entry_number ≡ s.entry_number + 1
   pub table' : t.table ≡ (if s.entry_number == 0 then slice_set s.table a (new_leaf v.device i x + 1) else s.table)
-  pub named' : t.held_entry ≡ next_named v.device i x bytes
+  pub held_entry' : t.held_entry ≡ next_map_entry v.device i x bytes
   pub content' : (k b : ℕ)
       → w'.content k b ≡ put_in w.content i a (record { leaf = new_leaf v.device i x; content = block_after v.device i x bytes }) k b
 
@@ -122,9 +122,9 @@ module _ (v : Scheme) (s t : State) (w w' : World) (x : Submission) (rest : List
       ∙ sym (ap (λ n. entry_in (found_in v.device (w.content n (b / fanout v.device))) (b % fanout v.device)) e ∙ ap (λ n. entry_in (found_in v.device (w.content i n)) (b % fanout v.device)) up)
 
   -- the map entries are unchanged, except for the accessed block and the next tree's block
-  named_other : (k b : ℕ) → HasEntries v.device → Agrees v s w → (k ≡ i → b ≢ a) → (k + 1 ≡ i → b ≢ block_of v.device k x)
-      → named_for v t w' k b ≡ named_for v s w k b
-  named_other k b h agrees here below =
+  map_entry_other : (k b : ℕ) → HasEntries v.device → Agrees v s w → (k ≡ i → b ≢ a) → (k + 1 ≡ i → b ≢ block_of v.device k x)
+      → map_entry_for v t w' k b ≡ map_entry_for v s w k b
+  map_entry_other k b h agrees here below =
       elim (eqb_tells (k + 1) (trees_of v.device)) [
         | inl top ↦
             let same : k + 1 ≡ trees_of v.device = top.1 in
@@ -149,8 +149,8 @@ module _ (v : Scheme) (s t : State) (w w' : World) (x : Submission) (rest : List
           ]
 
   -- the map entry for the accessed block names its new leaf
-  named_here : HasEntries v.device → Agrees v s w → named_for v t w' i a ≡ new_leaf v.device i x + 1
-  named_here h agrees =
+  map_entry_here : HasEntries v.device → Agrees v s w → map_entry_for v t w' i a ≡ new_leaf v.device i x + 1
+  map_entry_here h agrees =
       let few : s.entry_number < 2 * trees_of v.device = q.few in
       let even : s.entry_number % 2 ≡ 0 = q.even in
       let tree : i ≡ entry_tree v.device s.entry_number = q.tree in
@@ -175,8 +175,8 @@ module _ (v : Scheme) (s t : State) (w w' : World) (x : Submission) (rest : List
             ap (λ (c : Bool). if c then slice_index t.table a else entry_in (found_in v.device (w'.content (i + 1) (a / fanout v.device))) (a % fanout v.device)) inner.0
             ∙ ap (λ o. entry_in (found_in v.device o) (a % fanout v.device)) (content_other (i + 1) (a / fanout v.device) over)
             ∙ sym (ap (λ (c : Bool). if c then slice_index s.table a else entry_in (found_in v.device (w.content (i + 1) (a / fanout v.device))) (a % fanout v.device)) inner.0)
-            ∙ ap (λ (n : ℕ). named_for v s w i n) q.block
-            ∙ subst (λ (n : ℕ). named_for v s w n (block_of v.device n x) ≡ new_leaf v.device n x + 1) next between.ahead
+            ∙ ap (λ (n : ℕ). map_entry_for v s w i n) q.block
+            ∙ subst (λ (n : ℕ). map_entry_for v s w n (block_of v.device n x) ≡ new_leaf v.device n x + 1) next between.ahead
       ]
 
   not_next : (k b : ℕ) → (k ≡ i → b ≢ a) → ¬ IsNext v s s.queue k b
@@ -197,32 +197,32 @@ module _ (v : Scheme) (s t : State) (w w' : World) (x : Submission) (rest : List
     ]
   ]
 
-  leaves_on : Agrees v s w → (k b : ℕ) → k < trees_of v.device → name_of (w'.content k b) ≤ 2 ^ depth_of v.device k
+  leaves_on : Agrees v s w → (k b : ℕ) → k < trees_of v.device → map_entry_of (w'.content k b) ≤ 2 ^ depth_of v.device k
   leaves_on agrees k b below =
       let P : ℕ → ℕ → Type 0 = λ n m. n ≤ 2 ^ depth_of v.device m in
       elim (eqb_tells k i) [
-        | inr other ↦ subst (λ o. name_of o ≤ 2 ^ depth_of v.device k) (sym (content_other k b other.1)) (agrees.leaves k b below)
-        | inl same ↦ subst (λ m. name_of (w'.content m b) ≤ 2 ^ depth_of v.device m) (sym same.1) (elim (eqb_tells b a) [
-          | inr beside ↦ subst (λ o. name_of o ≤ 2 ^ depth_of v.device i) (sym (content_beside b beside.1)) (agrees.leaves i b in_device)
-          | inl here ↦ subst (λ c. name_of (w'.content i c) ≤ 2 ^ depth_of v.device i) (sym here.1) (subst (λ o. name_of o ≤ 2 ^ depth_of v.device i) (sym content_here) (omega (arith, (leaf_small v.device i (slice_index x.words (2 * i + 1))).0)))
+        | inr other ↦ subst (λ o. map_entry_of o ≤ 2 ^ depth_of v.device k) (sym (content_other k b other.1)) (agrees.leaves k b below)
+        | inl same ↦ subst (λ m. map_entry_of (w'.content m b) ≤ 2 ^ depth_of v.device m) (sym same.1) (elim (eqb_tells b a) [
+          | inr beside ↦ subst (λ o. map_entry_of o ≤ 2 ^ depth_of v.device i) (sym (content_beside b beside.1)) (agrees.leaves i b in_device)
+          | inl here ↦ subst (λ c. map_entry_of (w'.content i c) ≤ 2 ^ depth_of v.device i) (sym here.1) (subst (λ o. map_entry_of o ≤ 2 ^ depth_of v.device i) (sym content_here) (omega (arith, (leaf_small v.device i (slice_index x.words (2 * i + 1))).0)))
         ])
       ]
 
   others_on : HasEntries v.device → Agrees v s w → (k b : ℕ) → k < trees_of v.device → b < blocks_in v.device k
-      → ¬ IsNext v t t.queue k b → named_for v t w' k b ≡ name_of (w'.content k b)
+      → ¬ IsNext v t t.queue k b → map_entry_for v t w' k b ≡ map_entry_of (w'.content k b)
   others_on h agrees k b few inside off = elim (eqb_tells k i) [
     | inl same ↦ elim (eqb_tells b a) [
-      | inl here ↦ ap (λ n. named_for v t w' n b) same.1 ∙ ap (named_for v t w' i) here.1 ∙ named_here h agrees ∙ sym (ap (λ n. name_of (w'.content n b)) same.1 ∙ ap (λ n. name_of (w'.content i n)) here.1 ∙ ap name_of content_here)
+      | inl here ↦ ap (λ n. map_entry_for v t w' n b) same.1 ∙ ap (map_entry_for v t w' i) here.1 ∙ map_entry_here h agrees ∙ sym (ap (λ n. map_entry_of (w'.content n b)) same.1 ∙ ap (λ n. map_entry_of (w'.content i n)) here.1 ∙ ap map_entry_of content_here)
       | inr beside ↦
-          named_other k b h agrees (λ e. beside.1) (λ e. absurd (let at : k ≡ i = same.1 in omega arith))
+          map_entry_other k b h agrees (λ e. beside.1) (λ e. absurd (let at : k ≡ i = same.1 in omega arith))
           ∙ agrees.others k b few inside (not_next k b (λ e. beside.1))
-          ∙ ap (λ n. name_of (w.content n b)) same.1
-          ∙ sym (ap (λ n. name_of (w'.content n b)) same.1 ∙ ap name_of (content_beside b beside.1))
+          ∙ ap (λ n. map_entry_of (w.content n b)) same.1
+          ∙ sym (ap (λ n. map_entry_of (w'.content n b)) same.1 ∙ ap map_entry_of (content_beside b beside.1))
     ]
     | inr other ↦
-        named_other k b h agrees (λ e. absurd (other.1 e)) (λ e at. off (subst (λ y. IsNext v t y k b) (sym q.queue') ((next_now k e).0, (next_now k e).1, at)))
+        map_entry_other k b h agrees (λ e. absurd (other.1 e)) (λ e at. off (subst (λ y. IsNext v t y k b) (sym q.queue') ((next_now k e).0, (next_now k e).1, at)))
         ∙ agrees.others k b few inside (not_next k b (λ e. absurd (other.1 e)))
-        ∙ sym (ap name_of (content_other k b other.1))
+        ∙ sym (ap map_entry_of (content_other k b other.1))
   ]
     where
       next_now : (k : ℕ) → k + 1 ≡ i → IsAmid v t × (k ≡ next_tree v t)
@@ -250,11 +250,11 @@ module _ (v : Scheme) (s t : State) (w w' : World) (x : Submission) (rest : List
       let small = leaf_small v.device j (slice_index x.words (2 * j + 1)) in
       let under : block_of v.device j x / fanout v.device ≡ a = sym (block_is j next) in
       record {
-        held = q.named' ∙ ap (λ xs. next_named v.device i x xs) (q.found ∙ ap (λ n. found_in v.device (w.content i n)) q.block)
-            ∙ ap (λ n. next_named v.device n x (found_in v.device (w.content n (block_of v.device n x)))) over
-            ∙ next_is_named v s w x j low
+        held = q.held_entry' ∙ ap (λ xs. next_map_entry v.device i x xs) (q.found ∙ ap (λ n. found_in v.device (w.content i n)) q.block)
+            ∙ ap (λ n. next_map_entry v.device n x (found_in v.device (w.content n (block_of v.device n x)))) over
+            ∙ next_map_entry_is v s w x j low
             ∙ agrees.others j (block_of v.device j x) (omega arith) (inside j) (not_next j (block_of v.device j x) (λ e. absurd (apart e)))
-            ∙ sym (ap name_of (content_other j (block_of v.device j x) apart));
+            ∙ sym (ap map_entry_of (content_other j (block_of v.device j x) apart));
         ahead =
             ap (λ (c : Bool). if c then slice_index t.table (block_of v.device j x) else entry_in (found_in v.device (w'.content (j + 1) (block_of v.device j x / fanout v.device))) (block_of v.device j x % fanout v.device)) inner
             ∙ ap (λ n. entry_in (found_in v.device (w'.content n (block_of v.device j x / fanout v.device))) (block_of v.device j x % fanout v.device)) next

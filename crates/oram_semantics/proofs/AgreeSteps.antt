@@ -14,10 +14,10 @@ use Rattle.oram_semantics.specs.Content.{block_of, new_leaf, entry_tree}
 use Rattle.oram_semantics.specs.Progress.{Status}
 use Rattle.oram_semantics.specs.Progress.Status.{Idle, Waiting, Stalling, Over}
 use Rattle.oram_semantics.specs.Run.{Shown, refusal_of, is_over}
-use Rattle.oram_semantics.specs.State.{State, World, AllStand, status_in, name_of}
+use Rattle.oram_semantics.specs.State.{State, World, AllStand, status_in, map_entry_of}
 use Rattle.oram_semantics.specs.Blocks.{found_in}
 use Rattle.oram_semantics.specs.Moves.{Moved, MovesTo, Moves, Fits, IsReady, stays, stalls, resends, accepts, stores, fetches, finishes, goes_on, on_submission, on_answer, on_loss, on_retry, world_after, moved}
-use Rattle.oram_semantics.specs.Agree.{named_for, next_tree, IsBetween, AtBetween, IsNext, Agrees, IsAllowed, IsOrderly}
+use Rattle.oram_semantics.specs.Agree.{map_entry_for, next_tree, IsBetween, AtBetween, IsNext, Agrees, IsAllowed, IsOrderly}
 use Rattle.oram_semantics.specs.declared.events.Event.{Event}
 use Rattle.oram_semantics.specs.declared.events.Event.TheVariants.{Submit, Answer, Lost, Reopen, Retry}
 use Rattle.oram_semantics.specs.declared.events.Refusal.{Refusal}
@@ -27,7 +27,7 @@ use Rattle.oram_geometry.proofs.DeviceSizes.{blocks_in-zero}
 use Rattle.oram_semantics.proofs.Bounds.{IsFit, address_small}
 use Rattle.oram_semantics.proofs.AgreedFetches.{agreeing_ready}
 use Rattle.oram_semantics.proofs.AgreeOn.{agrees_on}
-use Rattle.oram_semantics.proofs.AgreeKept.{agrees_kept, agrees_finished, agrees_fetched, named_kept}
+use Rattle.oram_semantics.proofs.AgreeKept.{agrees_kept, agrees_finished, agrees_fetched, map_entry_kept}
 use Rattle.oram_semantics.proofs.Submitted.{passed}
 
 -- the block that a command has in each tree is one of the tree's blocks
@@ -53,22 +53,22 @@ next_same v s t (x ∷ rest) k b e n =
 
 between_same : (v : Scheme) (s t : State) (w w' : World) (queue : List Submission) → t.table ≡ s.table → t.entry_number ≡ s.entry_number
     → t.held_entry ≡ s.held_entry → ((i c : ℕ) → w'.content i c ≡ w.content i c) → AtBetween v s w queue → AtBetween v t w' queue
-between_same v s t w w' [] table entry_number named content at = tt
-between_same v s t w w' (x ∷ rest) table entry_number named content at = λ amid.
+between_same v s t w w' [] table entry_number held_entry content at = tt
+between_same v s t w w' (x ∷ rest) table entry_number held_entry content at = λ amid.
     let more : 0 < t.entry_number = amid.0 in
     let less : t.entry_number + 1 < 2 * trees_of v.device = amid.1 in
     let was : IsBetween v s w x = at (omega arith, omega arith) in
     let same : next_tree v t ≡ next_tree v s = ap (λ r. entry_tree v.device (r + 1)) entry_number in
     record {
-      held = named ∙ was.held
-          ∙ sym (ap (λ i. name_of (w'.content i (block_of v.device i x))) same ∙ ap name_of (content (next_tree v s) (block_of v.device (next_tree v s) x)));
-      ahead = named_kept v s t w w' (next_tree v t) (block_of v.device (next_tree v t) x) table content
-          ∙ ap (λ i. named_for v s w i (block_of v.device i x)) same ∙ was.ahead ∙ ap (λ i. new_leaf v.device i x + 1) (sym same);
+      held = held_entry ∙ was.held
+          ∙ sym (ap (λ i. map_entry_of (w'.content i (block_of v.device i x))) same ∙ ap map_entry_of (content (next_tree v s) (block_of v.device (next_tree v s) x)));
+      ahead = map_entry_kept v s t w w' (next_tree v t) (block_of v.device (next_tree v t) x) table content
+          ∙ ap (λ i. map_entry_for v s w i (block_of v.device i x)) same ∙ was.ahead ∙ ap (λ i. new_leaf v.device i x + 1) (sym same);
     }
 
 left_same : (v : Scheme) (s t : State) (w w' : World) → t.table ≡ s.table → t.queue ≡ s.queue → t.entry_number ≡ s.entry_number
     → t.held_entry ≡ s.held_entry → ((i c : ℕ) → w'.content i c ≡ w.content i c) → IsOrderly v s → Agrees v s w → IsLeft v t w'
-left_same v s t w w' table queue entry_number named content o a = record {
+left_same v s t w w' table queue entry_number held_entry content o a = record {
   orderly = record {
     sized = ap (λ (xs : List ℕ). length xs) table ∙ o.sized;
     queue = subst (All (IsAllowed v.device)) (sym queue) o.queue;
@@ -77,7 +77,7 @@ left_same v s t w w' table queue entry_number named content o a = record {
   };
   agrees = agrees_kept v s t w w' table content
       (λ k b n. subst (λ q. IsNext v t q k b) (sym queue) (next_same v s t s.queue k b entry_number n))
-      (subst (AtBetween v t w') (sym queue) (between_same v s t w w' s.queue table entry_number named content a.between)) a;
+      (subst (AtBetween v t w') (sym queue) (between_same v s t w w' s.queue table entry_number held_entry content a.between)) a;
 }
 
 -- an accepted submission
@@ -95,7 +95,7 @@ between_push v t w (y ∷ rest) x rests at = at
 left_pushed : (v : Scheme) (s t : State) (w w' : World) (x : Submission) → t.table ≡ s.table → t.queue ≡ s.queue ++ x ∷ []
     → t.entry_number ≡ s.entry_number → t.held_entry ≡ s.held_entry → ((i c : ℕ) → w'.content i c ≡ w.content i c) → IsAllowed v.device x
     → IsOrderly v s → Agrees v s w → IsLeft v t w'
-left_pushed v s t w w' x table queue entry_number named content ok o a = record {
+left_pushed v s t w w' x table queue entry_number held_entry content ok o a = record {
   orderly = record {
     sized = ap (λ (xs : List ℕ). length xs) table ∙ o.sized;
     queue = subst (All (IsAllowed v.device)) (sym queue) (All-push (IsAllowed v.device) s.queue x o.queue ok);
@@ -104,7 +104,7 @@ left_pushed v s t w w' x table queue entry_number named content ok o a = record 
   };
   agrees = agrees_kept v s t w w' table content
       (λ k b n. subst (λ q. IsNext v t q k b) (sym queue) (next_push v t s.queue x k b (next_same v s t s.queue k b entry_number n)))
-      (subst (AtBetween v t w') (sym queue) (between_push v t w' s.queue x (λ none. entry_number ∙ o.rests none) (between_same v s t w w' s.queue table entry_number named content a.between))) a;
+      (subst (AtBetween v t w') (sym queue) (between_push v t w' s.queue x (λ none. entry_number ∙ o.rests none) (between_same v s t w w' s.queue table entry_number held_entry content a.between))) a;
 }
 
 -- good answers
@@ -142,7 +142,7 @@ left_stored v s t w x rest y fit qu even o a mv =
             queue' = queue;
             stage' = entry_number;
             table' = table;
-            named' = ap (λ (u : State). u.held_entry) mv.state;
+            held_entry' = ap (λ (u : State). u.held_entry) mv.state;
             content' = λ k b. refl;
           }) fit.words a ok.data_length (inside v x fit ok);
     }
@@ -214,8 +214,8 @@ After v s t w y m = MovesTo v s w m y t → t.failure ≡ None → IsLeft v t (w
 left_quiet : (v : Scheme) (s t : State) (w : World) (y : Shown) (m : Moved) → m.state.table ≡ s.table
     → m.state.queue ≡ s.queue → m.state.entry_number ≡ s.entry_number → m.state.held_entry ≡ s.held_entry
     → ((i c : ℕ) → m.content i c ≡ w.content i c) → IsOrderly v s → Agrees v s w → After v s t w y m
-left_quiet v s t w y m table queue entry_number named content o a mv healthy =
-    left_same v s t w (world_after v w m y.sends) (ap (λ (u : State). u.table) mv.state ∙ table) (ap (λ (u : State). u.queue) mv.state ∙ queue) (ap (λ (u : State). u.entry_number) mv.state ∙ entry_number) (ap (λ (u : State). u.held_entry) mv.state ∙ named) content o a
+left_quiet v s t w y m table queue entry_number held_entry content o a mv healthy =
+    left_same v s t w (world_after v w m y.sends) (ap (λ (u : State). u.table) mv.state ∙ table) (ap (λ (u : State). u.queue) mv.state ∙ queue) (ap (λ (u : State). u.entry_number) mv.state ∙ entry_number) (ap (λ (u : State). u.held_entry) mv.state ∙ held_entry) content o a
 
 left_submitted : (v : Scheme) (s t : State) (w : World) (y : Shown) (x : Submission) (o : Option Refusal) → IsFit v.device
     → refusal_of v.device (is_over (status_in s)) (length s.queue) s.next x.command x.words ≡ o → IsOrderly v s

@@ -12,7 +12,7 @@ use Rattle.oram_semantics.specs.Scheme.{Scheme}
 use Rattle.oram_semantics.specs.Messages.{IsMessage, requested, is_store}
 use Rattle.oram_semantics.specs.Progress.{Setting, Step, Progress, accepted, sent, records_of, progress, entry_at}
 use Rattle.oram_semantics.specs.Nonces.{store_nonce}
-use Rattle.oram_semantics.specs.Content.{block_of, named_in, content_after}
+use Rattle.oram_semantics.specs.Content.{block_of, map_entry_in, content_after}
 use Rattle.oram_semantics.specs.Run.{note_of, is_accepted, fails_now, is_resent, AskFor, answered_tickets, entries_sent, from_to, PlacedBy, Shown, step_of}
 use Rattle.oram_semantics.specs.State.{State}
 use Rattle.oram_semantics.specs.Blocks.{body_from}
@@ -31,7 +31,7 @@ use Rattle.oram_semantics.specs.Law.{world_of}
 use Rattle.oram_semantics.proofs.Bounds.{IsFit}
 use Rattle.oram_semantics.specs.Agree.{TicketsFrom}
 use Rattle.oram_semantics.proofs.Follows.{FitsTable, applied, applied_yes, entry_for, Working, Live, content_is}
-use Rattle.oram_semantics.proofs.Counts.{sent_cons, records_more, accepted_len, rest_is, none_between, one_between, none_asked, one_asked, answered_is, sent_is, asked_is, no_store, store_entry_is}
+use Rattle.oram_semantics.proofs.Counts.{sent_cons, records_more, accepted_len, rest_is, none_between, one_between, asks_for_none, asks_for_one, answered_is, sent_is, requested_is, no_store, store_entry_is}
 use Rattle.oram_semantics.proofs.Stores.{content_stored, leaf_fits, live_stored, stored_state, store_entry}
 use Rattle.oram_semantics.proofs.Fetches.{live_fetched, live_finished, fetched_state, finished_state, applied_fetched, applied_finished, fetch_entry}
 use Rattle.oram_semantics.proofs.Others.{all_one}
@@ -57,7 +57,7 @@ pub asks_due : (v : Setting) (past : List Step) (step : Step) (last : List ℕ) 
     → Sends v.scheme last (For e) step.sends → a ≡ m → b ≡ m + 1 → e ≡ entry_at v (step ∷ past) m
     → AskFor v (step ∷ past) (from_to a b) step.sends
 asks_due v past step last e a b m s from to due =
-    one_asked v (step ∷ past) a b m step.sends s.0 from to s.1 (subst (λ (f : Entry). IsMessage v.scheme f s.0) due s.2)
+    asks_for_one v (step ∷ past) a b m step.sends s.0 from to s.1 (subst (λ (f : Entry). IsMessage v.scheme f s.0) due s.2)
 
 -- a good answer in the middle of a command
 middle_keep : (v : Setting) (past : List Step) (s t u : State) (old rest : List Submission) (x : Shown) (y : Submission)
@@ -89,7 +89,7 @@ middle_keep v past s t u old rest x y bytes m e fit l qu few taken none ask mv i
     let rec : RecordsAre v past event x m =
     records_more v step past ∙ sym (ap (λ k. records_next v.scheme (records_of v past) k x.sends) ask) in
     let leaf : e.leaf < 2 ^ 32 = subst (λ (f : Entry). f.leaf < 2 ^ 32) (sym due) (leaf_fits d old y (s.entry_number + 1)) in
-    let asks : requested sends.0 ≡ e = asked_is v.scheme e sends.0 leaf sends.2 in
+    let asks : requested sends.0 ≡ e = requested_is v.scheme e sends.0 leaf sends.2 in
     let sealed : is_store sends.0 ≡ true → s.nonce ≡ store_nonce d (answered_tickets v past) (requested sends.0).tree = λ store.
     nonce (store_entry_is v.scheme e sends.0 sends.2 store) ∙ ap (λ k. store_nonce d k e.tree) (sym before)
     ∙ ap (λ (f : Entry). store_nonce d (answered_tickets v past) f.tree) (sym asks) in
@@ -162,11 +162,11 @@ fetches_keep v past s t old rest x y bytes fit l healthy qu w calm odd more mv i
     ∙ sym (nonce_fetched v (progress v past).good (length old) s.entry_number l.good more odd) in
     let live : Live v (step ∷ past) old u =
     live_fetched v past old rest s y step t.trees n m fit l qu w odd more calm p a sent_is mv.sends.2 nonce in
-    let named : s.held_entry ≡ named_in d (entry_tree d (s.entry_number + 1)) old (block_of d (entry_tree d (s.entry_number + 1)) y) =
+    let held_entry : s.held_entry ≡ map_entry_in d (entry_tree d (s.entry_number + 1)) old (block_of d (entry_tree d (s.entry_number + 1)) y) =
     w.held_entry (omega arith) more in
     middle_keep v past s t u old rest x y bytes (fetches v.scheme s (world_of v past) y) _ fit l qu more refl refl refl mv is_u healthy
     (λ k below. content_is v past old s k fit l ∙ ap (λ q. content_after d k (applied d old q s.entry_number k)) qu ∙ ap (content_after d k) (sym (applied_fetched d old rest y s.entry_number k odd)) ∙ ap (λ q. content_after d k (applied d old q (s.entry_number + 1) k)) (sym qu))
-    live (fetch_entry d old y (s.entry_number + 1) s.held_entry (omega arith) named) is p (λ fetch. absurd (let both : true ≡ false = fetch in cc))
+    live (fetch_entry d old y (s.entry_number + 1) s.held_entry (omega arith) held_entry) is p (λ fetch. absurd (let both : true ≡ false = fetch in cc))
 
 -- the last good answer of a command
 
@@ -191,13 +191,13 @@ next_due : (v : Setting) (past : List Step) (step : Step) (old rest : List Submi
     → s.entry_number + 1 ≡ 2 * trees_of v.scheme.device → (progress v past).good ≡ g → (progress v (step ∷ past)).good ≡ g + 1
     → accepted (step ∷ past) ≡ accepted past → accepted past ≡ reverse old ++ y ∷ rest
     → HasWords (2 * trees_of v.scheme.device) (y ∷ old) → All (FitsTable v.scheme.device) rest
-    → ((a : ℕ) → a < blocks_in v.scheme.device (trees_of v.scheme.device - 1) → slice_index s.table a ≡ named_in v.scheme.device (trees_of v.scheme.device - 1) (y ∷ old) a)
+    → ((a : ℕ) → a < blocks_in v.scheme.device (trees_of v.scheme.device - 1) → slice_index s.table a ≡ map_entry_in v.scheme.device (trees_of v.scheme.device - 1) (y ∷ old) a)
     → Sends v.scheme last (first_fetch v.scheme.device s.table rest) step.sends
     → AskFor v (step ∷ past) (from_to (entries_sent v past) (entries_sent v (step ∷ past))) step.sends
 next_due v past step old [] s y g last fit good whole before after a split words all table sends =
     let len : length (accepted past) ≡ length old + (0 + 1) = accepted_len past old (y ∷ []) split in
     let few : s.entry_number < 2 * trees_of v.scheme.device = omega arith in
-    none_asked v (step ∷ past) (entries_sent v past) (entries_sent v (step ∷ past)) step.sends
+    asks_for_none v (step ∷ past) (entries_sent v past) (entries_sent v (step ∷ past)) step.sends
     (sent_is v (step ∷ past) (g + 1) (length old + (0 + 1)) (g + 1) after (ap length a ∙ len) (sent_end (trees_of v.scheme.device) (length old) s.entry_number g whole good)
     ∙ sym (sent_is v past g (length old + (0 + 1)) (g + 1) before len (sent_before (trees_of v.scheme.device) (length old) 0 s.entry_number g few good))) sends
 next_due v past step old (z ∷ rest) s y g last fit good whole before after a split words all table sends =
@@ -209,13 +209,13 @@ next_due v past step old (z ∷ rest) s y g last fit good whole before after a s
     accepted_len past old (y ∷ z ∷ rest) split ∙ omega arith in
     let size : length (y ∷ old) ≡ length old + 1 = omega arith in
     let top : trees_of d - 1 ≡ entry_tree d 0 = omega arith in
-    let named : slice_index s.table (block_of d (trees_of d - 1) z)
-    ≡ named_in d (entry_tree d 0) (y ∷ old) (block_of d (entry_tree d 0) z) =
-    table (block_of d (trees_of d - 1) z) ok.block ∙ ap (λ (i : ℕ). named_in d i (y ∷ old) (block_of d i z)) top in
+    let map_entry_is : slice_index s.table (block_of d (trees_of d - 1) z)
+    ≡ map_entry_in d (entry_tree d 0) (y ∷ old) (block_of d (entry_tree d 0) z) =
+    table (block_of d (trees_of d - 1) z) ok.block ∙ ap (λ (i : ℕ). map_entry_in d i (y ∷ old) (block_of d i z)) top in
     let at : g + 1 ≡ length (y ∷ old) * (2 * trees_of d) + 0 =
     (let whole' : g + 1 ≡ (length old + 1) * (2 * trees_of d) + 0 = omega arith in whole')
     ∙ ap (λ (k : ℕ). k * (2 * trees_of d) + 0) (sym size) in
-    let due = fetch_entry d (y ∷ old) z 0 (slice_index s.table (block_of d (trees_of d - 1) z)) refl named
+    let due = fetch_entry d (y ∷ old) z 0 (slice_index s.table (block_of d (trees_of d - 1) z)) refl map_entry_is
     ∙ sym (entry_split v (step ∷ past) (y ∷ old) rest z 0 (g + 1) at (a ∙ split ∙ sym (turn y old (z ∷ rest))) words ok.words (omega arith)) in
     asks_due v past step last _ (entries_sent v past) (entries_sent v (step ∷ past)) (g + 1) sends
     (sent_is v past g (length old + (length rest + 1 + 1)) (g + 1) before len (sent_before (trees_of d) (length old) (length rest + 1) s.entry_number g few good))
@@ -281,9 +281,9 @@ finishes_keep v past s t old rest x y bytes fit l healthy qu w calm whole mv is 
     let ticket : y.ticket ≡ length old = (subst (TicketsFrom (length old)) qu l.tickets).0 in
     let all : All (FitsTable d) (y ∷ rest) = subst (All (FitsTable d)) qu l.allowed in
     let due : (i : ℕ) → 2 * (trees_of d - 1 - i) < s.entry_number = λ i. omega arith in
-    let table : (b : ℕ) → b < blocks_in d (trees_of d - 1) → slice_index s.table b ≡ named_in d (trees_of d - 1) (y ∷ old) b = λ b below. l.table b below
-    ∙ ap (λ q. named_in d (trees_of d - 1) (applied d old q s.entry_number (trees_of d - 1)) b) qu
-    ∙ ap (λ xs. named_in d (trees_of d - 1) xs b) (applied_yes d old rest y s.entry_number (trees_of d - 1) (due (trees_of d - 1))) in
+    let table : (b : ℕ) → b < blocks_in d (trees_of d - 1) → slice_index s.table b ≡ map_entry_in d (trees_of d - 1) (y ∷ old) b = λ b below. l.table b below
+    ∙ ap (λ q. map_entry_in d (trees_of d - 1) (applied d old q s.entry_number (trees_of d - 1)) b) qu
+    ∙ ap (λ xs. map_entry_in d (trees_of d - 1) xs b) (applied_yes d old rest y s.entry_number (trees_of d - 1) (due (trees_of d - 1))) in
     record {
       right = record {
         note = mv.note ∙ is;

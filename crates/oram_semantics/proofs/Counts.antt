@@ -113,13 +113,13 @@ pub one_between : {X Y : Type 0} (f : X → Y) (xs rest : List X) (x : X) (a b :
     → map f (slice_range xs a b) ≡ f x ∷ []
 one_between f xs rest x a b e h = let one : b - a ≡ 1 = omega arith in rw (one, h) refl
 
-pub none_asked : (v : Setting) (past : List Step) (a b : ℕ) (sends : List (List ℕ)) → b ≡ a → sends ≡ []
+pub asks_for_none : (v : Setting) (past : List Step) (a b : ℕ) (sends : List (List ℕ)) → b ≡ a → sends ≡ []
     → AskFor v past (from_to a b) sends
-none_asked v past a b sends e h = let none : b - a ≡ 0 = omega arith in rw (none, h) tt
+asks_for_none v past a b sends e h = let none : b - a ≡ 0 = omega arith in rw (none, h) tt
 
-pub one_asked : (v : Setting) (past : List Step) (a b m : ℕ) (sends : List (List ℕ)) (x : List ℕ) → a ≡ m → b ≡ m + 1
+pub asks_for_one : (v : Setting) (past : List Step) (a b m : ℕ) (sends : List (List ℕ)) (x : List ℕ) → a ≡ m → b ≡ m + 1
     → sends ≡ x ∷ [] → IsMessage v.scheme (entry_at v past m) x → AskFor v past (from_to a b) sends
-one_asked v past a b m sends x e h s is = let one : b - a ≡ 1 = omega arith in rw (one, s) (rw e (is, tt))
+asks_for_one v past a b m sends x e h s is = let one : b - a ≡ 1 = omega arith in rw (one, s) (rw e (is, tt))
 
 pub answered_is : (v : Setting) (past : List Step) (n r : ℕ)
     → (progress v past).good ≡ n * (2 * trees_of v.scheme.device) + r → r < 2 * trees_of v.scheme.device
@@ -147,9 +147,9 @@ pub header_is : (v : Scheme) (e : Entry) (m : List ℕ) → IsMessage v e m → 
 header_is v e m is = ap (take 6) is.body ∙ header_by e.fetch e.tree e.leaf is.records
 
 -- the entry that a message asks for
-pub asked_is : (v : Scheme) (e : Entry) (m : List ℕ) → e.leaf < 2 ^ 32 → IsMessage v e m → requested m ≡ e
+pub requested_is : (v : Scheme) (e : Entry) (m : List ℕ) → e.leaf < 2 ^ 32 → IsMessage v e m → requested m ≡ e
 unfolding requested
-asked_is v e m small is =
+requested_is v e m small is =
     let header : take 6 m ≡ header_of e = header_is v e m is in
     let op : (slice_index m 0 == 1) ≡ e.fetch =
     is_fetch e.fetch (slice_index m 0) (byte_of m (header_of e) 0 header (omega arith)) in

@@ -13,7 +13,7 @@ use Rattle.oram_trace.proofs.Search.{greatest_below-zero, greatest_below-suc}
 use Rattle.oram_semantics.specs.Events.{address_of, addresses, tape}
 use Rattle.oram_trace.specs.Tape.{entry, greatest_below, place_after, spare_place, new_place, last_use, place, tree_at, ticket_at}
 use Rattle.oram_semantics.specs.Content.{entry_tree}
-use Rattle.oram_semantics.specs.Content.{named_in}
+use Rattle.oram_semantics.specs.Content.{map_entry_in}
 use Rattle.oram_semantics.specs.Moves.{leaf_for}
 use Rattle.oram_semantics.specs.declared.events.Submission.{Submission}
 
@@ -52,45 +52,45 @@ word_at n old back x k w size h =
     let here : k < length x.words = omega arith in
     rw (flat_map-append (λ (s : Submission). s.words) (reverse old) (x ∷ back)) (rw (sym (length-tape n old w)) (get_or-append-add (tape (reverse old)) (x.words ++ tape back) k 0 ∙ get_or_append_left x.words (tape back) 0 k here))
 
-abbrev pub named_by : Sizes → ℕ → List Submission → ℕ → ℕ
-named_by d i subs k = leaf_of d i (slice_index (tape subs) (new_place d i k)) + 1
+abbrev pub map_entry_by : Sizes → ℕ → List Submission → ℕ → ℕ
+map_entry_by d i subs k = leaf_of d i (slice_index (tape subs) (new_place d i k)) + 1
 
 abbrev pub shares : Sizes → ℕ → List Submission → ℕ → ℕ → Bool
 shares d i subs a k = address_in d i (slice_index (addresses subs) k) == a
 
 pub newest : (d : Sizes) (i a : ℕ) (old back : List Submission) → i < trees_of d → HasWords (2 * trees_of d) old →
-    option_map_or (named_by d i (reverse old ++ back)) (greatest_below (shares d i (reverse old ++ back) a) (length old)) 0 ≡ named_in d i old a
-unfolding named_in
+    option_map_or (map_entry_by d i (reverse old ++ back)) (greatest_below (shares d i (reverse old ++ back) a) (length old)) 0 ≡ map_entry_in d i old a
+unfolding map_entry_in
 newest d i a [] back few w = rw (greatest_below-zero _) refl
 newest d i a (y ∷ ys) back few w =
     let subs = reverse ys ++ y ∷ back in
     let own : shares d i subs a (length ys) ≡ (address_in d i (address_of y.command) == a) =
     ap (λ n. address_in d i n == a) (address_at ys back y) in
     let place_is : new_place d i (length ys) ≡ 2 * trees_of d * length ys + (2 * i + 1) = omega arith in
-    let word : named_by d i subs (length ys) ≡ leaf_of d i (slice_index y.words (2 * i + 1)) + 1 =
+    let word : map_entry_by d i subs (length ys) ≡ leaf_of d i (slice_index y.words (2 * i + 1)) + 1 =
     ap (λ m. leaf_of d i (slice_index (tape subs) m) + 1) place_is
     ∙ ap (λ n. leaf_of d i n + 1) (word_at (2 * trees_of d) ys back y (2 * i + 1) w.1 w.0 (omega arith)) in
     rw (turn y ys back) (
-    ap (λ o. option_map_or (named_by d i subs) o 0) (greatest_below-suc (shares d i subs a) (length ys) ∙ ap (λ b. if b then Some (length ys) else greatest_below (shares d i subs a) (length ys)) own)
-    ∙ elim (address_in d i (address_of y.command) == a) as (λ b. option_map_or (named_by d i subs) (if b then Some (length ys) else greatest_below (shares d i subs a) (length ys)) 0 ≡ option_map_or (λ s. leaf_of d i (slice_index s.words (2 * i + 1)) + 1) (cond b (Some y) (find (λ s. address_in d i (address_of s.command) == a) ys)) 0) [
+    ap (λ o. option_map_or (map_entry_by d i subs) o 0) (greatest_below-suc (shares d i subs a) (length ys) ∙ ap (λ b. if b then Some (length ys) else greatest_below (shares d i subs a) (length ys)) own)
+    ∙ elim (address_in d i (address_of y.command) == a) as (λ b. option_map_or (map_entry_by d i subs) (if b then Some (length ys) else greatest_below (shares d i subs a) (length ys)) 0 ≡ option_map_or (λ s. leaf_of d i (slice_index s.words (2 * i + 1)) + 1) (cond b (Some y) (find (λ s. address_in d i (address_of s.command) == a) ys)) 0) [
       | true ↦ word
       | false ↦ newest d i a ys (y ∷ back) few w.1
     ])
 
-leaf_by : (d : Sizes) (i : ℕ) (subs : List Submission) (x : Submission) (n named : ℕ) (o : Option ℕ) →
-    option_map_or (named_by d i subs) o 0 ≡ named → slice_index (tape subs) (spare_place d i n) ≡ slice_index x.words (2 * i) →
-    leaf_of d i (slice_index (tape subs) (place_after d i n o)) ≡ leaf_for d i named x
-leaf_by d i subs x n named None e spare = rw (sym e) (ap (leaf_of d i) spare)
-leaf_by d i subs x n named (Some k) e spare = rw (sym e) (grind (arith, nat_tests))
+leaf_by : (d : Sizes) (i : ℕ) (subs : List Submission) (x : Submission) (n map_entry : ℕ) (o : Option ℕ) →
+    option_map_or (map_entry_by d i subs) o 0 ≡ map_entry → slice_index (tape subs) (spare_place d i n) ≡ slice_index x.words (2 * i) →
+    leaf_of d i (slice_index (tape subs) (place_after d i n o)) ≡ leaf_for d i map_entry x
+leaf_by d i subs x n map_entry None e spare = rw (sym e) (ap (leaf_of d i) spare)
+leaf_by d i subs x n map_entry (Some k) e spare = rw (sym e) (grind (arith, nat_tests))
 
 pub leaf_shown : (d : Sizes) (i : ℕ) (old back : List Submission) (x : Submission) → i < trees_of d
     → HasWords (2 * trees_of d) old → length x.words ≡ 2 * trees_of d
     → leaf_of d i (slice_index (tape (reverse old ++ x ∷ back)) (place d (addresses (reverse old ++ x ∷ back)) i (length old)))
-    ≡ leaf_for d i (named_in d i old (address_in d i (address_of x.command))) x
+    ≡ leaf_for d i (map_entry_in d i old (address_in d i (address_of x.command))) x
 leaf_shown d i old back x few w size =
     let subs = reverse old ++ x ∷ back in
-    leaf_by d i subs x (length old) (named_in d i old (address_in d i (address_of x.command))) (last_use d (addresses subs) i (length old))
-    (ap (λ (a : ℕ). option_map_or (named_by d i subs) (greatest_below (shares d i subs (address_in d i a)) (length old)) 0) (address_at old back x)
+    leaf_by d i subs x (length old) (map_entry_in d i old (address_in d i (address_of x.command))) (last_use d (addresses subs) i (length old))
+    (ap (λ (a : ℕ). option_map_or (map_entry_by d i subs) (greatest_below (shares d i subs (address_in d i a)) (length old)) 0) (address_at old back x)
     ∙ newest d i (address_in d i (address_of x.command)) old (x ∷ back) few w)
     (word_at (2 * trees_of d) old back x (2 * i) w size (omega arith))
 
@@ -105,7 +105,7 @@ entry_by d xs words m n i f e t b =
 pub entry_is : (d : Sizes) (old back : List Submission) (x : Submission) (r : ℕ) → r < 2 * trees_of d
     → HasWords (2 * trees_of d) old → length x.words ≡ 2 * trees_of d
     → entry d (addresses (reverse old ++ x ∷ back)) (tape (reverse old ++ x ∷ back)) (length old * (2 * trees_of d) + r)
-    ≡ record { fetch = r % 2 == 0; tree = entry_tree d r; leaf = leaf_for d (entry_tree d r) (named_in d (entry_tree d r) old (address_in d (entry_tree d r) (address_of x.command))) x }
+    ≡ record { fetch = r % 2 == 0; tree = entry_tree d r; leaf = leaf_for d (entry_tree d r) (map_entry_in d (entry_tree d r) old (address_in d (entry_tree d r) (address_of x.command))) x }
 entry_is d old back x r few w size =
     let m = length old * (2 * trees_of d) + r in
     let i = entry_tree d r in

@@ -11,7 +11,7 @@ use Rattle.oram_semantics.specs.Content.{entry_tree}
 use Rattle.oram_semantics.specs.Events.{address_of, array_at}
 use Rattle.oram_semantics.specs.Messages.{requested}
 use Rattle.oram_semantics.specs.Progress.{Setting, Step, accepted, progress, sent}
-use Rattle.oram_semantics.specs.Content.{block_of, named_in, content_after, content_of, accesses}
+use Rattle.oram_semantics.specs.Content.{block_of, map_entry_in, content_after, content_of, accesses}
 use Rattle.oram_semantics.specs.State.{State, AllStand}
 use Rattle.oram_semantics.specs.Agree.{TicketsFrom}
 use Rattle.oram_semantics.specs.Moves.{leaf_for}
@@ -35,7 +35,7 @@ applied d old (x ∷ rest) r i = if nat_lt (2 * (trees_of d - 1 - i)) r then x �
 
 -- entry r of the oldest submission without a reply
 abbrev pub entry_for : Sizes → List Submission → Submission → ℕ → Entry
-entry_for d old x r = record { fetch = r % 2 == 0; tree = entry_tree d r; leaf = leaf_for d (entry_tree d r) (named_in d (entry_tree d r) old (block_of d (entry_tree d r) x)) x }
+entry_for d old x r = record { fetch = r % 2 == 0; tree = entry_tree d r; leaf = leaf_for d (entry_tree d r) (map_entry_in d (entry_tree d r) old (block_of d (entry_tree d r) x)) x }
 
 -- what a core holds for the command at work
 pub record Working (v : Setting) (past : List Step) (old : List Submission) (s : State) (x : Submission) : Type 0 where
@@ -44,7 +44,7 @@ pub record Working (v : Setting) (past : List Step) (old : List Submission) (s :
   pub older : List (List ℕ)
   pub latest : sent past ≡ s.message ∷ older
   pub held_entry : 0 < s.entry_number → s.entry_number + 1 < 2 * trees_of v.scheme.device
-      → s.held_entry ≡ named_in v.scheme.device (entry_tree v.scheme.device (s.entry_number + 1)) old (block_of v.scheme.device (entry_tree v.scheme.device (s.entry_number + 1)) x)
+      → s.held_entry ≡ map_entry_in v.scheme.device (entry_tree v.scheme.device (s.entry_number + 1)) old (block_of v.scheme.device (entry_tree v.scheme.device (s.entry_number + 1)) x)
   pub held_data : s.entry_number + 1 ≡ 2 * trees_of v.scheme.device → s.held_data ≡ array_at v.scheme.device old (address_of x.command)
 
 pub record Resting (s : State) : Type 0 where
@@ -68,7 +68,7 @@ pub record Live (v : Setting) (past : List Step) (old : List Submission) (s : St
   pub nonce : s.nonce ≡ nonce_at v (progress v past).good
   pub sized : length s.table ≡ blocks_in v.scheme.device (trees_of v.scheme.device - 1)
   pub table : (a : ℕ) → a < blocks_in v.scheme.device (trees_of v.scheme.device - 1)
-      → slice_index s.table a ≡ named_in v.scheme.device (trees_of v.scheme.device - 1) (applied v.scheme.device old s.queue s.entry_number (trees_of v.scheme.device - 1)) a
+      → slice_index s.table a ≡ map_entry_in v.scheme.device (trees_of v.scheme.device - 1) (applied v.scheme.device old s.queue s.entry_number (trees_of v.scheme.device - 1)) a
   pub work : AtWork v past old s s.queue
 
 -- a core that has failed

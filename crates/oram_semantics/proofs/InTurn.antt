@@ -186,10 +186,10 @@ in_turn_accepted v s t w y x (z ∷ rest) qu o = in_turn_joined v s t w y x z re
 -- good answers
 
 -- the table after the answer to the first FETCH
-table_named : (d : Sizes) (s : State) (x : Submission) → s.entry_number ≡ 0
+table_entry_is : (d : Sizes) (s : State) (x : Submission) → s.entry_number ≡ 0
     → (if s.entry_number == 0 then slice_set s.table (block_of d (entry_tree d s.entry_number) x) (new_leaf d (entry_tree d s.entry_number) x + 1) else s.table)
     ≡ slice_set s.table (block_of d (trees_of d - 1) x) (new_leaf d (trees_of d - 1) x + 1)
-table_named d s x zero_is =
+table_entry_is d s x zero_is =
     let last : entry_tree d 0 ≡ trees_of d - 1 = omega arith in
     ap (λ (r : ℕ). if r == 0 then slice_set s.table (block_of d (entry_tree d r) x) (new_leaf d (entry_tree d r) x + 1) else s.table) zero_is
     ∙ ap (λ (i : ℕ). slice_set s.table (block_of d i x) (new_leaf d i x + 1)) last
@@ -212,7 +212,7 @@ in_turn_stored v s t w y x rest qu mv healthy =
       taken = λ taken zero_is. (
         e,
         next_by d s s.table (x ∷ rest) 0 refl qu zero_is ∙ next_cons d s.table x rest
-            ∙ ap (λ (ts : List ℕ). e ∷ first_fetches d ts rest) (sym (table ∙ table_named d s x zero_is))
+            ∙ ap (λ (ts : List ℕ). e ∷ first_fetches d ts rest) (sym (table ∙ table_entry_is d s x zero_is))
             ∙ ap (λ (es : List Entry). e ∷ es) (sym next_t),
       );
       same = λ no stays.

@@ -14,12 +14,12 @@ use Rattle.oram_semantics.specs.Messages.{requested, is_store, last_stored}
 use Rattle.oram_semantics.specs.Answers.{pair_in}
 use Rattle.oram_semantics.specs.Progress.{Setting, Step, Progress, Status, accepted, sent, records_of, progress, entry_at}
 use Rattle.oram_tree.specs.Content.{Map}
-use Rattle.oram_semantics.specs.Content.{block_of, named_in, data_in, content_after, content_of}
+use Rattle.oram_semantics.specs.Content.{block_of, map_entry_in, data_in, content_after, content_of}
 use Rattle.oram_semantics.specs.Nonces.{store_nonce}
 use Rattle.oram_semantics.specs.Trees.{Stands, IsPlaced}
 use Rattle.oram_semantics.specs.Run.{is_waiting, note_of, is_accepted, fails_now, is_resent, replies_at, SendsRight, answered_tickets, entries_sent, PlacedBy, Shown, step_of, IsRight, shows_pair}
-use Rattle.oram_semantics.specs.State.{State, World, AllStand, no_tree, status_by, name_of}
-use Rattle.oram_semantics.specs.Blocks.{found_in, next_named}
+use Rattle.oram_semantics.specs.State.{State, World, AllStand, no_tree, status_by, map_entry_of}
+use Rattle.oram_semantics.specs.Blocks.{found_in, next_map_entry}
 use Rattle.oram_semantics.specs.Moves.{Moved, MovesTo, stays, resends, fails, latest, world_after, records_after, PlacedIn, IsReady, IsReadyFor, Fits, shows_in}
 use Rattle.oram_semantics.specs.Moves.Ask.{Nothing}
 use Rattle.oram_semantics.specs.declared.events.Event.{Event}
@@ -30,12 +30,12 @@ use Rattle.oram_semantics.specs.declared.events.Note.TheVariants.{FailedNow, Res
 use Rattle.oram_semantics.specs.declared.events.Reply.{Reply}
 use Rattle.oram_semantics.specs.declared.events.Submission.{Submission}
 use Rattle.oram_semantics.proofs.Entries.{HasWords, entry_is}
-use Rattle.oram_semantics.proofs.Maps.{name_is, named_range}
+use Rattle.oram_semantics.proofs.Maps.{name_is, map_entry_range}
 use Rattle.oram_semantics.specs.Law.{world_of}
 use Rattle.oram_semantics.proofs.Bounds.{IsFit}
 use Rattle.oram_semantics.proofs.Follows.{FitsTable, applied, applied_none, entry_for, Working, AtWork, Live, FollowsAt, Follows, content_is}
-use Rattle.oram_semantics.proofs.Counts.{accepted_cons, sent_cons, records_more, again_same, accepted_len, rest_is, status_is, status_ends, none_between, none_asked, answered_is}
-use Rattle.oram_semantics.proofs.Stores.{content_before, bytes_are, named_next}
+use Rattle.oram_semantics.proofs.Counts.{accepted_cons, sent_cons, records_more, again_same, accepted_len, rest_is, status_is, status_ends, none_between, asks_for_none, answered_is}
+use Rattle.oram_semantics.proofs.Stores.{content_before, bytes_are, map_entry_next}
 use Rattle.oram_semantics.proofs.Others.{all_none, all_one, live_kept}
 
 -- the records at the host, in the longer past
@@ -105,10 +105,10 @@ entry_split v past old rest x r m g split words size few =
     ∙ ap (λ subs. entry d (addresses subs) (tape subs) (length old * (2 * trees_of d) + r)) split
     ∙ entry_is d old rest x r few words size
 
-pub asked_now : (v : Setting) (past : List Step) (old rest : List Submission) (s : State) (x : Submission)
+pub requested_now : (v : Setting) (past : List Step) (old rest : List Submission) (s : State) (x : Submission)
     → Live v past old s → s.queue ≡ x ∷ rest → Working v past old s x
     → requested s.message ≡ entry_at v past (progress v past).good
-asked_now v past old rest s x l qu w =
+requested_now v past old rest s x l qu w =
     let d = v.scheme.device in
     let ok : FitsTable d x = All-head (FitsTable d) x rest (subst (All (FitsTable d)) qu l.allowed) in
     w.asks
@@ -116,34 +116,34 @@ asked_now v past old rest s x l qu w =
 
 -- the core can go on in the world of the past
 
-named_at_stage : (v : Setting) (past : List Step) (old rest : List Submission) (s : State) (x : Submission) (r : ℕ)
+map_entry_at_stage : (v : Setting) (past : List Step) (old rest : List Submission) (s : State) (x : Submission) (r : ℕ)
     → s.entry_number ≡ r → IsFit v.scheme.device → Live v past old s → s.queue ≡ x ∷ rest → Working v past old s x → r % 2 ≡ 0
-    → named_in v.scheme.device (entry_tree v.scheme.device r) old (block_of v.scheme.device (entry_tree v.scheme.device r) x) ≡ (if r == 0 then slice_index s.table (block_of v.scheme.device (trees_of v.scheme.device - 1) x) else s.held_entry)
-named_at_stage v past old rest s x zero e fit l qu w even =
+    → map_entry_in v.scheme.device (entry_tree v.scheme.device r) old (block_of v.scheme.device (entry_tree v.scheme.device r) x) ≡ (if r == 0 then slice_index s.table (block_of v.scheme.device (trees_of v.scheme.device - 1) x) else s.held_entry)
+map_entry_at_stage v past old rest s x zero e fit l qu w even =
     let d = v.scheme.device in
     let top : entry_tree d 0 ≡ trees_of d - 1 = omega arith in
     let ok : FitsTable d x = All-head (FitsTable d) x rest (subst (All (FitsTable d)) qu l.allowed) in
     let a : ℕ = block_of d (trees_of d - 1) x in
-    ap (λ (i : ℕ). named_in d i old (block_of d i x)) top
-    ∙ sym (l.table a ok.block ∙ ap (λ (r : ℕ). named_in d (trees_of d - 1) (applied d old s.queue r (trees_of d - 1)) a) e ∙ ap (λ xs. named_in d (trees_of d - 1) xs a) (applied_none d old s.queue (trees_of d - 1)))
-named_at_stage v past old rest s x (suc r) e fit l qu w even =
+    ap (λ (i : ℕ). map_entry_in d i old (block_of d i x)) top
+    ∙ sym (l.table a ok.block ∙ ap (λ (r : ℕ). map_entry_in d (trees_of d - 1) (applied d old s.queue r (trees_of d - 1)) a) e ∙ ap (λ xs. map_entry_in d (trees_of d - 1) xs a) (applied_none d old s.queue (trees_of d - 1)))
+map_entry_at_stage v past old rest s x (suc r) e fit l qu w even =
     let d = v.scheme.device in
     let few : s.entry_number < 2 * trees_of d = w.entry_number in
     let later : (suc r == 0) ≡ false = grind (arith, nat_tests) in
     let same : entry_tree d (suc r) ≡ entry_tree d (s.entry_number + 1) = omega arith in
-    ap (λ (i : ℕ). named_in d i old (block_of d i x)) same ∙ sym (w.held_entry (omega arith) (omega arith))
+    ap (λ (i : ℕ). map_entry_in d i old (block_of d i x)) same ∙ sym (w.held_entry (omega arith) (omega arith))
     ∙ sym (ap (λ (b : Bool). if b then slice_index s.table (block_of d (trees_of d - 1) x) else s.held_entry) later)
 
 next_small : (d : Sizes) (old : List Submission) (x : Submission) (i : ℕ) (bytes : List ℕ) → IsFit d
-    → bytes ≡ data_in d i old (block_of d i x) → next_named d i x bytes ≤ 2 ^ depth_of d (i - 1)
-unfolding next_named
+    → bytes ≡ data_in d i old (block_of d i x) → next_map_entry d i x bytes ≤ 2 ^ depth_of d (i - 1)
+unfolding next_map_entry
 next_small d old x zero bytes fit b = omega arith
 next_small d old x (suc i) bytes fit b =
-    let named : next_named d (suc i) x bytes ≡ named_in d i old (block_of d i x) =
-    named_next d old x (suc i) i bytes fit.words (omega arith) b in
-    let range : named_in d i old (block_of d i x) ≤ 2 ^ depth_of d i = named_range d i old (block_of d i x) in
+    let map_entry_is : next_map_entry d (suc i) x bytes ≡ map_entry_in d i old (block_of d i x) =
+    map_entry_next d old x (suc i) i bytes fit.words (omega arith) b in
+    let range : map_entry_in d i old (block_of d i x) ≤ 2 ^ depth_of d i = map_entry_range d i old (block_of d i x) in
     let below : suc i - 1 ≡ i = omega arith in
-    subst (λ (k : ℕ). next_named d (suc i) x bytes ≤ 2 ^ depth_of d k) (sym below) (subst (λ (k : ℕ). k ≤ 2 ^ depth_of d i) (sym named) range)
+    subst (λ (k : ℕ). next_map_entry d (suc i) x bytes ≤ 2 ^ depth_of d k) (sym below) (subst (λ (k : ℕ). k ≤ 2 ^ depth_of d i) (sym map_entry_is) range)
 
 ready_at : (v : Setting) (past : List Step) (old rest : List Submission) (s : State) (x : Submission) → IsFit v.scheme.device
     → Live v past old s → s.queue ≡ x ∷ rest → Working v past old s x → s.entry_number % 2 ≡ 0
@@ -153,8 +153,8 @@ ready_at v past old rest s x fit l qu w even =
     let i : ℕ = entry_tree d s.entry_number in
     let was = content_before v past old rest s x fit l qu w.entry_number even in
     record {
-      held_entry = ap (λ (f : Map). name_of (f (block_of d i x))) was ∙ name_is d i old (block_of d i x)
-          ∙ named_at_stage v past old rest s x s.entry_number refl fit l qu w even;
+      held_entry = ap (λ (f : Map). map_entry_of (f (block_of d i x))) was ∙ name_is d i old (block_of d i x)
+          ∙ map_entry_at_stage v past old rest s x s.entry_number refl fit l qu w even;
       next = next_small d old x i (found_in d (content_of v past i (block_of d i x))) fit (bytes_are v past old rest s x fit l qu w.entry_number even);
     }
 
@@ -176,7 +176,7 @@ pair_at : (v : Setting) (past : List Step) (old queue : List Submission) (s : St
     → (is_waiting (status_by None queue b) && pair_in v.scheme (records_of v past) (requested s.message) bytes) ≡ (is_waiting (status_by None queue b) && pair_in v.scheme (records_of v past) (entry_at v past (progress v past).good) bytes)
 pair_at v past old [] s bytes b l qu w = refl
 pair_at v past old (x ∷ rest) s bytes b l qu w =
-    ap (λ (e : Entry). is_waiting (status_by None (x ∷ rest) b) && pair_in v.scheme (records_of v past) e bytes) (asked_now v past old rest s x l qu w)
+    ap (λ (e : Entry). is_waiting (status_by None (x ∷ rest) b) && pair_in v.scheme (records_of v past) e bytes) (requested_now v past old rest s x l qu w)
 
 pub pair_same : (v : Setting) (past : List Step) (s : State) (old : List Submission) (event : Event)
     (failure : Option Reason) → s.failure ≡ failure → IsFit v.scheme.device → FollowsAt v past old s failure
@@ -239,7 +239,7 @@ right_quiet v past event x n note replies sends quiet_note calm new is g =
       note = note ∙ is;
       replies = replies
           ∙ sym (replies_calm v past step x.note [] (ap fails_now note ∙ calm) (none_between (reply_of v.scheme.device (accepted past)) (accepted past) (answered_tickets v past) (answered_tickets v (step ∷ past)) (rw g refl)));
-      sends = sends_right v past step x.note false (ap is_resent note ∙ new) (none_asked v (step ∷ past) (entries_sent v past) (entries_sent v (step ∷ past)) x.sends (rw (g, a) refl) sends);
+      sends = sends_right v past step x.note false (ap is_resent note ∙ new) (asks_for_none v (step ∷ past) (entries_sent v past) (entries_sent v (step ∷ past)) x.sends (rw (g, a) refl) sends);
       placed = λ _. placed_none (PlacedBy v (step ∷ past) (answered_tickets v past)) x.sends sends;
     }
 
@@ -342,7 +342,7 @@ fails_keep v past s t old x bytes e fit l few mv is p =
         replies = mv.replies ∙ ap (map failed_reply) (sym (rest_is past old s.queue (answered_tickets v past) tickets l.split))
             ∙ sym (ap (λ (b : Bool). map (reply_of v.scheme.device (accepted past)) (slice_range (accepted past) (answered_tickets v past) (answered_tickets v (step ∷ past))) ++ (if b then map failed_reply (drop (answered_tickets v past) (accepted past)) else [])) (ap fails_now mv.note)
             ∙ ap (λ (xs : List Reply). xs ++ map failed_reply (drop (answered_tickets v past) (accepted past))) none);
-        sends = sends_right v past step x.note false (ap is_resent mv.note) (none_asked v (step ∷ past) (entries_sent v past) (entries_sent v (step ∷ past)) x.sends (rw (g, a) refl) mv.sends);
+        sends = sends_right v past step x.note false (ap is_resent mv.note) (asks_for_none v (step ∷ past) (entries_sent v past) (entries_sent v (step ∷ past)) x.sends (rw (g, a) refl) mv.sends);
         placed = λ _. placed_none (PlacedBy v (step ∷ past) (answered_tickets v past)) x.sends mv.sends;
       };
       follows = record {

@@ -28,7 +28,7 @@ pub mod PlacedStores
 pub mod PostOrder
 pub mod Formatting
 pub mod BrokenOffFormats
-pub mod Told
+pub mod MatchesPast
 pub mod NoncesApart
 pub mod AgreeKept
 pub mod AgreeSteps

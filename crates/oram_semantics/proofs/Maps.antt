@@ -11,10 +11,10 @@ use Rattle.oram_geometry.specs.Sizes.{fanout, leaf_of, depth_of}
 use Rattle.oram_geometry.proofs.DeviceSizes.{address_in-next, address_in-zero}
 use Rattle.oram_semantics.proofs.Bounds.{HasEntries, depth_small}
 use Rattle.oram_semantics.specs.Events.{address_of, array_at, bytes_left, bytes_of, changes}
-use Rattle.oram_semantics.specs.Content.{block_of, new_leaf, newest_in, named_in, data_in, content_after}
-use Rattle.oram_semantics.specs.State.{name_of}
+use Rattle.oram_semantics.specs.Content.{block_of, new_leaf, newest_in, map_entry_in, data_in, content_after}
+use Rattle.oram_semantics.specs.State.{map_entry_of}
 use Rattle.oram_tree.specs.Edits.{with_entry}
-use Rattle.oram_semantics.specs.Blocks.{found_in, entry_in, block_after, next_named, left_by}
+use Rattle.oram_semantics.specs.Blocks.{found_in, entry_in, block_after, next_map_entry, left_by}
 use Rattle.oram_semantics.specs.declared.events.Command.{Command}
 use Rattle.oram_semantics.specs.declared.events.Command.TheVariants.{Read, Write, Discard}
 use Rattle.oram_semantics.specs.declared.events.Submission.{Submission}
@@ -39,38 +39,38 @@ pub leaf_small : (d : Sizes) (i w : ℕ) → (leaf_of d i w < 2 ^ depth_of d i) 
 leaf_small d i w =
     (mod_below w (2 ^ depth_of d i) (pow_pos (depth_of d i)), pow-le-pow_right {n = 2} (omega arith) {i = depth_of d i} {j = 24} (depth_small d i))
 
-named_cons : (d : Sizes) (i : ℕ) (x : Submission) (old : List Submission) (b : ℕ)
-    → named_in d i (x ∷ old) b ≡ option_map_or (λ s. new_leaf d i s + 1) (cond (block_of d i x == b) (Some x) (newest_in d i old b)) 0
-unfolding named_in
-named_cons d i x old b = refl
+map_entry_cons : (d : Sizes) (i : ℕ) (x : Submission) (old : List Submission) (b : ℕ)
+    → map_entry_in d i (x ∷ old) b ≡ option_map_or (λ s. new_leaf d i s + 1) (cond (block_of d i x == b) (Some x) (newest_in d i old b)) 0
+unfolding map_entry_in
+map_entry_cons d i x old b = refl
 
-pub named_here : (d : Sizes) (i : ℕ) (x : Submission) (old : List Submission) (b : ℕ) → b ≡ block_of d i x
-    → named_in d i (x ∷ old) b ≡ new_leaf d i x + 1
-named_here d i x old b e =
+pub map_entry_here : (d : Sizes) (i : ℕ) (x : Submission) (old : List Submission) (b : ℕ) → b ≡ block_of d i x
+    → map_entry_in d i (x ∷ old) b ≡ new_leaf d i x + 1
+map_entry_here d i x old b e =
     let same : (block_of d i x == b) ≡ true = grind (arith, nat_tests) in
-    named_cons d i x old b ∙ ap (λ t. option_map_or (λ s. new_leaf d i s + 1) (cond t (Some x) (newest_in d i old b)) 0) same
+    map_entry_cons d i x old b ∙ ap (λ t. option_map_or (λ s. new_leaf d i s + 1) (cond t (Some x) (newest_in d i old b)) 0) same
 
-pub named_there : (d : Sizes) (i : ℕ) (x : Submission) (old : List Submission) (b : ℕ) → b ≢ block_of d i x
-    → named_in d i (x ∷ old) b ≡ named_in d i old b
-unfolding named_in
-named_there d i x old b ne =
+pub map_entry_there : (d : Sizes) (i : ℕ) (x : Submission) (old : List Submission) (b : ℕ) → b ≢ block_of d i x
+    → map_entry_in d i (x ∷ old) b ≡ map_entry_in d i old b
+unfolding map_entry_in
+map_entry_there d i x old b ne =
     let other : (block_of d i x == b) ≡ false = grind (arith, nat_tests) in
-    named_cons d i x old b ∙ ap (λ t. option_map_or (λ s. new_leaf d i s + 1) (cond t (Some x) (newest_in d i old b)) 0) other
+    map_entry_cons d i x old b ∙ ap (λ t. option_map_or (λ s. new_leaf d i s + 1) (cond t (Some x) (newest_in d i old b)) 0) other
 
-pub named_range : (d : Sizes) (i : ℕ) (old : List Submission) (b : ℕ) → named_in d i old b ≤ 2 ^ depth_of d i
-unfolding named_in
-named_range d i old b = elim (newest_in d i old b) as (λ o. option_map_or (λ s. new_leaf d i s + 1) o 0 ≤ 2 ^ depth_of d i) [
+pub map_entry_range : (d : Sizes) (i : ℕ) (old : List Submission) (b : ℕ) → map_entry_in d i old b ≤ 2 ^ depth_of d i
+unfolding map_entry_in
+map_entry_range d i old b = elim (newest_in d i old b) as (λ o. option_map_or (λ s. new_leaf d i s + 1) o 0 ≤ 2 ^ depth_of d i) [
   | None ↦ omega arith
   | Some s ↦ omega (arith, (leaf_small d i (slice_index s.words (2 * i + 1))).0)
 ]
 
-named_small : (d : Sizes) (i : ℕ) (old : List Submission) (b : ℕ) → named_in d i old b < 2 ^ 32
-named_small d i old b = omega (arith, named_range d i old b, (leaf_small d i 0).1)
+map_entry_small : (d : Sizes) (i : ℕ) (old : List Submission) (b : ℕ) → map_entry_in d i old b < 2 ^ 32
+map_entry_small d i old b = omega (arith, map_entry_range d i old b, (leaf_small d i 0).1)
 
 -- a block that no submission lies in has no block below that one lies in
 none_below : (d : Sizes) (i : ℕ) (old : List Submission) (a b : ℕ) → HasEntries d → newest_in d (suc i) old a ≡ None
-    → a * fanout d ≤ b → b < a * fanout d + fanout d → named_in d i old b ≡ 0
-unfolding named_in
+    → a * fanout d ≤ b → b < a * fanout d + fanout d → map_entry_in d i old b ≡ 0
+unfolding map_entry_in
 none_below d i [] a b h e low high = refl
 none_below d i (y ∷ old) a b h e low high =
     let part : b ≡ a * fanout d + (b - a * fanout d) = omega arith in
@@ -80,7 +80,7 @@ none_below d i (y ∷ old) a b h e low high =
       | inr f ↦
           let rest : newest_in d (suc i) old a ≡ None = sym (ap (λ c. cond c (Some y) (newest_in d (suc i) old a)) (f.0)) ∙ e in
           let ne : b ≢ block_of d i y = λ same. f.1 (above d i y ∙ ap (λ n. n / fanout d) (sym same) ∙ up) in
-          named_there d i y old b ne ∙ none_below d i old a b h rest low high
+          map_entry_there d i y old b ne ∙ none_below d i old a b h rest low high
     ]
 
 pub four_zeros : to_be_bytes w32 0 ≡ replicate 4 0
@@ -120,7 +120,7 @@ map_case : (d : Sizes) (i : ℕ) (old : List Submission) (a : ℕ) → HasEntrie
 unfolding data_in
 map_case d i old a h e =
     ap (λ n. replicate n 0) h.whole
-    ∙ sym (zeros_are (λ b. to_be_bytes w32 (named_in d i old b)) (a * fanout d) (fanout d) (λ b low high. ap (to_be_bytes w32) (none_below d i old a b h e low high) ∙ four_zeros))
+    ∙ sym (zeros_are (λ b. to_be_bytes w32 (map_entry_in d i old b)) (a * fanout d) (fanout d) (λ b low high. ap (to_be_bytes w32) (none_below d i old a b h e low high) ∙ four_zeros))
 
 -- an access finds the defined content, also if the tree doesn't have the block
 found_by : (d : Sizes) (i : ℕ) (old : List Submission) (a : ℕ) (o : Option Submission) → HasEntries d → newest_in d i old a ≡ o →
@@ -136,14 +136,14 @@ found_is d i old a h = found_by d i old a (newest_in d i old a) h refl
 
 -- the entries of a map block
 pub next_is : (d : Sizes) (i : ℕ) (old : List Submission) (x : Submission) → HasEntries d
-    → next_named d (suc i) x (data_in d (suc i) old (block_of d (suc i) x)) ≡ named_in d i old (block_of d i x)
-unfolding next_named data_in entry_in
+    → next_map_entry d (suc i) x (data_in d (suc i) old (block_of d (suc i) x)) ≡ map_entry_in d i old (block_of d i x)
+unfolding next_map_entry data_in entry_in
 next_is d i old x h =
     let j : ℕ = block_of d i x % fanout d in
     let s : ℕ = block_of d (suc i) x * fanout d in
-    ap (from_be_bytes w32) (four_at (λ b. to_be_bytes w32 (named_in d i old b)) s (fanout d) j (mod_below (block_of d i x) (fanout d) h.some) (λ b. four_long (named_in d i old b)))
-    ∙ from_be_bytes-to_be_bytes_4 (named_in d i old (s + j)) (named_small d i old (s + j))
-    ∙ ap (named_in d i old) (under d i x h)
+    ap (from_be_bytes w32) (four_at (λ b. to_be_bytes w32 (map_entry_in d i old b)) s (fanout d) j (mod_below (block_of d i x) (fanout d) h.some) (λ b. four_long (map_entry_in d i old b)))
+    ∙ from_be_bytes-to_be_bytes_4 (map_entry_in d i old (s + j)) (map_entry_small d i old (s + j))
+    ∙ ap (map_entry_in d i old) (under d i x h)
 
 changed_here : (d : Sizes) (old : List Submission) (x : Submission) (c : Command) → x.command ≡ c
     → changes (block_of d 0 x) c ≡ true → bytes_of d.block_bytes c ≡ array_at d (x ∷ old) (block_of d 0 x)
@@ -169,10 +169,10 @@ data_here d zero old x h = left_here d old x x.command (own_block d x) refl
 data_here d (suc i) old x h =
     let j : ℕ = block_of d i x % fanout d in
     let s : ℕ = block_of d (suc i) x * fanout d in
-    four_set (λ b. to_be_bytes w32 (named_in d i old b)) (λ b. to_be_bytes w32 (named_in d i (x ∷ old) b)) s (fanout d) j (to_be_bytes w32 (new_leaf d i x + 1))
-    (mod_below (block_of d i x) (fanout d) h.some) (λ b. four_long (named_in d i old b))
-    (ap (to_be_bytes w32) (named_here d i x old (s + j) (under d i x h)))
-    (λ b ne. ap (to_be_bytes w32) (sym (named_there d i x old b (λ e. ne (e ∙ sym (under d i x h))))))
+    four_set (λ b. to_be_bytes w32 (map_entry_in d i old b)) (λ b. to_be_bytes w32 (map_entry_in d i (x ∷ old) b)) s (fanout d) j (to_be_bytes w32 (new_leaf d i x + 1))
+    (mod_below (block_of d i x) (fanout d) h.some) (λ b. four_long (map_entry_in d i old b))
+    (ap (to_be_bytes w32) (map_entry_here d i x old (s + j) (under d i x h)))
+    (λ b ne. ap (to_be_bytes w32) (sym (map_entry_there d i x old b (λ e. ne (e ∙ sym (under d i x h))))))
 
 -- the other blocks
 data_there : (d : Sizes) (i : ℕ) (old : List Submission) (x : Submission) (a : ℕ) → HasEntries d → a ≢ block_of d i x
@@ -180,11 +180,11 @@ data_there : (d : Sizes) (i : ℕ) (old : List Submission) (x : Submission) (a :
 unfolding data_in
 data_there d zero old x a h ne = sym (array_there d x old a (unchanged x.command a (λ e. ne (sym (own_block d x ∙ e)))))
 data_there d (suc i) old x a h ne =
-    flat_map_same (λ b. to_be_bytes w32 (named_in d i old b)) (λ b. to_be_bytes w32 (named_in d i (x ∷ old) b)) (a * fanout d) (fanout d)
+    flat_map_same (λ b. to_be_bytes w32 (map_entry_in d i old b)) (λ b. to_be_bytes w32 (map_entry_in d i (x ∷ old) b)) (a * fanout d) (fanout d)
     (λ b low high.
     let part : b ≡ a * fanout d + (b - a * fanout d) = omega arith in
     let up : b / fanout d ≡ a = ap (λ n. n / fanout d) part ∙ div-mul-add a (fanout d) (b - a * fanout d) (omega arith) in
-    ap (to_be_bytes w32) (sym (named_there d i x old b (λ e. ne (sym up ∙ ap (λ n. n / fanout d) e ∙ sym (above d i x))))))
+    ap (to_be_bytes w32) (sym (map_entry_there d i x old b (λ e. ne (sym up ∙ ap (λ n. n / fanout d) e ∙ sym (above d i x))))))
 
 content_here : (d : Sizes) (i : ℕ) (old : List Submission) (x : Submission) (b : ℕ) → HasEntries d → b ≡ block_of d i x →
     content_after d i (x ∷ old) b ≡ Some (record { leaf = new_leaf d i x; content = block_after d i x (found_in d (content_after d i old (block_of d i x))) })
@@ -212,13 +212,13 @@ content_more d i old x b h =
     ]
 
 name_by : (d : Sizes) (i : ℕ) (bytes : List ℕ) (o : Option Submission)
-    → name_of (option_map (λ s. record { leaf = new_leaf d i s; content = bytes }) o) ≡ option_map_or (λ s. new_leaf d i s + 1) o 0
+    → map_entry_of (option_map (λ s. record { leaf = new_leaf d i s; content = bytes }) o) ≡ option_map_or (λ s. new_leaf d i s + 1) o 0
 name_by d i bytes None = refl
 name_by d i bytes (Some s) = refl
 
 -- the map entry for a block, given the tree's content, is the defined one
-pub name_is : (d : Sizes) (i : ℕ) (old : List Submission) (a : ℕ) → name_of (content_after d i old a) ≡ named_in d i old a
-unfolding content_after named_in
+pub name_is : (d : Sizes) (i : ℕ) (old : List Submission) (a : ℕ) → map_entry_of (content_after d i old a) ≡ map_entry_in d i old a
+unfolding content_after map_entry_in
 name_is d i old a = name_by d i (data_in d i old a) (newest_in d i old a)
 
 -- in tree 0 a block's address is its address in the device

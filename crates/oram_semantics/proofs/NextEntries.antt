@@ -9,7 +9,7 @@ use Rattle.oram_geometry.specs.declared.Sizes.{Sizes}
 use Rattle.oram_geometry.specs.Sizes.{blocks_in, depth_of, trees_of}
 use Rattle.oram_trace.specs.declared.entries.Entry.{Entry}
 use Rattle.oram_wire.specs.HostMessages.{fetch_body, store_body}
-use Rattle.oram_semantics.specs.Content.{block_of, entry_tree, named_in, new_leaf}
+use Rattle.oram_semantics.specs.Content.{block_of, entry_tree, map_entry_in, new_leaf}
 use Rattle.oram_semantics.specs.InTurn.{AreNextEntries, IsOfAccepted, NextFetchesAreEntries}
 use Rattle.oram_semantics.specs.Law.{new_state}
 use Rattle.oram_semantics.specs.Moves.{fetch_at}
@@ -28,14 +28,14 @@ use Rattle.oram_semantics.proofs.Follows.{AtWork, FitsTable, Follows, FollowsAt,
 use Rattle.oram_semantics.proofs.Formatting.{formatted_holds}
 use Rattle.oram_semantics.proofs.InTurn.{next_by, next_later}
 use Rattle.oram_semantics.proofs.Keeps.{entry_split}
-use Rattle.oram_semantics.proofs.Maps.{named_here, named_there}
+use Rattle.oram_semantics.proofs.Maps.{map_entry_here, map_entry_there}
 use Rattle.oram_semantics.proofs.Others.{all_none}
-use Rattle.oram_semantics.proofs.Told.{follows_on}
+use Rattle.oram_semantics.proofs.MatchesPast.{follows_on}
 use Rattle.oram_semantics.proofs.WholeRuns.{new_follows}
 
 -- the table names each block of the last tree as these commands, the newest first, have left it
 abbrev Names : Sizes → List ℕ → List Submission → Type 0
-Names d table old = (a : ℕ) → a < blocks_in d (trees_of d - 1) → slice_index table a ≡ named_in d (trees_of d - 1) old a
+Names d table old = (a : ℕ) → a < blocks_in d (trees_of d - 1) → slice_index table a ≡ map_entry_in d (trees_of d - 1) old a
 
 names_on : (d : Sizes) (table : List ℕ) (old : List Submission) (x : Submission) → length table ≡ blocks_in d (trees_of d - 1)
     → Names d table old → Names d (slice_set table (block_of d (trees_of d - 1) x) (new_leaf d (trees_of d - 1) x + 1)) (x ∷ old)
@@ -45,8 +45,8 @@ names_on d table old x sized names a below =
       | inl same ↦
           ap (λ (k : ℕ). slice_index (slice_set table k (new_leaf d top x + 1)) a) (sym same.1)
           ∙ get_or-set_same table a (new_leaf d top x + 1) 0 (omega (arith, sized))
-          ∙ sym (named_here d top x old a same.1)
-      | inr other ↦ get_or-set_other table (block_of d top x) a (new_leaf d top x + 1) 0 other.1 ∙ names a below ∙ sym (named_there d top x old a other.1)
+          ∙ sym (map_entry_here d top x old a same.1)
+      | inr other ↦ get_or-set_other table (block_of d top x) a (new_leaf d top x + 1) 0 other.1 ∙ names a below ∙ sym (map_entry_there d top x old a other.1)
     ]
 
 -- the first entry of each of these tickets
@@ -63,7 +63,7 @@ first_is v past old rest x table split words ok names =
     let some : 0 < trees_of d = some_trees d in
     let number : 2 * trees_of d * length old ≡ length old * (2 * trees_of d) + 0 = omega arith in
     fetch_entry d old x 0 (slice_index table (block_of d (trees_of d - 1) x)) refl
-    (names (block_of d (trees_of d - 1) x) ok.block ∙ ap (λ (i : ℕ). named_in d i old (block_of d i x)) last)
+    (names (block_of d (trees_of d - 1) x) ok.block ∙ ap (λ (i : ℕ). map_entry_in d i old (block_of d i x)) last)
     ∙ sym (entry_split v past old rest x 0 (2 * trees_of d * length old) number split words ok.words (omega arith))
 
 -- the first FETCHes of all commands after these
@@ -104,8 +104,8 @@ firsts_waiting v past old s l zero_is =
     let d = v.scheme.device in
     let top : ℕ = trees_of d - 1 in
     let names : Names d s.table old = λ a below.
-    l.table a below ∙ ap (λ (r : ℕ). named_in d top (applied d old s.queue r top) a) zero_is
-    ∙ ap (λ (xs : List Submission). named_in d top xs a) (applied_none d old s.queue top) in
+    l.table a below ∙ ap (λ (r : ℕ). map_entry_in d top (applied d old s.queue r top) a) zero_is
+    ∙ ap (λ (xs : List Submission). map_entry_in d top xs a) (applied_none d old s.queue top) in
     let waiting : length (to_begin s) ≡ length s.queue = ap (λ (r : ℕ). length (if r == 0 then s.queue else drop 1 s.queue)) zero_is in
     next_by d s s.table s.queue 0 refl refl zero_is
     ∙ all_firsts v past old s.queue s.table l.split l.words l.allowed l.sized names
@@ -120,8 +120,8 @@ firsts_begun v past old s x rest l qu some =
     let later : (s.entry_number == 0) ≡ false = grind (arith, nat_tests, some) in
     let due : 2 * (trees_of d - 1 - top) < s.entry_number = omega arith in
     let names : Names d s.table (x ∷ old) = λ a below.
-    l.table a below ∙ ap (λ (q : List Submission). named_in d top (applied d old q s.entry_number top) a) qu
-    ∙ ap (λ (xs : List Submission). named_in d top xs a) (applied_yes d old rest x s.entry_number top due) in
+    l.table a below ∙ ap (λ (q : List Submission). map_entry_in d top (applied d old q s.entry_number top) a) qu
+    ∙ ap (λ (xs : List Submission). map_entry_in d top xs a) (applied_yes d old rest x s.entry_number top due) in
     let split : accepted past ≡ reverse (x ∷ old) ++ rest = l.split ∙ ap (λ (q : List Submission). reverse old ++ q) qu ∙ sym (turn x old rest) in
     let all : All (FitsTable d) (x ∷ rest) = subst (All (FitsTable d)) qu l.allowed in
     let ok : FitsTable d x = All-head (FitsTable d) x rest all in

@@ -5,7 +5,7 @@ use Rattle.std.proofs.lemmas.List.Elements.{All-push}
 use Rattle.oram_geometry.specs.declared.Sizes.{Sizes}
 use Rattle.oram_geometry.specs.Sizes.{trees_of}
 use Rattle.oram_semantics.specs.Progress.{Setting, Step, Progress, accepted, progress, sent}
-use Rattle.oram_semantics.specs.Content.{named_in}
+use Rattle.oram_semantics.specs.Content.{map_entry_in}
 use Rattle.oram_semantics.specs.State.{State}
 use Rattle.oram_tree.specs.State.{State as Tree}
 use Rattle.oram_semantics.proofs.Nonces.{nonce_at}
@@ -85,7 +85,7 @@ AtWork_push v past old [] s x step ts n fit l ok qu sends w =
     let t : State = accepted_state v past s x ts n (latest step.sends s.message) in
     let z : s.entry_number ≡ 0 = w.entry_number in
     begins_next v past old (x ∷ []) t step fit z w.calm s.message refl (all_one (FitsTable d) x ok)
-    (λ a below. l.table a below ∙ ap (λ (k : ℕ). named_in d (trees_of d - 1) (applied d old s.queue k (trees_of d - 1)) a) z ∙ ap (λ xs. named_in d (trees_of d - 1) xs a) (applied_none d old s.queue (trees_of d - 1))) sends
+    (λ a below. l.table a below ∙ ap (λ (k : ℕ). map_entry_in d (trees_of d - 1) (applied d old s.queue k (trees_of d - 1)) a) z ∙ ap (λ xs. map_entry_in d (trees_of d - 1) xs a) (applied_none d old s.queue (trees_of d - 1))) sends
 AtWork_push v past old (y ∷ rest) s x step ts n fit l ok qu sends w =
     let none : step.sends ≡ [] = sends in
     subst (λ ms. AtWork v (step ∷ past) old (accepted_state v past s x ts n (latest ms s.message)) (y ∷ rest ++ x ∷ [])) (sym none)
@@ -109,6 +109,6 @@ live_accepted v past old s x step ts n fit l ok ticket p a nonce_is sends =
       next = ap (λ k. k + 1) l.next ∙ omega (arith, length-append s.queue (x ∷ []));
       nonce = nonce_is ∙ l.nonce ∙ ap (nonce_at v) (sym (ap (λ (q : Progress). q.good) p));
       sized = l.sized;
-      table = λ b below. l.table b below ∙ ap (λ xs. named_in d (trees_of d - 1) xs b) (sym (applied_push d old s.queue x s.entry_number (trees_of d - 1) (idle_stage v past old s s.queue l.work)));
+      table = λ b below. l.table b below ∙ ap (λ xs. map_entry_in d (trees_of d - 1) xs b) (sym (applied_push d old s.queue x s.entry_number (trees_of d - 1) (idle_stage v past old s s.queue l.work)));
       work = AtWork_push v past old s.queue s x step ts n fit l ok refl sends l.work;
     }

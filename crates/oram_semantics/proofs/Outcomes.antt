@@ -113,10 +113,10 @@ by_check : {A : Type 0} (v : Scheme) (records : ℕ → ℕ → List ℕ) (e : E
     → IsStored (depth_of v.device e.tree) (record_len v) root (records e.tree)
     → MatchResult r (λ _. IsPathOf (records e.tree) (answered_path v e bytes)) (IsFaultOf (records e.tree) (answered_path v e bytes))
     → outcome_of v records e bytes ≡ outcome_by e.tree r
-by_check v records e bytes root (Ok path) payload fits stored told = good_is v records e bytes payload told
-by_check v records e bytes root (Err fault.Length) payload fits stored told = absurd (told (payload_is v e bytes payload).whole)
-by_check v records e bytes root (Err (fault.Tampered level)) payload fits stored told =
-    other_is v records e bytes level root payload fits stored told
+by_check v records e bytes root (Ok path) payload fits stored judged = good_is v records e bytes payload judged
+by_check v records e bytes root (Err fault.Length) payload fits stored judged = absurd (judged (payload_is v e bytes payload).whole)
+by_check v records e bytes root (Err (fault.Tampered level)) payload fits stored judged =
+    other_is v records e bytes level root payload fits stored judged
 
 -- If byte 80 begins the answer to a FETCH in a stored tree, and the answer shows no two records with the same digest,
 -- it means what the check of the other bytes says.
@@ -131,7 +131,7 @@ fetched_is v records e bytes root r fetch first fits stored apart short judged =
   | inl whole ↦
       let payload : is_payload v e bytes ≡ true = payload_by v e bytes fetch first whole in
       elim judged [
-        | inl told ↦ by_check v records e bytes root r payload fits stored told
+        | inl of_path ↦ by_check v records e bytes root r payload fits stored of_path
         | inr pair ↦ absurd (let both : true ≡ false = sym (pair_is v records e bytes payload pair) ∙ apart in cc)
       ]
   | inr other ↦ malformed_fetch v records e bytes root fetch first fits stored other ∙ sym (ap (outcome_by e.tree) (short.1 other))

@@ -17,7 +17,7 @@ use Rattle.oram_tree.specs.State.{State as Tree, IsStoredWith}
 use Rattle.oram_tree.specs.Access.{IsRewritten, IsAtOrAbsent}
 use Rattle.oram_semantics.specs.Scheme.{Scheme}
 use Rattle.oram_semantics.specs.Trees.{Stands, IsPlaced, part_on}
-use Rattle.oram_semantics.specs.State.{State, World, AllStand, no_tree, name_of}
+use Rattle.oram_semantics.specs.State.{State, World, AllStand, no_tree, map_entry_of}
 use Rattle.oram_semantics.specs.Blocks.{put_in}
 use Rattle.oram_semantics.specs.Moves.{leaf_for, records_after}
 use Rattle.oram_semantics.specs.declared.events.Submission.{Submission}
@@ -29,7 +29,7 @@ pub record IsMade (v : Scheme) (i leaf nonce : ℕ) (records : ℕ → List ℕ)
   pub leaf_small : leaf < 2 ^ 32
   pub number : tree.number ≡ i
   pub rewritten :
-      IsRewritten (Reads v.cipher.opening v.device i) v.cipher.sealing v.device nonce path before.stash (with_bytes path bytes) c tree.stash
+      IsRewritten (record { device = v.device; tree = i; cipher = v.cipher; path = path; nonce = nonce }) before.stash (with_bytes path bytes) c tree.stash
   pub updated : (new : ℕ → List ℕ) → IsReplaced path (with_bytes path bytes) records new
       → IsStoredWith v.cipher.opening v.cipher.overhead v.device tree new (put content c.address (entry_of c))
 
@@ -103,14 +103,14 @@ holds_stored v s t w i leaf bytes a h tree holds trees inside here k below = eli
 ]
 
 -- a block with this map entry is on the path that is fetched, or the tree doesn't have it
-pub at_leaf : (d : Sizes) (i a named : ℕ) (x : Submission) (content : Map) → name_of (content a) ≡ named
-    → IsAtOrAbsent content a (leaf_for d i named x)
-at_leaf d i a named x content e h found =
-    let one : h.leaf + 1 ≡ named = sym (ap name_of found) ∙ e in
-    let some : (named == 0) ≡ false = grind (arith, nat_tests) in
-    sym (ap (λ (b : Bool). if b then leaf_of d i (slice_index x.words (2 * i)) else named - 1) some ∙ omega arith)
+pub at_leaf : (d : Sizes) (i a map_entry : ℕ) (x : Submission) (content : Map) → map_entry_of (content a) ≡ map_entry
+    → IsAtOrAbsent content a (leaf_for d i map_entry x)
+at_leaf d i a map_entry x content e h found =
+    let one : h.leaf + 1 ≡ map_entry = sym (ap map_entry_of found) ∙ e in
+    let some : (map_entry == 0) ≡ false = grind (arith, nat_tests) in
+    sym (ap (λ (b : Bool). if b then leaf_of d i (slice_index x.words (2 * i)) else map_entry - 1) some ∙ omega arith)
 
 -- the tree has the block exactly if the map names it
-pub there_if_named : (o : Option Held) (named : ℕ) → name_of o ≡ named → is_some o ≡ not (named == 0)
-there_if_named None named e = ap (λ k. not (k == 0)) e
-there_if_named (Some h) named e = let some : (named == 0) ≡ false = grind (arith, nat_tests) in sym (ap not some)
+pub there_by_map_entry : (o : Option Held) (map_entry : ℕ) → map_entry_of o ≡ map_entry → is_some o ≡ not (map_entry == 0)
+there_by_map_entry None map_entry e = ap (λ k. not (k == 0)) e
+there_by_map_entry (Some h) map_entry e = let some : (map_entry == 0) ≡ false = grind (arith, nat_tests) in sym (ap not some)

@@ -17,7 +17,7 @@ use Rattle.sha2.specs.Sha256.{sha256}
 use Rattle.oram_semantics.specs.Answers.{path_in, outcome_of, good_answer, first_other, pair_in}
 use Rattle.oram_semantics.specs.Answers.Outcome.{Good, NoRoom, Fails}
 use Rattle.oram_semantics.specs.Progress.{Setting, Step, accepted, progress, status_from, sent}
-use Rattle.oram_semantics.specs.Content.{content_after, data_in, named_in, accesses}
+use Rattle.oram_semantics.specs.Content.{content_after, data_in, map_entry_in, accesses}
 use Rattle.oram_semantics.specs.Nonces.{formatted, formatted_below, buckets_below, store_nonce}
 use Rattle.oram_semantics.specs.Events.{reply_of}
 use Rattle.oram_semantics.specs.Run.{note_of, refusal_of, entries_sent, from_to, replies_at, Shown}
@@ -47,11 +47,11 @@ second = record { session = 1; ticket = 1; command = Read 38; words = 20 ∷ 21 
 -- 37 and 38
 map_block : content_after recursive 1 (second ∷ first ∷ []) 9
     ≡ Some (record { leaf = 7; content = 0 ∷ 0 ∷ 0 ∷ 0 ∷ 0 ∷ 0 ∷ 0 ∷ 12 ∷ 0 ∷ 0 ∷ 0 ∷ 22 ∷ 0 ∷ 0 ∷ 0 ∷ 0 ∷ [] })
-unfolding trees_of blocks_in least_from level_for content_after data_in named_in
+unfolding trees_of blocks_in least_from level_for content_after data_in map_entry_in
 map_block = refl
 
 none_there : content_after recursive 0 (second ∷ first ∷ []) 39 ≡ None
-unfolding content_after data_in named_in
+unfolding content_after data_in map_entry_in
 none_there = refl
 
 -- after 9 good answers, three of them of ticket 1: tree 2 was accessed twice, tree 1 twice, tree 0 once
@@ -223,15 +223,17 @@ shows_alike =
     ShowsAlike-from plain.scheme.device (5 ∷ 5 ∷ []) (5 ∷ 2 ∷ []) swapped refl
     (IsRearrangement-from plain.scheme.device (5 ∷ 5 ∷ []) (5 ∷ 2 ∷ []) swapped refl refl in_tree) (omega arith)
 
-two_worlds : AreTwoWorlds plain plain (reading 5 (6 ∷ 3 ∷ []) ∷ reading 5 (7 ∷ 1 ∷ []) ∷ []) (reading 5 (6 ∷ 7 ∷ []) ∷ reading 2 (3 ∷ 1 ∷ []) ∷ [])
-    reactions reactions (5 ∷ 5 ∷ []) (5 ∷ 2 ∷ []) (6 ∷ 3 ∷ 7 ∷ 1 ∷ []) swapped
+two_worlds : AreTwoWorlds
+    (record { setting = plain; events = reading 5 (6 ∷ 3 ∷ []) ∷ reading 5 (7 ∷ 1 ∷ []) ∷ []; reactions = reactions; addresses = 5 ∷ 5 ∷ [] })
+    (record { setting = plain; events = reading 5 (6 ∷ 7 ∷ []) ∷ reading 2 (3 ∷ 1 ∷ []) ∷ []; reactions = reactions; addresses = 5 ∷ 2 ∷ [] })
+    (6 ∷ 3 ∷ 7 ∷ 1 ∷ []) swapped
 unfolding trees_of least_from blocks_in accepted
 two_worlds = record {
   device = refl;
   overhead = refl;
   notes = refl;
-  words = refl;
+  words_are = refl;
   alike = shows_alike;
-  first = record { addresses_are = refl; tape_is = refl };
-  second = record { addresses_are = refl; tape_is = refl };
+  first_is = record { addresses_are = refl; tape_is = refl };
+  second_is = record { addresses_are = refl; tape_is = refl };
 }

@@ -22,7 +22,7 @@ use Rattle.oram_semantics.specs.Law.{world_of}
 use Rattle.oram_semantics.proofs.Bounds.{IsFit}
 use Rattle.oram_semantics.proofs.Follows.{Working, AtWork, Live, FollowsAt, Follows, stage_few}
 use Rattle.oram_semantics.proofs.Counts.{progress_cons, accepted_len, status_is, status_ends, answered_is}
-use Rattle.oram_semantics.proofs.Keeps.{Kept, quiet_keep, stays_keep, resends_keep, fails_keep, asked_now}
+use Rattle.oram_semantics.proofs.Keeps.{Kept, quiet_keep, stays_keep, resends_keep, fails_keep, requested_now}
 use Rattle.oram_semantics.proofs.Answered.{stores_keep, fetches_keep, finishes_keep}
 use Rattle.oram_semantics.proofs.Submitted.{passed, accepts_keep}
 
@@ -86,7 +86,7 @@ answer_keep v past s t old x bytes None (y ∷ rest) true h qu lo fit f st mv =
     stays_keep v past s t old (Answer bytes) x Unexpected None h fit f mv refl refl refl (rw st refl) (progress_cons v (step_of (Answer bytes) x) past ∙ rw st refl)
 answer_keep v past s t old x bytes None (y ∷ rest) false h qu lo fit f st mv =
     let w : Working v past old s y = subst (AtWork v past old s) qu f.0.work in
-    outcome_keep v past s t old rest x y bytes (outcome_of v.scheme (records_of v past) (requested s.message) bytes) fit f.0 f.1 h qu w lo st (ap (λ (e : Entry). outcome_of v.scheme (records_of v past) e bytes) (sym (asked_now v past old rest s y f.0 qu w))) mv
+    outcome_keep v past s t old rest x y bytes (outcome_of v.scheme (records_of v past) (requested s.message) bytes) fit f.0 f.1 h qu w lo st (ap (λ (e : Entry). outcome_of v.scheme (records_of v past) e bytes) (sym (requested_now v past old rest s y f.0 qu w))) mv
 
 -- by an event that means a loss
 loss_keep : (v : Setting) (past : List Step) (s t : State) (old : List Submission) (event : Event) (x : Shown) (failure : Option Reason)

@@ -13,19 +13,19 @@ use Rattle.oram_semantics.specs.Events.{address_of, array_at}
 use Rattle.oram_semantics.specs.Messages.{IsMessage, requested}
 use Rattle.oram_semantics.specs.Progress.{Setting, Step, Progress, accepted, progress, sent}
 use Rattle.oram_tree.specs.Content.{Map, Entry as Held}
-use Rattle.oram_semantics.specs.Content.{block_of, new_leaf, named_in, data_in, content_after, content_of}
+use Rattle.oram_semantics.specs.Content.{block_of, new_leaf, map_entry_in, data_in, content_after, content_of}
 use Rattle.oram_semantics.specs.State.{State}
 use Rattle.oram_tree.specs.State.{State as Tree}
 use Rattle.oram_semantics.proofs.Nonces.{nonce_at}
-use Rattle.oram_semantics.specs.Blocks.{found_in, block_after, next_named, kept_of, put_in}
+use Rattle.oram_semantics.specs.Blocks.{found_in, block_after, next_map_entry, kept_of, put_in}
 use Rattle.oram_semantics.specs.Moves.{leaf_for, stores}
 use Rattle.oram_semantics.specs.declared.events.Submission.{Submission}
 use Rattle.oram_semantics.proofs.Bounds.{HasEntries}
-use Rattle.oram_semantics.proofs.Maps.{data_zero, content_more, found_is, next_is, named_here, named_there, named_range, leaf_small}
+use Rattle.oram_semantics.proofs.Maps.{data_zero, content_more, found_is, next_is, map_entry_here, map_entry_there, map_entry_range, leaf_small}
 use Rattle.oram_semantics.specs.Law.{world_of}
 use Rattle.oram_semantics.proofs.Bounds.{IsFit}
 use Rattle.oram_semantics.proofs.Follows.{FitsTable, applied, applied_none, applied_yes, applied_no, applied_same, entry_for, Working, AtWork, Live, content_is}
-use Rattle.oram_semantics.proofs.Counts.{asked_is}
+use Rattle.oram_semantics.proofs.Counts.{requested_is}
 
 -- arithmetic of stages
 
@@ -99,10 +99,10 @@ content_stored v past old rest s x fit l qu few even k below =
 pub leaf_fits : (d : Sizes) (old : List Submission) (x : Submission) (r : ℕ) → (entry_for d old x r).leaf < 2 ^ 32
 leaf_fits d old x r =
     let i : ℕ = entry_tree d r in
-    let named : ℕ = named_in d i old (block_of d i x) in
+    let map_entry : ℕ = map_entry_in d i old (block_of d i x) in
     let spare = leaf_small d i (slice_index x.words (2 * i)) in
-    let range = named_range d i old (block_of d i x) in
-    elim (named == 0) as (λ b. (if b then leaf_of d i (slice_index x.words (2 * i)) else named - 1) < 2 ^ 32) [ true ↦ omega (arith, spare.0, spare.1) | false ↦ omega (arith, range, spare.1) ]
+    let range = map_entry_range d i old (block_of d i x) in
+    elim (map_entry == 0) as (λ b. (if b then leaf_of d i (slice_index x.words (2 * i)) else map_entry - 1) < 2 ^ 32) [ true ↦ omega (arith, spare.0, spare.1) | false ↦ omega (arith, range, spare.1) ]
 
 -- the STORE asks for the next entry
 pub store_entry : (d : Sizes) (old : List Submission) (x : Submission) (r : ℕ) → r % 2 ≡ 0
@@ -110,15 +110,15 @@ pub store_entry : (d : Sizes) (old : List Submission) (x : Submission) (r : ℕ)
 store_entry d old x r even =
     let odd : ((r + 1) % 2 == 0) ≡ false = grind (arith, nat_tests) in
     let tree : entry_tree d (r + 1) ≡ entry_tree d r = same_tree (trees_of d) r even in
-    sym (ap (λ (n : ℕ). record { fetch = (r + 1) % 2 == 0; tree = n; leaf = leaf_for d n (named_in d n old (block_of d n x)) x }) tree
+    sym (ap (λ (n : ℕ). record { fetch = (r + 1) % 2 == 0; tree = n; leaf = leaf_for d n (map_entry_in d n old (block_of d n x)) x }) tree
     ∙ ap (λ (b : Bool). record { fetch = b; tree = entry_tree d r; leaf = (entry_for d old x r).leaf }) odd)
 
-pub named_next : (d : Sizes) (old : List Submission) (x : Submission) (i j : ℕ) (bytes : List ℕ) → HasEntries d → i ≡ j + 1
-    → bytes ≡ data_in d i old (block_of d i x) → next_named d i x bytes ≡ named_in d j old (block_of d j x)
-named_next d old x zero j bytes h e b = absurd (omega arith)
-named_next d old x (suc i) j bytes h e b =
+pub map_entry_next : (d : Sizes) (old : List Submission) (x : Submission) (i j : ℕ) (bytes : List ℕ) → HasEntries d → i ≡ j + 1
+    → bytes ≡ data_in d i old (block_of d i x) → next_map_entry d i x bytes ≡ map_entry_in d j old (block_of d j x)
+map_entry_next d old x zero j bytes h e b = absurd (omega arith)
+map_entry_next d old x (suc i) j bytes h e b =
     let same : i ≡ j = omega arith in
-    ap (next_named d (suc i) x) b ∙ next_is d i old x h ∙ ap (λ (n : ℕ). named_in d n old (block_of d n x)) same
+    ap (next_map_entry d (suc i) x) b ∙ next_is d i old x h ∙ ap (λ (n : ℕ). map_entry_in d n old (block_of d n x)) same
 
 pub kept_last : (d : Sizes) (old : List Submission) (x : Submission) (i : ℕ) (bytes : List ℕ) → i ≡ 0
     → bytes ≡ data_in d i old (block_of d i x) → kept_of i bytes ≡ array_at d old (address_of x.command)
@@ -130,25 +130,25 @@ table_stored : (v : Setting) (past : List Step) (old rest : List Submission) (s 
     → s.entry_number ≡ entry_number → IsFit v.scheme.device → Live v past old s → s.queue ≡ x ∷ rest → FitsTable v.scheme.device x → (a : ℕ)
     → a < blocks_in v.scheme.device (trees_of v.scheme.device - 1)
     → slice_index (if entry_number == 0 then slice_set s.table (block_of v.scheme.device (entry_tree v.scheme.device entry_number) x) (new_leaf v.scheme.device (entry_tree v.scheme.device entry_number) x + 1) else s.table) a
-    ≡ named_in v.scheme.device (trees_of v.scheme.device - 1) (applied v.scheme.device old (x ∷ rest) (entry_number + 1) (trees_of v.scheme.device - 1)) a
+    ≡ map_entry_in v.scheme.device (trees_of v.scheme.device - 1) (applied v.scheme.device old (x ∷ rest) (entry_number + 1) (trees_of v.scheme.device - 1)) a
 table_stored v past old rest s x zero e fit l qu ok a below =
     let d = v.scheme.device in
     let top : ℕ = trees_of d - 1 in
     let here : entry_tree d 0 ≡ top = omega arith in
     let due : 2 * (trees_of d - 1 - top) < 0 + 1 = omega arith in
-    let was : slice_index s.table a ≡ named_in d top old a =
-    l.table a below ∙ ap (λ (r : ℕ). named_in d top (applied d old s.queue r top) a) e
-    ∙ ap (λ xs. named_in d top xs a) (applied_none d old s.queue top) in
+    let was : slice_index s.table a ≡ map_entry_in d top old a =
+    l.table a below ∙ ap (λ (r : ℕ). map_entry_in d top (applied d old s.queue r top) a) e
+    ∙ ap (λ xs. map_entry_in d top xs a) (applied_none d old s.queue top) in
     ap (λ (i : ℕ). slice_index (slice_set s.table (block_of d i x) (new_leaf d i x + 1)) a) here
     ∙ elim (eqb_tells a (block_of d top x)) [
       | inl t ↦
           let inside : a < length s.table = omega (arith, l.sized) in
           ap (λ (k : ℕ). slice_index (slice_set s.table k (new_leaf d top x + 1)) a) (sym t.1)
           ∙ get_or-set_same s.table a (new_leaf d top x + 1) 0 inside
-          ∙ sym (named_here d top x old a t.1)
-      | inr f ↦ get_or-set_other s.table (block_of d top x) a (new_leaf d top x + 1) 0 f.1 ∙ was ∙ sym (named_there d top x old a f.1)
+          ∙ sym (map_entry_here d top x old a t.1)
+      | inr f ↦ get_or-set_other s.table (block_of d top x) a (new_leaf d top x + 1) 0 f.1 ∙ was ∙ sym (map_entry_there d top x old a f.1)
     ]
-    ∙ ap (λ xs. named_in d top xs a) (sym (applied_yes d old rest x (0 + 1) top due))
+    ∙ ap (λ xs. map_entry_in d top xs a) (sym (applied_yes d old rest x (0 + 1) top due))
 table_stored v past old rest s x (suc r) e fit l qu ok a below =
     let d = v.scheme.device in
     let top : ℕ = trees_of d - 1 in
@@ -156,9 +156,9 @@ table_stored v past old rest s x (suc r) e fit l qu ok a below =
     let later : (suc r == 0) ≡ false = grind (arith, nat_tests) in
     ap (λ (b : Bool). slice_index (if b then slice_set s.table (block_of d (entry_tree d (suc r)) x) (new_leaf d (entry_tree d (suc r)) x + 1) else s.table) a) later
     ∙ l.table a below
-    ∙ ap (λ (k : ℕ). named_in d top (applied d old s.queue k top) a) e
-    ∙ ap (λ q. named_in d top (applied d old q (suc r) top) a) qu
-    ∙ ap (λ xs. named_in d top xs a) (sym (applied_same d old rest x (suc r) top ne))
+    ∙ ap (λ (k : ℕ). map_entry_in d top (applied d old s.queue k top) a) e
+    ∙ ap (λ q. map_entry_in d top (applied d old q (suc r) top) a) qu
+    ∙ ap (λ xs. map_entry_in d top xs a) (sym (applied_same d old rest x (suc r) top ne))
 
 length_stored : (table : List ℕ) (entry_number a n : ℕ) → length (if entry_number == 0 then slice_set table a n else table) ≡ length table
 length_stored table entry_number a n = elim (entry_number == 0) as (λ b. length (if b then slice_set table a n else table) ≡ length table) [ true ↦ length-set table a n | false ↦ refl ]
@@ -186,13 +186,13 @@ live_stored v past old rest s x step ts n m fit l qu w even calm p a sent_is is 
     let t : State = stored_state v past s x ts n m in
     let work : Working v (step ∷ past) old t x = record {
       entry_number = omega arith;
-      asks = asked_is v.scheme _ m small is ∙ ap (λ (k : ℕ). record { fetch = false; tree = i; leaf = k }) leaf
+      asks = requested_is v.scheme _ m small is ∙ ap (λ (k : ℕ). record { fetch = false; tree = i; leaf = k }) leaf
           ∙ store_entry d old x s.entry_number even;
       older = sent past;
       latest = sent_is;
       held_entry = λ some more.
           let down : i ≡ entry_tree d (s.entry_number + 1 + 1) + 1 = omega arith in
-          named_next d old x i (entry_tree d (s.entry_number + 1 + 1)) (found_in d (content_of v past i (block_of d i x))) fit.words down found;
+          map_entry_next d old x i (entry_tree d (s.entry_number + 1 + 1)) (found_in d (content_of v past i (block_of d i x))) fit.words down found;
       held_data = λ e. let bottom : i ≡ 0 = omega arith in kept_last d old x i (found_in d (content_of v past i (block_of d i x))) bottom found;
     } in
     record {
@@ -206,6 +206,6 @@ live_stored v past old rest s x step ts n m fit l qu w even calm p a sent_is is 
       next = l.next;
       nonce = nonce_is ∙ ap (nonce_at v) (sym (ap (λ (q : Progress). q.good) p));
       sized = length_stored s.table s.entry_number (block_of d i x) (new_leaf d i x + 1) ∙ l.sized;
-      table = λ b below. table_stored v past old rest s x s.entry_number refl fit l qu ok b below ∙ ap (λ q. named_in d (trees_of d - 1) (applied d old q (s.entry_number + 1) (trees_of d - 1)) b) (sym qu);
+      table = λ b below. table_stored v past old rest s x s.entry_number refl fit l qu ok b below ∙ ap (λ q. map_entry_in d (trees_of d - 1) (applied d old q (s.entry_number + 1) (trees_of d - 1)) b) (sym qu);
       work = subst (AtWork v (step ∷ past) old t) (sym qu) work;
     }

@@ -8,7 +8,7 @@ use Rattle.oram_semantics.specs.Content.{entry_tree}
 use Rattle.oram_semantics.specs.Events.{address_of, reply_of}
 use Rattle.oram_semantics.specs.Scheme.{Scheme}
 use Rattle.oram_semantics.specs.Progress.{Setting, Step, Progress, accepted, progress, submission_of}
-use Rattle.oram_semantics.specs.Content.{block_of, named_in, content_after}
+use Rattle.oram_semantics.specs.Content.{block_of, map_entry_in, content_after}
 use Rattle.oram_semantics.specs.declared.events.Refusal.TheVariants as refusal
 use Rattle.oram_semantics.specs.Run.{has_bad_length, refusal_of, note_of, is_accepted, fails_now, is_resent, AskFor, answered_tickets, entries_sent, from_to, Shown, step_of}
 use Rattle.oram_semantics.specs.State.{State}
@@ -22,7 +22,7 @@ use Rattle.oram_semantics.specs.declared.events.Submission.{Submission}
 use Rattle.oram_semantics.specs.Law.{world_of}
 use Rattle.oram_semantics.proofs.Bounds.{IsFit, address_small}
 use Rattle.oram_semantics.proofs.Follows.{FitsTable, applied, applied_none, AtWork, Live, content_is}
-use Rattle.oram_semantics.proofs.Counts.{progress_cons, accepted_cons, accepted_len, none_between, none_asked, sent_is}
+use Rattle.oram_semantics.proofs.Counts.{progress_cons, accepted_cons, accepted_len, none_between, asks_for_none, sent_is}
 use Rattle.oram_semantics.proofs.Fetches.{fetch_entry}
 use Rattle.oram_semantics.proofs.Others.{live_accepted, accepted_state, applied_push, idle_stage}
 use Rattle.oram_semantics.proofs.Keeps.{Kept, replies_calm, sends_right, follows_on, entry_split}
@@ -61,14 +61,14 @@ first_due v past old [] s y step fit l qu w ok p a sends =
     ap length a ∙ length-append (accepted past) (y ∷ []) ∙ omega arith in
     let good : g ≡ length old * (2 * trees_of d) + 0 = l.good ∙ ap (λ (k : ℕ). length old * (2 * trees_of d) + k) z in
     let top : trees_of d - 1 ≡ entry_tree d 0 = omega arith in
-    let named : slice_index s.table (block_of d (trees_of d - 1) y) ≡ named_in d (entry_tree d 0) old (block_of d (entry_tree d 0) y) = l.table (block_of d (trees_of d - 1) y) ok.block
-    ∙ ap (λ (k : ℕ). named_in d (trees_of d - 1) (applied d old s.queue k (trees_of d - 1)) (block_of d (trees_of d - 1) y)) z
-    ∙ ap (λ xs. named_in d (trees_of d - 1) xs (block_of d (trees_of d - 1) y)) (applied_none d old s.queue (trees_of d - 1))
-    ∙ ap (λ (i : ℕ). named_in d i old (block_of d i y)) top in
+    let map_entry_is : slice_index s.table (block_of d (trees_of d - 1) y) ≡ map_entry_in d (entry_tree d 0) old (block_of d (entry_tree d 0) y) = l.table (block_of d (trees_of d - 1) y) ok.block
+    ∙ ap (λ (k : ℕ). map_entry_in d (trees_of d - 1) (applied d old s.queue k (trees_of d - 1)) (block_of d (trees_of d - 1) y)) z
+    ∙ ap (λ xs. map_entry_in d (trees_of d - 1) xs (block_of d (trees_of d - 1) y)) (applied_none d old s.queue (trees_of d - 1))
+    ∙ ap (λ (i : ℕ). map_entry_in d i old (block_of d i y)) top in
     let whole : accepted (step ∷ past) ≡ reverse old ++ y ∷ [] =
     a ∙ ap (λ xs. xs ++ y ∷ []) split ∙ ap (λ xs. xs ++ y ∷ []) (append-nil (reverse old)) in
     let due =
-    fetch_entry d old y 0 (slice_index s.table (block_of d (trees_of d - 1) y)) refl named
+    fetch_entry d old y 0 (slice_index s.table (block_of d (trees_of d - 1) y)) refl map_entry_is
     ∙ sym (entry_split v (step ∷ past) old [] y 0 g good whole l.words ok.words (omega arith)) in
     asks_due v past step s.message _ (entries_sent v past) (entries_sent v (step ∷ past)) g sends
     (sent_is v past g (length old) g refl len (omega arith))
@@ -81,7 +81,7 @@ first_due v past old (z ∷ rest) s y step fit l qu w ok p a sends =
     accepted_len past old s.queue l.split ∙ ap (λ (q : List Submission). length old + length q) qu ∙ omega arith in
     let len' : length (accepted (step ∷ past)) ≡ length old + (length rest + 1 + 1) =
     ap length a ∙ length-append (accepted past) (y ∷ []) ∙ omega arith in
-    none_asked v (step ∷ past) (entries_sent v past) (entries_sent v (step ∷ past)) step.sends
+    asks_for_none v (step ∷ past) (entries_sent v past) (entries_sent v (step ∷ past)) step.sends
     (sent_is v (step ∷ past) g (length old + (length rest + 1 + 1)) (g + 1) (ap (λ (q : Progress). q.good) p) len' (sent_before (trees_of d) (length old) (length rest + 1) s.entry_number g few l.good)
     ∙ sym (sent_is v past g (length old + (length rest + 1)) (g + 1) refl len (sent_before (trees_of d) (length old) (length rest) s.entry_number g few l.good))) sends
 

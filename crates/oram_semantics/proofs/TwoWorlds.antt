@@ -185,6 +185,7 @@ unfolding sent
 newest_none = tt
 
 pub two_worlds : TwoWorldsLookAlike
-two_worlds v u events others xs ys a b t q are right also =
-    along v u [] [] events others xs ys a b t q (record { device = are.device; overhead = are.overhead })
-    (record { words = are.words; alike = are.alike }) (level_none v u) newest_none are.first are.second are.notes right also
+two_worlds first second words q are right also =
+    along first.setting second.setting [] [] first.events second.events first.reactions second.reactions first.addresses second.addresses words q
+    (record { device = are.device; overhead = are.overhead })
+    (record { words = are.words_are; alike = are.alike }) (level_none first.setting second.setting) newest_none are.first_is are.second_is are.notes right also

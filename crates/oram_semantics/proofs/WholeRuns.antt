@@ -3,7 +3,7 @@ use Rattle.std.proofs.Common.{◌≡◌, ℕ, false, ◌-◌, List, [], ◌∷�
 use Rattle.std.proofs.lemmas.List.{get_or-replicate, length-replicate}
 use Rattle.oram_geometry.specs.Sizes.{trees_of, blocks_in}
 use Rattle.oram_semantics.specs.Progress.{Setting, Step, accepted, progress}
-use Rattle.oram_semantics.specs.Content.{named_in}
+use Rattle.oram_semantics.specs.Content.{map_entry_in}
 use Rattle.oram_tree.specs.State.{State as Tree}
 use Rattle.oram_semantics.specs.Run.{shows_pair, Shown, step_of, AllRight}
 use Rattle.oram_semantics.specs.State.{State, AllStand}
@@ -35,7 +35,7 @@ along v past s (event ∷ events) (x ∷ xs) fit f run = λ apart.
 -- a core that has just been formatted follows the empty past
 pub new_follows : (v : Setting) (trees : List Tree) → IsFit v.scheme.device
     → AllStand v.scheme (new_state v trees) (world_of v []) → Follows v [] (new_state v trees)
-unfolding progress accepted named_in
+unfolding progress accepted map_entry_in
 new_follows v trees fit holds =
     let d = v.scheme.device in
     let n : ℕ = blocks_in d (trees_of d - 1) in
@@ -53,7 +53,7 @@ new_follows v trees fit holds =
           next = refl;
           nonce = sym (nonce_new v fit.some);
           sized = length-replicate n 0;
-          table = λ a below. get_or-replicate n a 0 0 below ∙ sym (ap (λ xs. named_in d (trees_of d - 1) xs a) (applied_none d [] [] (trees_of d - 1)));
+          table = λ a below. get_or-replicate n a 0 0 below ∙ sym (ap (λ xs. map_entry_in d (trees_of d - 1) xs a) (applied_none d [] [] (trees_of d - 1)));
           work = record { entry_number = refl; calm = refl };
         },
         holds,

@@ -9,13 +9,13 @@ use Rattle.oram_semantics.specs.Events.{address_of}
 use Rattle.oram_semantics.specs.Scheme.{Scheme}
 use Rattle.oram_semantics.specs.Run.{has_bad_length}
 use Rattle.oram_semantics.specs.Content.{block_of, new_leaf}
-use Rattle.oram_semantics.specs.State.{State, World, name_of}
+use Rattle.oram_semantics.specs.State.{State, World, map_entry_of}
 use Rattle.oram_semantics.specs.Blocks.{found_in, entry_in}
 use Rattle.oram_semantics.specs.declared.events.Submission.{Submission}
 
 -- the map entry for block b of tree i: in the table for the last tree, else in the block's map block
-abbrev pub named_for : Scheme → State → World → ℕ → ℕ → ℕ
-named_for v s w i b =
+abbrev pub map_entry_for : Scheme → State → World → ℕ → ℕ → ℕ
+map_entry_for v s w i b =
     if i + 1 == trees_of v.device then slice_index s.table b else entry_in (found_in v.device (w.content (i + 1) (b / fanout v.device))) (b % fanout v.device)
 
 -- the tree of the FETCH that is outstanding in the middle of a command, or comes next
@@ -28,8 +28,8 @@ IsAmid v s = (0 < s.entry_number) × (s.entry_number + 1 < 2 * trees_of v.device
 
 -- the map entry for the next tree's block already has the block's new leaf, and the entry before that is held
 pub record IsBetween (v : Scheme) (s : State) (w : World) (x : Submission) : Type 0 where
-  pub held : s.held_entry ≡ name_of (w.content (next_tree v s) (block_of v.device (next_tree v s) x))
-  pub ahead : named_for v s w (next_tree v s) (block_of v.device (next_tree v s) x) ≡ new_leaf v.device (next_tree v s) x + 1
+  pub held : s.held_entry ≡ map_entry_of (w.content (next_tree v s) (block_of v.device (next_tree v s) x))
+  pub ahead : map_entry_for v s w (next_tree v s) (block_of v.device (next_tree v s) x) ≡ new_leaf v.device (next_tree v s) x + 1
 
 abbrev pub AtBetween : Scheme → State → World → List Submission → Type 0
 AtBetween v s w [] = Unit {0}
@@ -44,9 +44,9 @@ IsNext v s (x ∷ rest) i b = IsAmid v s × (i ≡ next_tree v s) × (b ≡ bloc
 -- the leaf that its tree has for it, except for the next tree's block of a command at work.
 pub record Agrees (v : Scheme) (s : State) (w : World) : Type 0 where
   pub sized : (i b : ℕ) → i < trees_of v.device → length (found_in v.device (w.content i b)) ≡ v.device.block_bytes
-  pub leaves : (i b : ℕ) → i < trees_of v.device → name_of (w.content i b) ≤ 2 ^ depth_of v.device i
+  pub leaves : (i b : ℕ) → i < trees_of v.device → map_entry_of (w.content i b) ≤ 2 ^ depth_of v.device i
   pub others : (i b : ℕ) → i < trees_of v.device → b < blocks_in v.device i → ¬ IsNext v s s.queue i b
-      → named_for v s w i b ≡ name_of (w.content i b)
+      → map_entry_for v s w i b ≡ map_entry_of (w.content i b)
   pub between : AtBetween v s w s.queue
 
 -- the device allows the accepted command

@@ -15,6 +15,7 @@ use Rattle.oram_semantics.specs.Messages.{levels}
 use Rattle.oram_semantics.specs.declared.events.Reason.{Reason}
 use Rattle.oram_semantics.specs.declared.events.Reason.TheVariants.{Malformed, Tampered, HostRefused}
 use Rattle.oram_wire.specs.HostMessages.{no_room_answer, payload_answer}
+use Rattle.oram_wire.specs.declared.host_messages.TheConstants.{GOOD, REFUSED}
 
 -- the records on the path of a leaf of tree i, root first
 unfoldable pub path_in : Scheme → (ℕ → ℕ → List ℕ) → ℕ → ℕ → List ℕ
@@ -27,7 +28,7 @@ good_answer v records e = payload_answer (if e.fetch then path_in v records e.tr
 -- the answer to a FETCH is byte 80 and as many bytes as the path has
 abbrev pub is_payload : Scheme → Entry → List ℕ → Bool
 is_payload v e bytes =
-    e.fetch && (slice_index bytes 0 == 128) && (length bytes == 1 + (depth_of v.device e.tree + 1) * record_len v)
+    e.fetch && (slice_index bytes 0 == GOOD) && (length bytes == 1 + (depth_of v.device e.tree + 1) * record_len v)
 
 -- the path whose records such an answer gives
 abbrev pub answered_path : Scheme → Entry → List ℕ → Path
@@ -44,7 +45,7 @@ first_other records p = find (λ level. not (is_last_stored records p level)) (l
 -- a refusal with a code from 1 to 7: byte 81 and the code
 abbrev pub is_refusal : List ℕ → Bool
 is_refusal bytes =
-    (length bytes == 2) && (slice_index bytes 0 == 129) && nat_le 1 (slice_index bytes 1) && nat_le (slice_index bytes 1) 7
+    (length bytes == 2) && (slice_index bytes 0 == REFUSED) && nat_le 1 (slice_index bytes 1) && nat_le (slice_index bytes 1) 7
 
 abbrev pub reason_at : ℕ → Option ℕ → Reason
 reason_at i None = Malformed

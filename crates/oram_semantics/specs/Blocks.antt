@@ -34,9 +34,9 @@ block_after d zero x bytes = left_by d x.command bytes
 block_after d (suc i) x bytes = with_entry bytes (block_of d i x % fanout d) (new_leaf d i x + 1)
 
 -- the entry that the block had for the command's block in the tree below; 0 in tree 0, which is no map
-unfoldable pub next_named : Sizes → ℕ → Submission → List ℕ → ℕ
-next_named d zero x bytes = 0
-next_named d (suc i) x bytes = entry_in bytes (block_of d i x % fanout d)
+unfoldable pub next_map_entry : Sizes → ℕ → Submission → List ℕ → ℕ
+next_map_entry d zero x bytes = 0
+next_map_entry d (suc i) x bytes = entry_in bytes (block_of d i x % fanout d)
 
 -- the data to keep for the reply: that of tree 0's block, as it was read
 abbrev pub kept_of : ℕ → List ℕ → List ℕ

@@ -23,15 +23,15 @@ abbrev pub newest_in : Sizes → ℕ → List Submission → ℕ → Option Subm
 newest_in d i newest_first a = find (λ s. block_of d i s == a) newest_first
 
 -- the map entry for a block of tree i after these submissions, the newest first: 0, or its leaf plus one
-unfoldable pub named_in : Sizes → ℕ → List Submission → ℕ → ℕ
-named_in d i newest_first a = option_map_or (λ s. new_leaf d i s + 1) (newest_in d i newest_first a) 0
+unfoldable pub map_entry_in : Sizes → ℕ → List Submission → ℕ → ℕ
+map_entry_in d i newest_first a = option_map_or (λ s. new_leaf d i s + 1) (newest_in d i newest_first a) 0
 
 -- the data of a block of tree i: in tree 0 that of the plain array; in a map tree an entry for each of its blocks of
 -- the tree below
 unfoldable pub data_in : Sizes → ℕ → List Submission → ℕ → List ℕ
 data_in d zero newest_first a = array_at d newest_first a
 data_in d (suc i) newest_first a =
-    flat_map (λ b. to_be_bytes w32 (named_in d i newest_first b)) (range_with_len (a * fanout d) (fanout d))
+    flat_map (λ b. to_be_bytes w32 (map_entry_in d i newest_first b)) (range_with_len (a * fanout d) (fanout d))
 
 -- the content of tree i after these submissions, the newest first
 unfoldable pub content_after : Sizes → ℕ → List Submission → Map

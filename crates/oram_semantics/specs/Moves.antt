@@ -12,11 +12,11 @@ use Rattle.oram_semantics.specs.Answers.{Outcome, outcome_of, pair_in}
 use Rattle.oram_semantics.specs.Answers.Outcome.{Good, NoRoom, Fails}
 use Rattle.oram_tree.specs.Content.{Map, Entry as Held}
 use Rattle.oram_semantics.specs.Content.{block_of, new_leaf}
-use Rattle.oram_semantics.specs.Blocks.{found_in, block_after, next_named, kept_of, put_in, body_from}
+use Rattle.oram_semantics.specs.Blocks.{found_in, block_after, next_map_entry, kept_of, put_in, body_from}
 use Rattle.oram_semantics.specs.Progress.{Status}
 use Rattle.oram_semantics.specs.Progress.Status.{Idle, Waiting, Stalling, Over}
 use Rattle.oram_semantics.specs.Run.{Shown, refusal_of, is_over, is_waiting}
-use Rattle.oram_semantics.specs.State.{State, World, AllStand, failed_state, status_in, named_now, name_of}
+use Rattle.oram_semantics.specs.State.{State, World, AllStand, failed_state, status_in, map_entry_now, map_entry_of}
 use Rattle.oram_semantics.specs.Trees.{IsPlaced}
 use Rattle.oram_semantics.specs.declared.events.Event.{Event}
 use Rattle.oram_semantics.specs.declared.events.Event.TheVariants.{Submit, Answer, Lost, Reopen, Retry}
@@ -45,11 +45,11 @@ pub record Moved : Type 0 where
 -- the leaf that a submission fetches in tree i, given the map entry of its block: if the entry is 0, the leaf of the
 -- spare word
 abbrev pub leaf_for : Sizes → ℕ → ℕ → Submission → ℕ
-leaf_for d i named x = if named == 0 then leaf_of d i (slice_index x.words (2 * i)) else named - 1
+leaf_for d i map_entry x = if map_entry == 0 then leaf_of d i (slice_index x.words (2 * i)) else map_entry - 1
 
 -- the FETCH at this stage, given the map entry of the block
 abbrev pub fetch_at : Sizes → ℕ → ℕ → Submission → Entry
-fetch_at d entry_number named x = record { fetch = true; tree = entry_tree d entry_number; leaf = leaf_for d (entry_tree d entry_number) named x }
+fetch_at d entry_number map_entry x = record { fetch = true; tree = entry_tree d entry_number; leaf = leaf_for d (entry_tree d entry_number) map_entry x }
 
 -- the first FETCH of the oldest command, if there is one
 abbrev pub first_fetch : Sizes → List ℕ → List Submission → Ask
@@ -88,7 +88,7 @@ stores v s w x =
       state = record s {
         table = if s.entry_number == 0 then slice_set s.table a (new_leaf d i x + 1) else s.table;
         entry_number = s.entry_number + 1;
-        held_entry = next_named d i x bytes;
+        held_entry = next_map_entry d i x bytes;
         held_data = kept_of i bytes;
       };
       content = put_in w.content i a (record { leaf = new_leaf d i x; content = block_after d i x bytes });
@@ -235,10 +235,10 @@ held_now v s w x = let i = entry_tree v.device s.entry_number in w.content i (bl
 -- While a FETCH is outstanding, the tree's content has its block with the leaf that the map names, and the block's
 -- entry for the next tree is 0 or names a leaf there.
 pub record IsReadyFor (v : Scheme) (s : State) (w : World) (x : Submission) : Type 0 where
-  pub held_entry : name_of (held_now v s w x) ≡ named_now v.device s x
+  pub held_entry : map_entry_of (held_now v s w x) ≡ map_entry_now v.device s x
   pub next :
       let i = entry_tree v.device s.entry_number in
-      next_named v.device i x (found_in v.device (held_now v s w x)) ≤ 2 ^ depth_of v.device (i - 1)
+      next_map_entry v.device i x (found_in v.device (held_now v s w x)) ≤ 2 ^ depth_of v.device (i - 1)
 
 abbrev pub IsReady : Scheme → State → World → List Submission → Type 0
 IsReady v s w [] = Unit {0}

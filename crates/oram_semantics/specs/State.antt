@@ -53,9 +53,9 @@ abbrev pub status_in : State → Status
 status_in s = status_by s.failure s.queue s.lost
 
 -- the map entry of the command's block in the tree of the outstanding FETCH
-abbrev pub named_now : Sizes → State → Submission → ℕ
-named_now d s x = if s.entry_number == 0 then slice_index s.table (block_of d (trees_of d - 1) x) else s.held_entry
+abbrev pub map_entry_now : Sizes → State → Submission → ℕ
+map_entry_now d s x = if s.entry_number == 0 then slice_index s.table (block_of d (trees_of d - 1) x) else s.held_entry
 
 -- the map entry that a block should have, given what its tree has for it
-abbrev pub name_of : Option Held → ℕ
-name_of o = option_map_or (λ h. h.leaf + 1) o 0
+abbrev pub map_entry_of : Option Held → ℕ
+map_entry_of o = option_map_or (λ h. h.leaf + 1) o 0

@@ -31,17 +31,23 @@ pub record AreFirstOf (all words : List ℕ) (past : List Step) : Type 0 where
   pub addresses_are : StartsWith all (addresses (accepted past))
   pub tape_is : StartsWith words (tape (accepted past))
 
--- Two runs on one device, under sealers with the same overhead, with the same notes. The commands of the first run
--- have the addresses a and the tape t. Those of the second have the addresses b, and t rearranged so that b shows the
--- paths of a.
-pub record AreTwoWorlds (v u : Setting) (events others : List Event) (xs ys : List Shown) (a b t q : List ℕ) : Type 0 where
-  pub device : u.scheme.device ≡ v.scheme.device
-  pub overhead : u.scheme.cipher.overhead ≡ v.scheme.cipher.overhead
-  pub notes : map (λ x. x.note) xs ≡ map (λ y. y.note) ys
-  pub words : length t ≡ tape_len v.scheme.device (length a)
-  pub alike : ShowsAlike v.scheme.device a b q
-  pub first : AreFirstOf a t (past_of [] events xs)
-  pub second : AreFirstOf b (rearranged_tape q t) (past_of [] others ys)
+-- one of two runs: what it runs on, its events, the reactions to them, and the addresses of its commands
+pub record OneRun : Type 0 where
+  pub setting : Setting
+  pub events : List Event
+  pub reactions : List Shown
+  pub addresses : List ℕ
+
+-- Two runs on one device, under sealers with the same overhead, with the same notes. The words are the tape of the
+-- first. The second has this tape rearranged, by q, so that its addresses show the paths of the first.
+pub record AreTwoWorlds (first second : OneRun) (words q : List ℕ) : Type 0 where
+  pub device : second.setting.scheme.device ≡ first.setting.scheme.device
+  pub overhead : second.setting.scheme.cipher.overhead ≡ first.setting.scheme.cipher.overhead
+  pub notes : map (λ x. x.note) first.reactions ≡ map (λ y. y.note) second.reactions
+  pub words_are : length words ≡ tape_len first.setting.scheme.device (length first.addresses)
+  pub alike : ShowsAlike first.setting.scheme.device first.addresses second.addresses q
+  pub first_is : AreFirstOf first.addresses words (past_of [] first.events first.reactions)
+  pub second_is : AreFirstOf second.addresses (rearranged_tape q words) (past_of [] second.events second.reactions)
 
 -- At each event, the messages sent in one run look like those sent in the other, until an answer shows two records
 -- with the same digest in either run.
@@ -55,5 +61,6 @@ RunsLookAlike v u past other events others xs ys = ⊥
 -- The messages of two right runs in two worlds differ at most in the bytes of records.
 abbrev pub TwoWorldsLookAlike : Type 0
 TwoWorldsLookAlike =
-    (v u : Setting) (events others : List Event) (xs ys : List Shown) (a b t q : List ℕ) → AreTwoWorlds v u events others xs ys a b t q
-    → AllRight v [] events xs → AllRight u [] others ys → RunsLookAlike v u [] [] events others xs ys
+    (first second : OneRun) (words q : List ℕ) → AreTwoWorlds first second words q
+    → AllRight first.setting [] first.events first.reactions → AllRight second.setting [] second.events second.reactions
+    → RunsLookAlike first.setting second.setting [] [] first.events second.events first.reactions second.reactions

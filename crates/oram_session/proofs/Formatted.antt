@@ -32,7 +32,7 @@ module _ {K L N : Type 0} (name : K → N) (held : K → L) (takes : L → List 
         | inl e ↦ (ap name e.1 ∙ both.0, record { taken = h.taken; begun = h.begun; mid = held h.mid; puts = both.1; ended = inl (e.0, ap held e.1) })
         | inr r ↦ (
           r.refused.0 ∙ both.0,
-          record { taken = h.taken; begun = h.begun; mid = held h.mid; puts = both.1; ended = inr (record { body = r.body; begun = r.begun; why = r.why; refused = r.refused.1; told = r.told }) },
+          record { taken = h.taken; begun = h.begun; mid = held h.mid; puts = both.1; ended = inr (record { body = r.body; begun = r.begun; why = r.why; refused = r.refused.1; reported = r.reported }) },
         )
       ]
 

@@ -128,8 +128,8 @@ among ns a r rising result =
     ])))
 
 -- of two lists, the blocks that stay
-pub settled : (own other kept after : List Block) (stays : List ℕ) → kept ≡ filter (λ b. list_any (λ s. eqb s b.address) stays) (own ++ other) → IsPermutation kept after → (c : Block) → Contains after c ↔ ((Contains own c ⊎ Contains other c) × Contains stays c.address)
-settled own other kept after stays is moved c =
+pub staying : (own other kept after : List Block) (stays : List ℕ) → kept ≡ filter (λ b. list_any (λ s. eqb s b.address) stays) (own ++ other) → IsPermutation kept after → (c : Block) → Contains after c ↔ ((Contains own c ⊎ Contains other c) × Contains stays c.address)
+staying own other kept after stays is moved c =
     let p : Block → Bool = λ (b : Block). list_any (λ s. eqb s b.address) stays in
     let P : List Block → Type 0 = λ xs. Contains xs c in (
       λ inside.
@@ -144,7 +144,7 @@ settled own other kept after stays is moved c =
       ))),
     )
 
-pub settled_apart : (own other kept : List Block) (stays : List ℕ) → kept ≡ filter (λ b. list_any (λ s. eqb s b.address) stays) (own ++ other) → IsRising own → IsRising other → ((c d : Block) → Contains own c → Contains other d → c.address ≢ d.address) → AreApart kept
-settled_apart own other kept stays is ro rt apart =
+pub staying_apart : (own other kept : List Block) (stays : List ℕ) → kept ≡ filter (λ b. list_any (λ s. eqb s b.address) stays) (own ++ other) → IsRising own → IsRising other → ((c d : Block) → Contains own c → Contains other d → c.address ≢ d.address) → AreApart kept
+staying_apart own other kept stays is ro rt apart =
     let p : Block → Bool = λ (b : Block). list_any (λ s. eqb s b.address) stays in
     subst AreApart (sym is) (AllPairs-filter (λ (b c : Block). b.address ≢ c.address) p (own ++ other) (AreApart-joined own other ro rt apart))

@@ -24,31 +24,31 @@ use Rattle.oram_state.proofs.Devices.{IsModeOf, both_true}
 use Rattle.oram_state.proofs.Whole.{MayTell, all_takes, all_again}
 use Rattle.oram_state.proofs.Written.{length-body}
 
-abbrev told_version : List ℕ → ℕ
-told_version text = from_be_bytes w32 (slice_range text 8 12)
+abbrev version_field : List ℕ → ℕ
+version_field text = from_be_bytes w32 (slice_range text 8 12)
 
-abbrev told_fields : List ℕ → List ℕ
-told_fields text = slice_range text 20 (length text - 32)
+abbrev fields_part : List ℕ → List ℕ
+fields_part text = slice_range text 20 (length text - 32)
 
 -- a text with this frame is a file
 framed : (text : List ℕ) → IsBytes text → codes "PATHORAM" ≡ take 8 text → 52 ≤ length text → from_be_bytes w64 (slice_range text 12 20) ≡ length text
-    → drop (length text - 32) text ≡ sha256 (take (length text - 32) text) → text ≡ with_digest (body (told_version text) (told_fields text))
-framed text bytes letters least told digest =
+    → drop (length text - 32) text ≡ sha256 (take (length text - 32) text) → text ≡ with_digest (body (version_field text) (fields_part text))
+framed text bytes letters least count_is digest =
     let n = length text in
-    let fields = told_fields text in
-    let version : short (told_version text) ≡ slice_range text 8 12 = is_short.back (slice_range text 8 12) (omega (arith, length-take 4 (drop 8 text), length-drop 8 text)) (IsBytes-take 4 (drop 8 text) (IsBytes-drop 8 text bytes)) in
-    let len : long n ≡ slice_range text 12 20 = ap long (sym told) ∙ is_long.back (slice_range text 12 20) (omega (arith, length-take 8 (drop 12 text), length-drop 12 text)) (IsBytes-take 8 (drop 12 text) (IsBytes-drop 12 text bytes)) in
+    let fields = fields_part text in
+    let version : short (version_field text) ≡ slice_range text 8 12 = is_short.back (slice_range text 8 12) (omega (arith, length-take 4 (drop 8 text), length-drop 8 text)) (IsBytes-take 4 (drop 8 text) (IsBytes-drop 8 text bytes)) in
+    let len : long n ≡ slice_range text 12 20 = ap long (sym count_is) ∙ is_long.back (slice_range text 12 20) (omega (arith, length-take 8 (drop 12 text), length-drop 12 text)) (IsBytes-take 8 (drop 12 text) (IsBytes-drop 12 text bytes)) in
     let count : n ≡ 52 + length fields = omega (arith, length-take (n - 32 - 20) (drop 20 text), length-drop 20 text) in
-    let whole : text ≡ codes "PATHORAM" ++ (short (told_version text) ++ (long n ++ (fields ++ drop (n - 32) text))) =
+    let whole : text ≡ codes "PATHORAM" ++ (short (version_field text) ++ (long n ++ (fields ++ drop (n - 32) text))) =
     sym (take-append-drop 8 text) ∙ ap (λ (x : List ℕ). x ++ drop 8 text) (sym letters)
     ∙ ap (λ (x : List ℕ). codes "PATHORAM" ++ x) (drop_split text 8 12 (omega arith) ∙ ap (λ (x : List ℕ). x ++ drop 12 text) (sym version)
-    ∙ ap (λ (x : List ℕ). short (told_version text) ++ x) (drop_split text 12 20 (omega arith) ∙ ap (λ (x : List ℕ). x ++ drop 20 text) (sym len)
+    ∙ ap (λ (x : List ℕ). short (version_field text) ++ x) (drop_split text 12 20 (omega arith) ∙ ap (λ (x : List ℕ). x ++ drop 20 text) (sym len)
     ∙ ap (λ (x : List ℕ). long n ++ x) (drop_split text 20 (n - 32) (omega (arith, least))))) in
-    let regrouped : text ≡ body (told_version text) fields ++ drop (n - 32) text =
-    whole ∙ regroup (short (told_version text)) (long n) fields (drop (n - 32) text) ∙ ap (λ (k : ℕ). (codes "PATHORAM" ++ short (told_version text) ++ long k ++ fields) ++ drop (n - 32) text) count in
-    let front : take (n - 32) text ≡ body (told_version text) fields =
-    ap (take (n - 32)) regrouped ∙ take_at (body (told_version text) fields) (drop (n - 32) text) (n - 32) (omega (arith, count, length-body (told_version text) fields)) in
-    regrouped ∙ ap (λ (x : List ℕ). body (told_version text) fields ++ x) (digest ∙ ap sha256 front)
+    let regrouped : text ≡ body (version_field text) fields ++ drop (n - 32) text =
+    whole ∙ regroup (short (version_field text)) (long n) fields (drop (n - 32) text) ∙ ap (λ (k : ℕ). (codes "PATHORAM" ++ short (version_field text) ++ long k ++ fields) ++ drop (n - 32) text) count in
+    let front : take (n - 32) text ≡ body (version_field text) fields =
+    ap (take (n - 32)) regrouped ∙ take_at (body (version_field text) fields) (drop (n - 32) text) (n - 32) (omega (arith, count, length-body (version_field text) fields)) in
+    regrouped ∙ ap (λ (x : List ℕ). body (version_field text) fields ++ x) (digest ∙ ap sha256 front)
   where
     regroup : (a b c e : List ℕ) → codes "PATHORAM" ++ (a ++ (b ++ (c ++ e))) ≡ (codes "PATHORAM" ++ a ++ b ++ c) ++ e
     regroup a b c e = simp append_assoc
@@ -68,12 +68,12 @@ fields_takes text h =
     let n = length text in
     then_ok _ _ (unless Magic (starts_with nat_eq text (codes "PATHORAM"))) _ (unless_ok Magic (starts_with nat_eq text (codes "PATHORAM"))) (λ _ letters.
     then_ok _ _ (unless Length (nat_le 12 n)) _ (unless_ok Length (nat_le 12 n)) (λ _ _.
-    then_ok _ _ (unless Version (told_version text == 1 || told_version text == 2)) _ (unless_ok Version (told_version text == 1 || told_version text == 2)) (λ _ version.
+    then_ok _ _ (unless Version (version_field text == 1 || version_field text == 2)) _ (unless_ok Version (version_field text == 1 || version_field text == 2)) (λ _ version.
     then_ok _ _ (unless Length (nat_le 52 n && from_be_bytes w64 (slice_range text 12 20) == n)) _ (unless_ok Length (nat_le 52 n && from_be_bytes w64 (slice_range text 12 20) == n)) (λ _ len.
     then_ok _ _ (unless Digest (ends_with_digest text)) _ (unless_ok Digest (ends_with_digest text)) (λ _ digest.
     let both = both_true (nat_le 52 n) (from_be_bytes w64 (slice_range text 12 20) == n) len in (
       framed text h (same_text (codes "PATHORAM") (take 8 text) (sym letters)) (leb-true 52 n both.0) (eqb-true _ n both.1) (same_text (drop (n - 32) text) (sha256 (take (n - 32) text)) (sym digest)),
-      known_of (told_version text) (told_version text == 1) (told_version text == 2) refl refl version,
+      known_of (version_field text) (version_field text == 1) (version_field text == 2) refl refl version,
       IsBytes-take (n - 32 - 20) (drop 20 text) (IsBytes-drop 20 text h),
     ))))))
 
@@ -87,7 +87,7 @@ known_test : (version : ℕ) → IsKnown version → (version == 1 || version ==
 known_test version (inl e) = rw e refl
 known_test version (inr e) = rw e refl
 
-version_again : (version : ℕ) (fields : List ℕ) → IsKnown version → told_version (with_digest (body version fields)) ≡ version
+version_again : (version : ℕ) (fields : List ℕ) → IsKnown version → version_field (with_digest (body version fields)) ≡ version
 unfolding short long
 version_again version fields (inl e) = is_short.again version (omega (arith, e))
 version_again version fields (inr e) = is_short.again version (omega (arith, e))
@@ -112,19 +112,19 @@ fields_again version fields is_known fits =
     let text = with_digest (body version fields) in
     let n : length text ≡ 52 + length fields = omega (arith, length-append (body version fields) (sha256 (body version fields)), length-sha256 (body version fields), length-body version fields) in
     let letters : starts_with nat_eq text (codes "PATHORAM") ≡ true = refl in
-    let told : told_version text ≡ version = version_again version fields is_known in
-    let tested : (told_version text == 1 || told_version text == 2) ≡ true = rw told (known_test version is_known) in
+    let version_is : version_field text ≡ version = version_again version fields is_known in
+    let tested : (version_field text == 1 || version_field text == 2) ≡ true = rw version_is (known_test version is_known) in
     let len : from_be_bytes w64 (slice_range text 12 20) ≡ length text = length_again version fields (omega (arith, n, fits)) ∙ sym n in
     let least : nat_le 52 (length text) ≡ true = le-leb 52 (length text) (omega (arith, n)) in
     let counted : (nat_le 52 (length text) && from_be_bytes w64 (slice_range text 12 20) == length text) ≡ true = rw (least, len) (same (length text)) in
     let digest : ends_with_digest text ≡ true = digest_again (body version fields) (length text - 32) (omega (arith, n, length-body version fields)) in
-    let rest : told_fields text ≡ fields = ap (take (length text - 32 - 20)) (after_head version fields) ∙ take_at fields (sha256 (body version fields)) (length text - 32 - 20) (omega (arith, n)) in
+    let rest : fields_part text ≡ fields = ap (take (length text - 32 - 20)) (after_head version fields) ∙ take_at fields (sha256 (body version fields)) (length text - 32 - 20) (omega (arith, n)) in
     passes Magic _ _ _ letters
     (passes Length _ _ _ (le-leb 12 (length text) (omega (arith, n)))
     (passes Version _ _ _ tested
     (passes Length _ _ _ counted
     (passes Digest _ _ _ digest
-    (ok_pair (told_version text) version (told_fields text) fields told rest)))))
+    (ok_pair (version_field text) version (fields_part text) fields version_is rest)))))
   where
     same : (k : ℕ) → (k == k) ≡ true
     same k = search rules

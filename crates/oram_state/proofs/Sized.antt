@@ -19,7 +19,7 @@ use Rattle.oram_semantics.specs.declared.events.Command.{Command}
 use Rattle.oram_semantics.specs.declared.events.Command.TheVariants.{Read, Write, Discard}
 use Rattle.oram_semantics.specs.declared.events.Reason.{Reason}
 use Rattle.oram_semantics.proofs.Bounds.{depth_small}
-use Rattle.oram_core.specs.Core.{AtWork, IsResting, most_named}
+use Rattle.oram_core.specs.Core.{AtWork, IsResting, most_map_entry}
 use Rattle.oram_core.specs.Validity.{AreTrees, IsFitting}
 use Rattle.oram_core.specs.Parts.{Parts, AreParts, parts_of, state_of, submission_at, submissions_from}
 use Rattle.oram_core.specs.declared.parts.Pending.{Pending}
@@ -114,10 +114,10 @@ most_by true last deep h = omega arith
 most_by false true deep h = omega arith
 most_by false false deep h = pow-le-pow_right (omega arith) h
 
-named_short : (d : Sizes) (n r : ℕ) → n ≤ most_named d r → IsShort n
-named_short d n r h =
+map_entry_short : (d : Sizes) (n r : ℕ) → n ≤ most_map_entry d r → IsShort n
+map_entry_short d n r h =
     let tree = entry_tree d (r + r % 2) in
-    below_most n (most_named d r) h (most_by (r == 0) (r + 1 == 2 * trees_of d) (depth_of d tree) (depth_small d tree))
+    below_most n (most_map_entry d r) h (most_by (r == 0) (r + 1 == 2 * trees_of d) (depth_of d tree) (depth_small d tree))
 
 work_by : (o : ℕ) (p : Parts) (t : ℕ) (xs : List Pending) → p.waiting ≡ xs → length p.waiting ≤ 64 → AllByRecursion (IsSizedPending p.device) p.waiting → IsShort (length p.message)
     → AtWork p.device o (state_of p) (submissions_from t xs) → IsWorkBy p.device None xs (work_of p) p.stalled
@@ -126,7 +126,7 @@ work_by o p t (x ∷ xs) is few commands message w = record {
   few = few;
   commands = commands;
   step = w.entry_number;
-  entry = named_short p.device p.held_entry p.entry_number w.held_entry;
+  entry = map_entry_short p.device p.held_entry p.entry_number w.held_entry;
   held = w.held_data;
   message = message;
 }
@@ -138,7 +138,7 @@ table_by o p None w = w.table.long
 table_by o p (Some e) w = ap length w.nothing.table
 
 entries_by : (o : ℕ) (p : Parts) (f : Option Reason) → IsFitting o p f → AllByRecursion IsShort p.table
-entries_by o p None w = shorts p.device (trees_of p.device - 1) p.table w.table.names
+entries_by o p None w = shorts p.device (trees_of p.device - 1) p.table w.table.map_entries
 entries_by o p (Some e) w = subst (AllByRecursion IsShort) (sym w.nothing.table) tt
 
 count_by : (o : ℕ) (p : Parts) (f : Option Reason) → IsFitting o p f → length p.trees ≡ tree_count p.device f
@@ -169,12 +169,12 @@ well_sized o p are fit =
 -- ---- the core that a file belongs to
 
 pub saved_as : (text : List ℕ) (o n : ℕ) (p : Parts) (d : Sizes) (s : State) → n ≡ o → p ≡ parts_of d s → state_of p ≡ s → AreParts o p → text ≡ state_file 2 n p → FitsFields p → IsSaved text o d s
-saved_as text o n p d s told same again are spelled fit =
+saved_as text o n p d s overhead_is same again are spelled fit =
     let small = are.sound.small in
     record {
       version = 2;
       parts = p;
-      file = record { version_known = inr refl; overhead_fits = omega (arith, small); sized = well_sized o p are fit; spelled = spelled ∙ ap (λ (k : ℕ). state_file 2 k p) told };
+      file = record { version_known = inr refl; overhead_fits = omega (arith, small); sized = well_sized o p are fit; spelled = spelled ∙ ap (λ (k : ℕ). state_file 2 k p) overhead_is };
       fits = are;
       device = ap (λ (q : Parts). q.device) (sym same);
       state = sym again;
@@ -184,12 +184,12 @@ saved_as text o n p d s told same again are spelled fit =
 pub read_as : (text : List ℕ) (o : ℕ) (d : Sizes) (s : State) → length text < 2 ^ 64 → (h : IsSaved text o d s) → state_in text ≡ Ok (record { overhead = o; parts = h.parts })
 read_as text o d s fits h = state_again text h.version o h.parts fits h.file
 
-told_alike : (read : Result Saved StateFault) (x y : Saved) → read ≡ Ok x → read ≡ Ok y → x ≡ y
-told_alike read x y h k = cc
+read_once : (read : Result Saved StateFault) (x y : Saved) → read ≡ Ok x → read ≡ Ok y → x ≡ y
+read_once read x y h k = cc
 
 pub one_core : (text : List ℕ) (o : ℕ) (d d' : Sizes) (s s' : State) → length text < 2 ^ 64 → IsSaved text o d s → IsSaved text o d' s' → (d ≡ d') × (s ≡ s')
 one_core text o d d' s s' fits h h' =
-    let same : h.parts ≡ h'.parts = ap (λ (x : Saved). x.parts) (told_alike (state_in text) _ _ (read_as text o d s fits h) (read_as text o d' s' fits h')) in (
+    let same : h.parts ≡ h'.parts = ap (λ (x : Saved). x.parts) (read_once (state_in text) _ _ (read_as text o d s fits h) (read_as text o d' s' fits h')) in (
       h.device ∙ ap (λ (p : Parts). p.device) same ∙ sym h'.device,
       h.state ∙ ap state_of same ∙ sym h'.state,
     )
@@ -197,11 +197,11 @@ one_core text o d d' s s' fits h h' =
 -- ---- the core that fields belong to
 
 pub fields_as : (text : List ℕ) (o n : ℕ) (p : Parts) (d : Sizes) (s : State) → n ≡ o → p ≡ parts_of d s → state_of p ≡ s → AreParts o p → text ≡ fields_text n p → FitsFields p → AreSavedFields text o d s
-fields_as text o n p d s told same again are spelled fit =
+fields_as text o n p d s overhead_is same again are spelled fit =
     let small = are.sound.small in
     record {
       parts = p;
-      fields = record { overhead_fits = omega (arith, small); sized = well_sized o p are fit; spelled = spelled ∙ ap (λ (k : ℕ). fields_text k p) told };
+      fields = record { overhead_fits = omega (arith, small); sized = well_sized o p are fit; spelled = spelled ∙ ap (λ (k : ℕ). fields_text k p) overhead_is };
       fits = are;
       device = ap (λ (q : Parts). q.device) (sym same);
       state = sym again;
@@ -209,7 +209,7 @@ fields_as text o n p d s told same again are spelled fit =
 
 pub one_core_bare : (text : List ℕ) (o : ℕ) (d d' : Sizes) (s s' : State) → AreSavedFields text o d s → AreSavedFields text o d' s' → (d ≡ d') × (s ≡ s')
 one_core_bare text o d d' s s' h h' =
-    let same : h.parts ≡ h'.parts = ap (λ (x : Saved). x.parts) (told_alike (saved_in 2 text) _ _ (fields_again_bare text o h.parts h.fields) (fields_again_bare text o h'.parts h'.fields)) in (
+    let same : h.parts ≡ h'.parts = ap (λ (x : Saved). x.parts) (read_once (saved_in 2 text) _ _ (fields_again_bare text o h.parts h.fields) (fields_again_bare text o h'.parts h'.fields)) in (
       h.device ∙ ap (λ (p : Parts). p.device) same ∙ sym h'.device,
       h.state ∙ ap state_of same ∙ sym h'.state,
     )

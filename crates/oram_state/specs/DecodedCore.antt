@@ -29,7 +29,7 @@ pub record AreSavedFields (text : List ℕ) (overhead : ℕ) (d : Sizes) (s : St
 -- the text can be read, but it has another overhead, or parts that can't be a core's
 pub record TellsOfNone (text : List ℕ) (overhead : ℕ) : Type 0 where
   pub saved : Saved
-  pub told : state_in text ≡ Ok saved
+  pub reads : state_in text ≡ Ok saved
   pub none : ¬ ((saved.overhead ≡ overhead) × AreParts overhead saved.parts)
 
 -- The first fault that reading meets. If reading meets none, but the parts can't be a core's, the fault is Content.

@@ -139,7 +139,7 @@ fn shown_places(
     let words = 2 * u64::from(device.trees());
     let offset = 2 * u64::from(tree);
     let mut last_uses = BTreeMap::new(alloc);
-    let mut shown = Vec::with_capacity(alloc, 2 * addresses.len())?;
+    let mut places = Vec::with_capacity(alloc, 2 * addresses.len())?;
     for (index, address) in addresses.iter().enumerate() {
         let ticket = index as u64;
         let block = device.address_in(tree, *address);
@@ -147,9 +147,9 @@ fn shown_places(
             Some(last) => words * last + offset + 1,
             None => words * ticket + offset,
         };
-        shown.push(place)?;
+        places.push(place)?;
     }
-    Ok(shown)
+    Ok(places)
 }
 
 /// Returns the places of a tree that aren't in `places`, rising. The tape has as many tickets as there are `places`.

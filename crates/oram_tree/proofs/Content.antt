@@ -22,7 +22,7 @@ pub put-same : (content : Map) (address a : ℕ) (e : Entry) → a ≡ address �
 put-same content address a e same = let t : nat_eq a address ≡ true = (Decides-eqb a address).1 same in rw t refl
 
 pub put-other : (content : Map) (address a : ℕ) (e : Entry) → a ≢ address → put content address e a ≡ content a
-put-other content address a e other = let t : nat_eq a address ≡ false = elim (eqb_tells a address) [ inl (told, same) ↦ absurd (other same) | inr (told, differs) ↦ told ] in rw t refl
+put-other content address a e other = let t : nat_eq a address ≡ false = elim (eqb_tells a address) [ inl (test, same) ↦ absurd (other same) | inr (test, differs) ↦ test ] in rw t refl
 
 pub node_within : (p : Path) (level : ℕ) → p.leaf < 2 ^ p.depth → level ≤ p.depth → node_at p level < node_count p.depth
 node_within p level fits h =
@@ -90,14 +90,14 @@ near_if_there reads x b address named e there =
     ]
 
 -- a lookup among the near blocks finds what the map has
-pub told_by : (reads : List ℕ → List Cell → Type 0) (x : Before) → IsBefore reads x → (address len : ℕ) (found : Bool) (before : List ℕ) → IsAtOrAbsent x.content address x.p.leaf
+pub reported_by : (reads : List ℕ → List Cell → Type 0) (x : Before) → IsBefore reads x → (address len : ℕ) (found : Bool) (before : List ℕ) → IsAtOrAbsent x.content address x.p.leaf
     → IsLookup (IsNear reads x.p x.stash) len address found before → (o : Option Entry) → x.content address ≡ o → (found ≡ is_some o) × (before ≡ content_or_zeros len o)
-told_by reads x b address len true before named looked o at =
+reported_by reads x b address len true before named looked o at =
     let there = looked.present refl in
     let entry : o ≡ Some (entry_of there.0) = sym at ∙ ap x.content (sym there.2) ∙ near_entry reads x b there.0 there.1 in
     rw entry (refl, sym there.3)
-told_by reads x b address len false before named looked None at = (refl, (looked.absent refl).1)
-told_by reads x b address len false before named looked (Some e) at =
+reported_by reads x b address len false before named looked None at = (refl, (looked.absent refl).1)
+reported_by reads x b address len false before named looked (Some e) at =
     let there = near_if_there reads x b address named e at in absurd ((looked.absent refl).0 there.0 there.1 there.2)
 
 -- an access

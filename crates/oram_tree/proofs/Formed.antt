@@ -65,7 +65,7 @@ child-left h k n =
 child-right : (h k n : ℕ) → (let s : Spot = record { height = suc h; start = k } in child s (2 * n + 2) ≡ record { height = h; start = k + node_count h })
 unfolding child
 child-right h k n =
-    let even : nat_eq ((2 * n + 2) % 2) 1 ≡ false = elim (eqb_tells ((2 * n + 2) % 2) 1) [ inl (told, same) ↦ absurd (omega arith) | inr (told, differs) ↦ told ] in
+    let even : nat_eq ((2 * n + 2) % 2) 1 ≡ false = elim (eqb_tells ((2 * n + 2) % 2) 1) [ inl (test, same) ↦ absurd (omega arith) | inr (test, differs) ↦ test ] in
     let e : suc h - 1 ≡ h = omega arith in
     rw (even, e) refl
 

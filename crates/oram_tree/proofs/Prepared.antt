@@ -51,28 +51,28 @@ looked_both reads p stash len address found before looked = go (block_at stash a
   where
     go : (o : Option Cell) → block_at stash address ≡ o → IsLookup (IsNear reads p stash) len address (is_some (block_at stash address) || found) (content_in stash address before)
     go (Some b) is =
-        let told = content_of_own stash address before b is in
+        let content_is = content_of_own stash address before b is in
         let yes : (is_some (block_at stash address) || found) ≡ true = ap (λ (o : Option Cell). is_some o || found) is in
         record {
-          present = λ _. (b, inl (block_at-contains stash address b is), block_at-address stash address b is, sym told);
+          present = λ _. (b, inl (block_at-contains stash address b is), block_at-address stash address b is, sym content_is);
           absent = λ no. absurd (let f : true ≡ false = sym yes ∙ no in cc);
         }
     go None is =
-        let told = content_of_other stash address before is in
+        let content_is = content_of_other stash address before is in
         let same : (is_some (block_at stash address) || found) ≡ found = ap (λ (o : Option Cell). is_some o || found) is in
         record {
-          present = λ e. let b = looked.present (sym same ∙ e) in (b.0, inr b.1, b.2, b.3 ∙ sym told);
-          absent = λ e. let n = looked.absent (sym same ∙ e) in (λ c near. elim near [ inl here ↦ block_at-none stash address c is here | inr there ↦ n.0 c there ], told ∙ n.1);
+          present = λ e. let b = looked.present (sym same ∙ e) in (b.0, inr b.1, b.2, b.3 ∙ sym content_is);
+          absent = λ e. let n = looked.absent (sym same ∙ e) in (λ c near. elim near [ inl here ↦ block_at-none stash address c is here | inr there ↦ n.0 c there ], content_is ∙ n.1);
         }
 
--- the settled stash is the rest of the eviction
-pub settled_rest : (stash near waiting rest settled : List Cell) (stays : List ℕ) (address : ℕ) → IsRising waiting → IsRising rest → IsRising settled → stays ≡ map (λ b. b.address) rest
+-- the blocks that remain in the stash are the rest of the eviction
+pub remaining_is_rest : (stash near waiting rest remaining : List Cell) (stays : List ℕ) (address : ℕ) → IsRising waiting → IsRising rest → IsRising remaining → stays ≡ map (λ b. b.address) rest
     → ((d : Cell) → Contains rest d → Contains waiting d)
     → ((d : Cell) → Contains waiting d ↔ ((Contains stash d × (d.address ≢ address)) ⊎ Contains near d))
-    → ((d : Cell) → Contains settled d ↔ (((Contains stash d × (d.address ≢ address)) ⊎ Contains near d) × Contains stays d.address)) → settled ≡ rest
-settled_rest stash near waiting rest settled stays address rising_all rising_rest rising_settled stays_are part both kept =
+    → ((d : Cell) → Contains remaining d ↔ (((Contains stash d × (d.address ≢ address)) ⊎ Contains near d) × Contains stays d.address)) → remaining ≡ rest
+remaining_is_rest stash near waiting rest remaining stays address rising_all rising_rest rising_remaining stays_are part both kept =
     let address_of : Cell → ℕ = λ (b : Cell). b.address in
-    same_rising settled rest rising_settled rising_rest
+    same_rising remaining rest rising_remaining rising_rest
     (λ d inside.
     let k = (kept d).0 inside in
     let P : List ℕ → Type 0 = λ ns. Contains ns d.address in
@@ -115,10 +115,10 @@ lists_buckets s i depth leaf waiting vs rest e all k v lt =
     subst P (get_or-map (λ (v : Vec (Bor Cell) Global). map (λ (b : Bor Cell). b.now) v.items) vs k v [] lt) (list_is_bucket s i depth leaf waiting (lent vs) rest e all k)
 
 -- the same lookup under other names
-pub same_lookup : (near : Cell → Type 0) (len address : ℕ) (found told : Bool) (before data_told : List ℕ) → told ≡ found → data_told ≡ before → IsLookup near len address found before → IsLookup near len address told data_told
-same_lookup near len address found told before data_told same same_data looked =
+pub same_lookup : (near : Cell → Type 0) (len address : ℕ) (found reported : Bool) (before data_reported : List ℕ) → reported ≡ found → data_reported ≡ before → IsLookup near len address found before → IsLookup near len address reported data_reported
+same_lookup near len address found reported before data_reported same same_data looked =
     let P : Bool → Type 0 = λ f. IsLookup near len address f before in
-    let Q : List ℕ → Type 0 = λ b. IsLookup near len address told b in
+    let Q : List ℕ → Type 0 = λ b. IsLookup near len address reported b in
     subst Q (sym same_data) (subst P (sym same) looked)
 
 -- a block of the rest waited

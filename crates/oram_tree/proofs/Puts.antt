@@ -50,7 +50,7 @@ pub stands_still : {K : Type 0} (putting : K → List ℕ → K → Type 0) (ref
 stands_still putting refusing Begins from to fault begun memory same = record { taken = []; begun = begun; mid = from; puts = refl; ended = inl (memory, same) }
 
 pub refused_first : {K : Type 0} (putting : K → List ℕ → K → Type 0) (refusing : K → List ℕ → SinkFault → K → Type 0) (Begins : List (List ℕ) → Type 0) (from to : K) (fault : FormatFault) (body : List ℕ) (why : SinkFault) → Begins [] → Begins (body ∷ []) → refusing from body why to → fault ≡ format_fault why → IsBrokenOff putting refusing Begins from fault to
-refused_first putting refusing Begins from to fault body why begun next refused told = record { taken = []; begun = begun; mid = from; puts = refl; ended = inr (record { body = body; begun = next; why = why; refused = refused; told = told }) }
+refused_first putting refusing Begins from to fault body why begun next refused reported = record { taken = []; begun = begun; mid = from; puts = refl; ended = inr (record { body = body; begun = next; why = why; refused = refused; reported = reported }) }
 
 pub broken_after : {K : Type 0} (putting : K → List ℕ → K → Type 0) (refusing : K → List ℕ → SinkFault → K → Type 0) (P Q : List (List ℕ) → Type 0) (from next to : K) (fault : FormatFault) (bs : List (List ℕ)) → ((xs : List (List ℕ)) → P xs → Q (bs ++ xs)) → PutsAll putting from bs next → IsBrokenOff putting refusing P next fault to → IsBrokenOff putting refusing Q from fault to
 broken_after putting refusing P Q from next to fault bs on before b = record {
@@ -60,7 +60,7 @@ broken_after putting refusing P Q from next to fault bs on before b = record {
   puts = PutsAll-append putting from next b.mid bs b.taken before b.puts;
   ended = elim b.ended [
     | inl own ↦ inl own
-    | inr r ↦ inr (record { body = r.body; begun = subst Q (sym (append_assoc bs b.taken (r.body ∷ []))) (on (b.taken ++ r.body ∷ []) r.begun); why = r.why; refused = r.refused; told = r.told })
+    | inr r ↦ inr (record { body = r.body; begun = subst Q (sym (append_assoc bs b.taken (r.body ∷ []))) (on (b.taken ++ r.body ∷ []) r.begun); why = r.why; refused = r.refused; reported = r.reported })
   ];
 }
 
@@ -100,8 +100,8 @@ puts-inner putting from left right to seal tree (suc h) k n b r some below first
     (PutsAll-append putting from left right (puts seal tree h k (2 * n + 1)) (puts seal tree h (k + node_count h) (2 * n + 2)) (subst P e first) (subst R b_is (subst Q e second)))
     (to, subst D record_is done, refl)
 
-pub broken_told : {K : Type 0} (putting : K → List ℕ → K → Type 0) (refusing : K → List ℕ → SinkFault → K → Type 0) (Begins : List (List ℕ) → Type 0) (from to : K) (fault why : FormatFault) → fault ≡ why → IsBrokenOff putting refusing Begins from why to → IsBrokenOff putting refusing Begins from fault to
-broken_told putting refusing Begins from to fault why same b = subst (λ (f : FormatFault). IsBrokenOff putting refusing Begins from f to) (sym same) b
+pub broken_with : {K : Type 0} (putting : K → List ℕ → K → Type 0) (refusing : K → List ℕ → SinkFault → K → Type 0) (Begins : List (List ℕ) → Type 0) (from to : K) (fault why : FormatFault) → fault ≡ why → IsBrokenOff putting refusing Begins from why to → IsBrokenOff putting refusing Begins from fault to
+broken_with putting refusing Begins from to fault why same b = subst (λ (f : FormatFault). IsBrokenOff putting refusing Begins from f to) (sym same) b
 
 -- beginnings of a subtree's PUTs
 

@@ -14,7 +14,8 @@ use Rattle.oram_hash.specs.Record.{sealed_part}
 use Rattle.oram_hash.specs.Tree.{IsPathOf}
 use Rattle.oram_hash.specs.Rebuild.{StandsRebuilt}
 use Rattle.oram_bucket.specs.Cell.{Cell, IsRising}
-use Rattle.oram_bucket.specs.Bucket.{IsBlockOf, IsBucketOf, spelling}
+use Rattle.oram_bucket.specs.Bucket.{IsBlockOf, IsBucketOf}
+use Rattle.oram_bucket.specs.Cipher.{Cipher}
 use Rattle.oram_bucket.specs.SealedBlocks.{Reads}
 use Rattle.oram_stash.specs.Blocks.{block_at}
 use Rattle.oram_stash.specs.Eviction.{IsEviction, listed, all_listed}
@@ -27,8 +28,8 @@ use Rattle.oram_tree.specs.declared.faults.TreeFault.TheVariants.{Unreadable, Ou
 use Rattle.oram_tree.specs.Content.{Map, HasContent}
 use Rattle.oram_tree.specs.State.{State, IsStoredWith}
 use Rattle.oram_tree.specs.Edits.{edited_content, edited_block, with_entry, IsEditOf, HasRoomFor}
-use Rattle.oram_tree.specs.Access.{IsAtOrAbsent, IsNear, IsReadable, IsLookup, IsWaiting, content_in, IsRewritten, IsUpdate, part_at}
-use Rattle.oram_tree.proofs.Content.{reads_uniquely, Before, IsBefore, After, is_readable, told_by, access_content}
+use Rattle.oram_tree.specs.Access.{IsAtOrAbsent, IsNear, IsReadable, IsLookup, IsWaiting, Rewriting, content_in, IsRewritten, IsUpdate, part_at, reads_in, sealed_at}
+use Rattle.oram_tree.proofs.Content.{reads_uniquely, Before, IsBefore, After, is_readable, reported_by, access_content}
 use Rattle.oram_tree.proofs.Evicted.{evicted}
 use Rattle.oram_tree.proofs.Gathered.{found_at}
 
@@ -108,13 +109,13 @@ pub rest_blocks : (s : Sizes) (i depth leaf : ℕ) (waiting : List Cell) (lists 
 rest_blocks s i depth leaf waiting lists rest e blocks = All-of_rest (IsBlockOf s i) lists rest (All-permutation (IsBlockOf s i) waiting (all_listed lists ++ rest) e.placement.each_once blocks)
 
 -- the lists, sealed and written to the path
-pub rewritten : (opening : List ℕ → Option (List ℕ)) (sealing : ℕ → List ℕ → List ℕ) (s : Sizes) (i nonce depth leaf : ℕ) (p q : Path) (stash waiting : List Cell) (c : Cell) (lists : List (List Cell)) (rest : List Cell) (parts : List (List ℕ))
-    → p.depth ≡ depth → p.leaf ≡ leaf → IsRising waiting → IsWaiting (IsNear (Reads opening s i) p stash) c waiting → IsEviction depth s.slots leaf waiting lists rest
-    → ((level : ℕ) → level ≤ p.depth → sealed_part (record_at q level) ≡ part_at parts level)
-    → ((level : ℕ) → level < length lists → part_at parts level ≡ sealing (nonce + level) (spelling s (listed lists level)))
-    → ((level : ℕ) → level < length lists → Reads opening s i (part_at parts level) (listed lists level))
-    → IsRewritten (Reads opening s i) sealing s nonce p stash q c rest
-rewritten opening sealing s i nonce depth leaf p q stash waiting c lists rest parts depth_is leaf_is rising waits e written exact opens =
+pub rewritten : (w : Rewriting) (depth leaf : ℕ) (q : Path) (stash waiting : List Cell) (c : Cell) (lists : List (List Cell)) (rest : List Cell) (parts : List (List ℕ))
+    → w.path.depth ≡ depth → w.path.leaf ≡ leaf → IsRising waiting → IsWaiting (IsNear (reads_in w) w.path stash) c waiting → IsEviction depth w.device.slots leaf waiting lists rest
+    → ((level : ℕ) → level ≤ w.path.depth → sealed_part (record_at q level) ≡ part_at parts level)
+    → ((level : ℕ) → level < length lists → part_at parts level ≡ sealed_at w level (listed lists level))
+    → ((level : ℕ) → level < length lists → reads_in w (part_at parts level) (listed lists level))
+    → IsRewritten w stash q c rest
+rewritten w depth leaf q stash waiting c lists rest parts depth_is leaf_is rising waits e written exact opens =
     record {
       waiting = waiting;
       lists = lists;
@@ -122,7 +123,7 @@ rewritten opening sealing s i nonce depth leaf p q stash waiting c lists rest pa
       waits = waits;
       evicted = rw (depth_is, leaf_is) e;
       sealed = λ level h. written level h ∙ exact level (omega (arith, e.placement.levels));
-      read_back = λ level h. let P : List ℕ → Type 0 = λ part. Reads opening s i part (listed lists level) in subst P (sym (written level h)) (opens level (omega (arith, e.placement.levels)));
+      read_back = λ level h. let P : List ℕ → Type 0 = λ part. reads_in w part (listed lists level) in subst P (sym (written level h)) (opens level (omega (arith, e.placement.levels)));
     }
 
 -- a stored tree, with the depth and the lengths of a path
@@ -157,22 +158,24 @@ readable_before opening overhead leaf d p t records content e fits stored path =
     (λ i k ih kh same. node_on-injective p.depth p.leaf i k ih kh same)
 
 -- what an access does to the map
-pub updated : (opening : List ℕ → Option (List ℕ)) (sealing : ℕ → List ℕ → List ℕ) (overhead nonce leaf : ℕ) (d : Sizes) (p : Path) (bytes : List ℕ) (t : State) (root : List ℕ) (rest : List Cell)
-    (records : ℕ → List ℕ) (content : Map) (c : Cell) (found : Bool) (before : List ℕ) → IsDevice d → p ≡ path_of d t.number leaf overhead p.bytes → leaf < 2 ^ depth_of d t.number
-    → IsStoredWith opening overhead d t records content → IsPathOf records p → IsAtOrAbsent content c.address leaf
-    → IsLookup (IsNear (Reads opening d t.number) p t.stash) d.block_bytes c.address found before
-    → IsRewritten (Reads opening d t.number) sealing d nonce p t.stash (with_bytes p bytes) c rest → StandsRebuilt p bytes root
-    → (let after : State = record { number = t.number; root = root; stash = rest } in IsUpdate opening overhead d p (with_bytes p bytes) records content c found before after)
-updated opening sealing overhead nonce leaf d p bytes t root rest records content c found before of e fits stored path named looked w stands =
+pub updated : (cipher : Cipher) (nonce leaf : ℕ) (d : Sizes) (p : Path) (bytes : List ℕ) (t : State) (root : List ℕ) (rest : List Cell)
+    (records : ℕ → List ℕ) (content : Map) (c : Cell) (found : Bool) (before : List ℕ) → IsDevice d → p ≡ path_of d t.number leaf cipher.overhead p.bytes → leaf < 2 ^ depth_of d t.number
+    → IsStoredWith cipher.opening cipher.overhead d t records content → IsPathOf records p → IsAtOrAbsent content c.address leaf
+    → IsLookup (IsNear (Reads cipher.opening d t.number) p t.stash) d.block_bytes c.address found before
+    → IsRewritten (record { device = d; tree = t.number; cipher = cipher; path = p; nonce = nonce }) t.stash (with_bytes p bytes) c rest → StandsRebuilt p bytes root
+    → (let after : State = record { number = t.number; root = root; stash = rest } in IsUpdate cipher.opening cipher.overhead d p (with_bytes p bytes) records content c found before after)
+updated cipher nonce leaf d p bytes t root rest records content c found before of e fits stored path named looked w stands =
+    let opening = cipher.opening in
+    let overhead = cipher.overhead in
     let reads = Reads opening d t.number in
     let in_tree = path_in p d t.number overhead leaf e fits in
     let named_here : IsAtOrAbsent content c.address p.leaf = λ entry there. named entry there ∙ sym in_tree.leaf_is in
     let x : Before = record { p = p; old = records; stash = t.stash; content = content } in
     let b : IsBefore reads x = record { fits = in_tree.fits; held = held_by opening overhead leaf d p t records content in_tree stored; path = path } in
-    let told = told_by reads x b c.address d.block_bytes found before named_here looked (content c.address) refl in
+    let reported = reported_by reads x b c.address d.block_bytes found before named_here looked (content c.address) refl in
     record {
-      told = told.0;
-      data_told = told.1;
+      reported = reported.0;
+      data_reported = reported.1;
       updated = λ new replaced.
           let y : After = record { q = with_bytes p bytes; new = new; c = c; waiting = w.waiting; lists = w.lists; rest = rest } in
           let held = access_content reads x y (reads_uniquely opening d t.number of) b (record {

@@ -4,14 +4,12 @@ use Rattle.std.proofs.lemmas.Bool.{cases_eq}
 use Rattle.std.proofs.lemmas.List.{append-nil, get_or-map, get_or_push, get_or_append_left, length_push, length-append, take_all, drop_all, with_items_is}
 use Rattle.std.proofs.Math.Seq.{take-append_seam, drop-append_seam}
 use Rattle.std.proofs.lemmas.List.Elements.{All-push}
-use Rattle.oram_geometry.specs.declared.Sizes.{Sizes}
-use Rattle.oram_hash.specs.Path.{Path, digests_at}
+use Rattle.oram_hash.specs.Path.{digests_at}
 use Rattle.oram_hash.specs.Rebuild.{IsJoined, IsRebuilt, StandsRebuilt, joined_from}
 use Rattle.oram_hash.proofs.Joins.{joined_more}
 use Rattle.oram_bucket.specs.Cell.{Cell}
-use Rattle.oram_bucket.specs.Bucket.{spelling}
 use Rattle.oram_stash.specs.Eviction.{listed}
-use Rattle.oram_tree.specs.Access.{IsSealedTo, IsAppended, part_at}
+use Rattle.oram_tree.specs.Access.{Rewriting, IsSealedTo, IsAppended, part_at, reads_in, sealed_at}
 
 -- the blocks that the lists borrow
 abbrev pub lent : List (Vec (Bor Cell) Global) → List (List Cell)
@@ -30,8 +28,8 @@ at_more P parts part n long before here k lt = elim (cases_eq k n) [
   | inr other ↦ subst (P k) (sym (get_or_append_left parts (part ∷ []) [] k (omega arith))) (before k (omega arith))
 ]
 
-pub sealed_none : (reads : List ℕ → List Cell → Type 0) (sealing : ℕ → List ℕ → List ℕ) (d : Sizes) (nonce : ℕ) (p : Path) (lists : List (List Cell)) (old : List ℕ) → IsSealedTo reads sealing d nonce p lists 0 old old
-sealed_none reads sealing d nonce p lists old = record {
+pub sealed_none : (w : Rewriting) (lists : List (List Cell)) (old : List ℕ) → IsSealedTo w lists 0 old old
+sealed_none w lists old = record {
   parts = [];
   count = refl;
   lengths = λ k part lt. absurd (omega arith);
@@ -40,21 +38,21 @@ sealed_none reads sealing d nonce p lists old = record {
   read_back = λ level lt. absurd (omega arith);
 }
 
-pub sealed_more : (reads : List ℕ → List Cell → Type 0) (sealing : ℕ → List ℕ → List ℕ) (d : Sizes) (nonce : ℕ) (p : Path) (lists : List (List Cell)) (level : ℕ) (old mid after now part : List ℕ)
-    → IsSealedTo reads sealing d nonce p lists level old mid → length part + 64 ≡ p.record_len → after ≡ mid ++ part → now ≡ after ++ digests_at p level
-    → part ≡ sealing (nonce + level) (spelling d (listed lists level)) → reads part (listed lists level) → IsSealedTo reads sealing d nonce p lists (level + 1) old now
-sealed_more reads sealing d nonce p lists level old mid after now part s long first second is read =
-    let so_far = joined_from p 0 s.parts in
-    let digests = digests_at p level in
+pub sealed_more : (w : Rewriting) (lists : List (List Cell)) (level : ℕ) (old mid after now part : List ℕ)
+    → IsSealedTo w lists level old mid → length part + 64 ≡ w.path.record_len → after ≡ mid ++ part → now ≡ after ++ digests_at w.path level
+    → part ≡ sealed_at w level (listed lists level) → reads_in w part (listed lists level) → IsSealedTo w lists (level + 1) old now
+sealed_more w lists level old mid after now part s long first second is read =
+    let so_far = joined_from w.path 0 s.parts in
+    let digests = digests_at w.path level in
     let here : level ≡ 0 + length s.parts = omega (arith, s.count) in
     record {
       parts = s.parts ++ part ∷ [];
       count = length_push s.parts part ∙ ap (λ (n : ℕ). n + 1) s.count;
-      lengths = All-push (λ (x : List ℕ). length x + 64 ≡ p.record_len) s.parts part s.lengths long;
+      lengths = All-push (λ (x : List ℕ). length x + 64 ≡ w.path.record_len) s.parts part s.lengths long;
       gained = second ∙ ap (λ xs. xs ++ digests) (first ∙ ap (λ xs. xs ++ part) s.gained ∙ append_assoc old so_far part) ∙ append_assoc old (so_far ++ part) digests
-          ∙ ap (λ xs. old ++ xs) (ap (λ (l : ℕ). so_far ++ part ++ digests_at p l) here ∙ sym (joined_more p 0 s.parts part));
-      sealed = at_more (λ k x. x ≡ sealing (nonce + k) (spelling d (listed lists k))) s.parts part level s.count s.sealed is;
-      read_back = at_more (λ k x. reads x (listed lists k)) s.parts part level s.count s.read_back read;
+          ∙ ap (λ xs. old ++ xs) (ap (λ (l : ℕ). so_far ++ part ++ digests_at w.path l) here ∙ sym (joined_more w.path 0 s.parts part));
+      sealed = at_more (λ k x. x ≡ sealed_at w k (listed lists k)) s.parts part level s.count s.sealed is;
+      read_back = at_more (λ k x. reads_in w x (listed lists k)) s.parts part level s.count s.read_back read;
     }
 
 -- a vector that is cut to its old length
@@ -79,14 +77,14 @@ written_back v old gained now new n k items now_is long rest kept =
     let put : xs ≡ old ++ new = ap (λ ys. ys ++ (new ++ drop k (drop n now))) (cut_back old now gained n long is) ∙ ap (λ ys. old ++ ys) (ap (λ ys. new ++ ys) none ∙ append-nil new) in
     with_items_is v xs (omega (arith, ap length put, length-append old new, length-append old gained, ap length items, v.ok.0, ap length part, kept)) ∙ put
 
-pub joined_whole : (reads : List ℕ → List Cell → Type 0) (sealing : ℕ → List ℕ → List ℕ) (d : Sizes) (nonce : ℕ) (p : Path) (lists : List (List Cell)) (levels : ℕ) (old now part : List ℕ)
-    → (s : IsSealedTo reads sealing d nonce p lists levels old now) → levels ≡ p.depth + 1 → part ≡ joined_from p 0 s.parts → IsJoined p s.parts part
-joined_whole reads sealing d nonce p lists levels old now part s whole is = record { levels = s.count ∙ whole; lengths = s.lengths; joined = is }
+pub joined_whole : (w : Rewriting) (lists : List (List Cell)) (levels : ℕ) (old now part : List ℕ)
+    → (s : IsSealedTo w lists levels old now) → levels ≡ w.path.depth + 1 → part ≡ joined_from w.path 0 s.parts → IsJoined w.path s.parts part
+joined_whole w lists levels old now part s whole is = record { levels = s.count ∙ whole; lengths = s.lengths; joined = is }
 
-pub appended : (reads : List ℕ → List Cell → Type 0) (sealing : ℕ → List ℕ → List ℕ) (d : Sizes) (nonce : ℕ) (p : Path) (lists : List (List Cell)) (levels : ℕ) (old mid now records root : List ℕ)
-    → (s : IsSealedTo reads sealing d nonce p lists levels old mid) → levels ≡ p.depth + 1 → now ≡ old ++ records → IsRebuilt p s.parts records root → StandsRebuilt p records root
-    → IsAppended reads sealing d nonce p lists old now root
-appended reads sealing d nonce p lists levels old mid now records root s whole gained rebuilt stands = record {
+pub appended : (w : Rewriting) (lists : List (List Cell)) (levels : ℕ) (old mid now records root : List ℕ)
+    → (s : IsSealedTo w lists levels old mid) → levels ≡ w.path.depth + 1 → now ≡ old ++ records → IsRebuilt w.path s.parts records root → StandsRebuilt w.path records root
+    → IsAppended w lists old now root
+appended w lists levels old mid now records root s whole gained rebuilt stands = record {
   records = records;
   gained = gained;
   parts = s.parts;

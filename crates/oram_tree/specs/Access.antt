@@ -8,6 +8,8 @@ use Rattle.oram_hash.specs.Rebuild.{joined_from, IsRebuilt, StandsRebuilt}
 use Rattle.oram_hash.specs.Tree.{IsReplaced}
 use Rattle.oram_bucket.specs.Cell.{Cell, IsRising}
 use Rattle.oram_bucket.specs.Bucket.{spelling}
+use Rattle.oram_bucket.specs.Cipher.{Cipher}
+use Rattle.oram_bucket.specs.SealedBlocks.{Reads}
 use Rattle.oram_stash.specs.Blocks.{block_at}
 use Rattle.oram_stash.specs.Eviction.{IsEviction, listed}
 use Rattle.oram_tree.specs.Content.{Map, Entry, entry_of, Holds, put}
@@ -55,60 +57,80 @@ content_in stash address other = option_map_or (λ c. c.content) (block_at stash
 abbrev pub IsWaiting : (Cell → Type 0) → Cell → List Cell → Type 0
 IsWaiting near c waiting = (d : Cell) → Contains waiting d ↔ ((d ≡ c) ⊎ (near d × (d.address ≢ c.address)))
 
+-- what an access writes: new records for this path of a tree, their buckets sealed under rising nonces from `nonce` on
+pub record Rewriting : Type 0 where
+  pub device : Sizes
+  pub tree : ℕ
+  pub cipher : Cipher
+  pub path : Path
+  pub nonce : ℕ
+
+-- relates a sealed bucket of the tree to its blocks
+abbrev pub reads_in : Rewriting → List ℕ → List Cell → Type 0
+reads_in w = Reads w.cipher.opening w.device w.tree
+
+-- the bucket with these blocks, as it is sealed at this level
+abbrev pub sealed_at : Rewriting → ℕ → List Cell → List ℕ
+sealed_at w level cells = w.cipher.sealing (w.nonce + level) (spelling w.device cells)
+
 -- `now` is `old` followed by the records of the path's first `levels` levels, not linked yet: each is the sealed bucket
--- of its level's list, under the next nonce, and then the path's digests; each bucket reads back as its list
-pub record IsSealedTo (reads : List ℕ → List Cell → Type 0) (sealing : ℕ → List ℕ → List ℕ) (d : Sizes) (nonce : ℕ)
-    (p : Path) (lists : List (List Cell)) (levels : ℕ) (old now : List ℕ) : Type 0 where
+-- of its level's list, and then the path's digests; each bucket reads back as its list
+pub record IsSealedTo (w : Rewriting) (lists : List (List Cell)) (levels : ℕ) (old now : List ℕ) : Type 0 where
   pub parts : List (List ℕ)
   pub count : length parts ≡ levels
-  pub lengths : All (λ part. length part + 64 ≡ p.record_len) parts
-  pub gained : now ≡ old ++ joined_from p 0 parts
-  pub sealed : (level : ℕ) → level < levels → part_at parts level ≡ sealing (nonce + level) (spelling d (listed lists level))
-  pub read_back : (level : ℕ) → level < levels → reads (part_at parts level) (listed lists level)
+  pub lengths : All (λ part. length part + 64 ≡ w.path.record_len) parts
+  pub gained : now ≡ old ++ joined_from w.path 0 parts
+  pub sealed : (level : ℕ) → level < levels → part_at parts level ≡ sealed_at w level (listed lists level)
+  pub read_back : (level : ℕ) → level < levels → reads_in w (part_at parts level) (listed lists level)
 
 -- `now` is `old` followed by the path's new records, which have the lists as their buckets and are linked; `root` is the
 -- new root digest
-pub record IsAppended (reads : List ℕ → List Cell → Type 0) (sealing : ℕ → List ℕ → List ℕ) (d : Sizes) (nonce : ℕ)
-    (p : Path) (lists : List (List Cell)) (old now root : List ℕ) : Type 0 where
+pub record IsAppended (w : Rewriting) (lists : List (List Cell)) (old now root : List ℕ) : Type 0 where
   pub records : List ℕ
   pub gained : now ≡ old ++ records
   pub parts : List (List ℕ)
-  pub rebuilt : IsRebuilt p parts records root
-  pub stands : StandsRebuilt p records root
-  pub sealed : (level : ℕ) → level ≤ p.depth → part_at parts level ≡ sealing (nonce + level) (spelling d (listed lists level))
-  pub read_back : (level : ℕ) → level ≤ p.depth → reads (part_at parts level) (listed lists level)
+  pub rebuilt : IsRebuilt w.path parts records root
+  pub stands : StandsRebuilt w.path records root
+  pub sealed : (level : ℕ) → level ≤ w.path.depth → part_at parts level ≡ sealed_at w level (listed lists level)
+  pub read_back : (level : ℕ) → level ≤ w.path.depth → reads_in w (part_at parts level) (listed lists level)
 
--- the waiting blocks have been evicted to the path, and its new records are written; the waiting blocks are those of the
--- stash, except the one with the accessed block's address, and those of `near`; `stays` has the addresses of the rest
-pub record IsPrepared (reads : List ℕ → List Cell → Type 0) (sealing : ℕ → List ℕ → List ℕ) (d : Sizes) (nonce : ℕ)
-    (p : Path) (stash : List Cell) (c : Cell) (near : List Cell) (stays old now root : List ℕ) : Type 0 where
+-- what an access has prepared, before it changes the tree
+pub record Preparation : Type 0 where
+  pub near : List Cell  -- the path's blocks and the accessed block, as changed
+  pub stays : List ℕ  -- the addresses of the blocks that stay in the stash
+  pub old : List ℕ  -- the bytes to which the new records were appended
+  pub now : List ℕ  -- those bytes and the new records
+  pub root : List ℕ  -- the new root digest
+
+-- The waiting blocks have been evicted to the path, and its new records are written. The waiting blocks are those of the
+-- stash, except the one with the address of the accessed block c, and those of `near`.
+pub record IsPrepared (w : Rewriting) (stash : List Cell) (c : Cell) (p : Preparation) : Type 0 where
   pub waiting : List Cell
   pub lists : List (List Cell)
   pub rest : List Cell
   pub rising : IsRising waiting
-  pub waits : IsWaiting (IsNear reads p stash) c waiting
-  pub from_both : (d : Cell) → Contains waiting d ↔ ((Contains stash d × (d.address ≢ c.address)) ⊎ Contains near d)
-  pub evicted : IsEviction p.depth d.slots p.leaf waiting lists rest
-  pub stays_are : stays ≡ map (λ b. b.address) rest
-  pub appended : IsAppended reads sealing d nonce p lists old now root
+  pub waits : IsWaiting (IsNear (reads_in w) w.path stash) c waiting
+  pub from_both : (d : Cell) → Contains waiting d ↔ ((Contains stash d × (d.address ≢ c.address)) ⊎ Contains p.near d)
+  pub evicted : IsEviction w.path.depth w.device.slots w.path.leaf waiting lists rest
+  pub stays_are : p.stays ≡ map (λ b. b.address) rest
+  pub appended : IsAppended w lists p.old p.now p.root
 
--- the waiting blocks have been evicted to the path p; the buckets of its new records q are the lists, sealed under
--- rising nonces, and read back as the lists
-pub record IsRewritten (reads : List ℕ → List Cell → Type 0) (sealing : ℕ → List ℕ → List ℕ) (d : Sizes) (nonce : ℕ)
-    (p : Path) (stash : List Cell) (q : Path) (c : Cell) (rest : List Cell) : Type 0 where
+-- The waiting blocks have been evicted to the path; q is the path with its new records. Their buckets are the lists, and
+-- read back as the lists.
+pub record IsRewritten (w : Rewriting) (stash : List Cell) (q : Path) (c : Cell) (rest : List Cell) : Type 0 where
   pub waiting : List Cell
   pub lists : List (List Cell)
   pub rising : IsRising waiting
-  pub waits : IsWaiting (IsNear reads p stash) c waiting
-  pub evicted : IsEviction p.depth d.slots p.leaf waiting lists rest
-  pub sealed : (level : ℕ) → level ≤ p.depth → sealed_part (record_at q level) ≡ sealing (nonce + level) (spelling d (listed lists level))
-  pub read_back : (level : ℕ) → level ≤ p.depth → reads (sealed_part (record_at q level)) (listed lists level)
+  pub waits : IsWaiting (IsNear (reads_in w) w.path stash) c waiting
+  pub evicted : IsEviction w.path.depth w.device.slots w.path.leaf waiting lists rest
+  pub sealed : (level : ℕ) → level ≤ w.path.depth → sealed_part (record_at q level) ≡ sealed_at w level (listed lists level)
+  pub read_back : (level : ℕ) → level ≤ w.path.depth → reads_in w (sealed_part (record_at q level)) (listed lists level)
 
 -- the access reports the map's data at the block's address; and once the path's new records q replace those of p, the
 -- records are stored under the new tree and hold the same map, except at this address
 pub record IsUpdate (opening : List ℕ → Option (List ℕ)) (overhead : ℕ) (d : Sizes)
     (p q : Path) (records : ℕ → List ℕ) (content : Map)
     (c : Cell) (found : Bool) (before : List ℕ) (t : State) : Type 0 where
-  pub told : found ≡ is_some (content c.address)
-  pub data_told : before ≡ content_or_zeros d.block_bytes (content c.address)
+  pub reported : found ≡ is_some (content c.address)
+  pub data_reported : before ≡ content_or_zeros d.block_bytes (content c.address)
   pub updated : (new : ℕ → List ℕ) → IsReplaced p q records new → IsStoredWith opening overhead d t new (put content c.address (entry_of c))

@@ -1,4 +1,4 @@
--- The fault of a tree that a fault of a layer below becomes.
+-- The fault that a tree reports when a layer below it has one.
 use Rattle.oram_bucket.specs.declared.sealer.OpenFault.{OpenFault}
 use Rattle.oram_bucket.specs.declared.sealer.OpenFault.TheVariants as opening
 use Rattle.oram_wire.specs.declared.sinks.SinkFault.{SinkFault}

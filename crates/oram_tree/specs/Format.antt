@@ -47,7 +47,7 @@ pub record IsRefused {K : Type 0} (refusing : K → List ℕ → SinkFault → K
   pub begun : Begins (taken ++ body ∷ [])
   pub why : SinkFault
   pub refused : refusing from body why to
-  pub told : fault ≡ format_fault why
+  pub reported : fault ≡ format_fault why
 
 -- A formatting was broken off: the sink took a beginning of its bodies, and then either memory ran out elsewhere and the
 -- sink hasn't changed since, or the sink refused the next body.

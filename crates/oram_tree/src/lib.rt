@@ -174,9 +174,9 @@ impl Tree {
 
         // The new buckets and the new stash are the outcome of an eviction; the buckets are sealed under rising nonces.
         ensures whole { IfOk result (λ a. HasLength (with_bytes path.now a.records.items)) }
-        ensures written { let reads = Reads (S.cipher sealer.now).opening device.now self.old.number in
-            IfOk result (λ a. IsRewritten reads (S.cipher sealer.now).sealing device.now nonce
-            path.now self.old.stash (with_bytes path.now a.records.items)
+        ensures written { IfOk result (λ a.
+            IsRewritten (record { device = device.now; tree = self.old.number; cipher = S.cipher sealer.now; path = path.now; nonce = nonce })
+            self.old.stash (with_bytes path.now a.records.items)
             (edited_block address new_leaf edit.entry a.before.items) self.new.stash) }
 
         // The effect on any stored tree that has the path, and on the map that this tree and the stash hold.
@@ -255,10 +255,9 @@ impl Tree {
         ensures appends { OnOk result ((gained : List ℕ) × (out.new.items ≡ out.old.items ++ gained)) }
         ensures whole { OnOk result ((gained : List ℕ) → out.new.items ≡ out.old.items ++ gained
             → HasLength (with_bytes path.now gained)) }
-        ensures written { let reads = Reads (S.cipher sealer.now).opening device.now self.old.number in
-            IfOk result (λ a. (gained : List ℕ) → out.new.items ≡ out.old.items ++ gained
-            → IsRewritten reads (S.cipher sealer.now).sealing device.now request.nonce
-            path.now self.old.stash (with_bytes path.now gained)
+        ensures written { IfOk result (λ a. (gained : List ℕ) → out.new.items ≡ out.old.items ++ gained
+            → IsRewritten (record { device = device.now; tree = self.old.number; cipher = S.cipher sealer.now; path = path.now; nonce = request.nonce })
+            self.old.stash (with_bytes path.now gained)
             (edited_block request.address request.new_leaf edit.entry a.before.items) self.new.stash) }
 
         // The effect on any stored tree that has the path, and on the map that this tree and the stash hold.

@@ -153,9 +153,8 @@ fn seal_path<S: Sealer>(
     requires buckets { All (λ list. IsBucketOf device.now tree (map (λ b. b.now) list.items)) lists.now }
     requires nonces { nonce + length lists.now ≤ 2 ^ 64 }
     ensures keeps { (gained : List ℕ) × (out.new.items ≡ out.old.items ++ gained) }
-    ensures sealed { OnOk result (IsSealedTo (Reads (S.cipher sealer.now).opening device.now tree) (S.cipher sealer.now).sealing
-        device.now nonce path.now (map (λ list. map (λ b. b.now) list.items) lists.now) (length lists.now)
-        out.old.items out.new.items) }
+    ensures sealed { OnOk result (IsSealedTo (record { device = device.now; tree = tree; cipher = S.cipher sealer.now; path = path.now; nonce = nonce })
+        (map (λ list. map (λ b. b.now) list.items) lists.now) (length lists.now) out.old.items out.new.items) }
 {
     prove!(tree < device.trees());
     let mut plain = Vec::new(alloc);
@@ -186,8 +185,8 @@ fn append_path<S: Sealer>(
     requires buckets { All (λ list. IsBucketOf device.now tree (map (λ b. b.now) list.items)) lists.now }
     requires nonces { nonce + length lists.now ≤ 2 ^ 64 }
     ensures err { OnErr result (out.new.items ≡ out.old.items) }
-    ensures appended { IfOk result (IsAppended (Reads (S.cipher sealer.now).opening device.now tree) (S.cipher sealer.now).sealing
-        device.now nonce path.now (map (λ list. map (λ b. b.now) list.items) lists.now) out.old.items out.new.items) }
+    ensures appended { IfOk result (IsAppended (record { device = device.now; tree = tree; cipher = S.cipher sealer.now; path = path.now; nonce = nonce })
+        (map (λ list. map (λ b. b.now) list.items) lists.now) out.old.items out.new.items) }
 {
     let start = out.len();
     match seal_path(alloc, device, tree, sealer, path, nonce, lists, out) {
@@ -228,8 +227,8 @@ fn evict_to<S: Sealer>(
     ensures evicted { IfOk result (λ r. (lists : List (List Cell)) × (rest : List Cell)
         × IsEviction path.now.depth device.now.slots path.now.leaf (map (λ b. b.now) waiting.entry.items) lists rest
         × (r.0.items ≡ map (λ b. b.address) rest)
-        × IsAppended (Reads (S.cipher sealer.now).opening device.now tree) (S.cipher sealer.now).sealing
-        device.now nonce path.now lists out.old.items out.new.items r.1) }
+        × IsAppended (record { device = device.now; tree = tree; cipher = S.cipher sealer.now; path = path.now; nonce = nonce })
+        lists out.old.items out.new.items r.1) }
 {
     let Placement { lists, rest } = place(alloc, device, tree, leaf, waiting)?;
     let stays = addresses_of(alloc, &rest)?;
@@ -268,10 +267,10 @@ fn prepare<S: Sealer>(
     ensures lookup { let reads = Reads (S.cipher sealer.now).opening device.now tree in
         IfOk result (λ r. IsLookup (IsInBucket reads path.now)
         device.now.block_bytes request.address r.on_path.found r.on_path.before.items) }
-    ensures prepared { let reads = Reads (S.cipher sealer.now).opening device.now tree in
-        IfOk result (λ r. IsPrepared reads (S.cipher sealer.now).sealing device.now request.nonce path.now stash.now
+    ensures prepared { IfOk result (λ r.
+        IsPrepared (record { device = device.now; tree = tree; cipher = S.cipher sealer.now; path = path.now; nonce = request.nonce }) stash.now
         (edited_block request.address request.new_leaf edit.entry (content_in stash.now request.address r.on_path.before.items))
-        r.near r.stays.items out.old.items out.new.items r.root) }
+        (record { near = r.near; stays = r.stays.items; old = out.old.items; now = out.new.items; root = r.root })) }
     ensures blocks { IfOk result (λ r. All (IsBlockOf device.now tree) r.near) }
     ensures apart { IfOk result (λ r. (c d : Cell) → Contains stash.now c → Contains r.near d
         → c.address ≡ d.address → c.address ≡ request.address) }
@@ -380,10 +379,10 @@ pub(crate) fn rewrite<S: Sealer>(
         IfOk result (λ r. IsLookup (IsNear reads path.now stash.old)
         device.now.block_bytes request.address r.0.found r.0.before.items) }
     ensures data_len { IfOk result (λ r. length r.0.before.items ≡ device.now.block_bytes) }
-    ensures written { let reads = Reads (S.cipher sealer.now).opening device.now tree in
-        IfOk result (λ r. (records : List ℕ) × (out.new.items ≡ out.old.items ++ records)
-        × HasLength (with_bytes path.now records) × IsRewritten reads (S.cipher sealer.now).sealing device.now request.nonce
-        path.now stash.old (with_bytes path.now records)
+    ensures written { IfOk result (λ r. (records : List ℕ) × (out.new.items ≡ out.old.items ++ records)
+        × HasLength (with_bytes path.now records)
+        × IsRewritten (record { device = device.now; tree = tree; cipher = S.cipher sealer.now; path = path.now; nonce = request.nonce })
+        stash.old (with_bytes path.now records)
         (edited_block request.address request.new_leaf edit.entry r.0.before.items) stash.new
         × StandsRebuilt path.now records r.1) }
     ensures blocks { All (IsBlockOf device.now tree) stash.new }

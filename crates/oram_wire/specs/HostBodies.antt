@@ -1,5 +1,6 @@
 -- When a body can be read as a message to the host or an answer from it, and which fault it has otherwise.
 use Rattle.std.specs.Prelude.{◌≡◌, ◌≢◌, ℕ, ◌<◌, ◌≤◌, ◌^◌, ◌⊎◌, ◌==◌, ◌&&◌, ◌||◌, if◌then◌else◌, nat_lt, nat_le, Bool, true, false, List, [], ◌∷◌, length, slice_index}
+use Rattle.oram_wire.specs.declared.host_messages.TheConstants.{GOOD, REFUSED}
 use Rattle.oram_wire.specs.declared.host_messages.HostRequest.{HostRequest}
 use Rattle.oram_wire.specs.declared.host_messages.HostRequest.TheVariants as request
 use Rattle.oram_wire.specs.declared.host_messages.HostAnswer.{HostAnswer}
@@ -40,11 +41,11 @@ HasNumbers (request.Shape tree depth record_len) = record_len < 2 ^ 32
 -- the first byte names an answer
 abbrev pub names_answer : List ℕ → Bool
 names_answer [] = false
-names_answer (op ∷ fields) = op == 128 || op == 129
+names_answer (op ∷ fields) = op == GOOD || op == REFUSED
 
 -- a refusal without its code, or with bytes after the code
 abbrev pub IsOverlong : List ℕ → Type 0
-IsOverlong body = (slice_index body 0 ≡ 129) × (length body ≢ 2)
+IsOverlong body = (slice_index body 0 ≡ REFUSED) × (length body ≢ 2)
 
 -- a refusal whose code is unknown
 abbrev pub HasNoCode : List ℕ → Type 0

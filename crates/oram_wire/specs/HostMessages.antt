@@ -1,6 +1,7 @@
 -- The bodies that go to the bucket host and come back from it. All numbers are big-endian.
 use Rattle.std.specs.Prelude.{ℕ, List, [], ◌∷◌, ◌++◌}
 use Rattle.std.specs.Int.{w32, to_be_bytes}
+use Rattle.oram_wire.specs.declared.host_messages.TheConstants.{GOOD, REFUSED}
 use Rattle.oram_wire.specs.declared.host_messages.HostRequest.{HostRequest}
 use Rattle.oram_wire.specs.declared.host_messages.HostRequest.TheVariants as request
 use Rattle.oram_wire.specs.declared.host_messages.HostAnswer.{HostAnswer}
@@ -31,7 +32,7 @@ request_body (request.Shape tree depth record_len) = shape_body tree depth recor
 
 -- the host gives what it was asked for
 abbrev pub payload_answer : List ℕ → List ℕ
-payload_answer bytes = 128 ∷ bytes
+payload_answer bytes = GOOD ∷ bytes
 
 -- the host has done what it was asked to do
 abbrev pub done_answer : List ℕ
@@ -39,7 +40,7 @@ done_answer = payload_answer []
 
 -- the host refuses, by a code
 abbrev pub refusal_answer : ℕ → List ℕ
-refusal_answer code = 129 ∷ code ∷ []
+refusal_answer code = REFUSED ∷ code ∷ []
 
 -- the host has no room
 abbrev pub no_room_answer : List ℕ

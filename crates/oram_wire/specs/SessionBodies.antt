@@ -1,5 +1,6 @@
 -- When a body can be read as a message of a session, and which fault it has otherwise.
-use Rattle.std.specs.Prelude.{◌≡◌, ◌≢◌, ℕ, ◌<◌, ◌≤◌, ◌^◌, ◌⊎◌, ◌==◌, ◌&&◌, if◌then◌else◌, nat_lt, nat_le, Bool, true, false, List, [], ◌∷◌, length, slice_index}
+use Rattle.std.specs.Prelude.{◌≡◌, ◌≢◌, ℕ, ◌<◌, ◌≤◌, ◌^◌, ◌⊎◌, ◌==◌, ◌&&◌, ◌||◌, if◌then◌else◌, nat_lt, nat_le, Bool, true, false, List, [], ◌∷◌, length, slice_index}
+use Rattle.oram_wire.specs.declared.session_messages.TheConstants.{DATA, DONE, REFUSED}
 use Rattle.oram_wire.specs.declared.session_messages.SessionRequest.{SessionRequest}
 use Rattle.oram_wire.specs.declared.session_messages.SessionRequest.TheVariants as request
 use Rattle.oram_wire.specs.declared.session_messages.SessionReply.{SessionReply}
@@ -29,16 +30,16 @@ HasAddress (request.Discard address) = address < 2 ^ 32
 -- the first byte names a reply
 abbrev pub names_session_reply : List ℕ → Bool
 names_session_reply [] = false
-names_session_reply (op ∷ fields) = nat_lt 143 op && nat_lt op 147
+names_session_reply (op ∷ fields) = op == DATA || op == DONE || op == REFUSED
 
 -- "done" with bytes after it, or a refusal without its code or with bytes after the code
 abbrev pub IsReplyMisfit : List ℕ → Type 0
-IsReplyMisfit body = ((slice_index body 0 ≡ 145) × (length body ≢ 1))
-    ⊎ ((slice_index body 0 ≡ 146) × (length body ≢ 2))
+IsReplyMisfit body = ((slice_index body 0 ≡ DONE) × (length body ≢ 1))
+    ⊎ ((slice_index body 0 ≡ REFUSED) × (length body ≢ 2))
 
 -- a refusal whose code is unknown
 abbrev pub HasNoReplyCode : List ℕ → Type 0
-HasNoReplyCode body = (code : ℕ) × (body ≡ 146 ∷ code ∷ []) × ((code ≡ 0) ⊎ (7 < code))
+HasNoReplyCode body = (code : ℕ) × (body ≡ REFUSED ∷ code ∷ []) × ((code ≡ 0) ⊎ (7 < code))
 
 -- the daemon can give this reply: a code is from 1 to 7
 abbrev pub IsSessionReply : SessionReply → Type 0

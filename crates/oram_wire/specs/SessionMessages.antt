@@ -1,6 +1,7 @@
 -- The bodies of the requests that a user sends in a session, and of the replies. All numbers are big-endian.
 use Rattle.std.specs.Prelude.{ℕ, List, [], ◌∷◌, ◌++◌}
 use Rattle.std.specs.Int.{w32, to_be_bytes}
+use Rattle.oram_wire.specs.declared.session_messages.TheConstants.{DATA, DONE, REFUSED}
 use Rattle.oram_wire.specs.declared.session_messages.SessionRequest.{SessionRequest}
 use Rattle.oram_wire.specs.declared.session_messages.SessionRequest.TheVariants as request
 use Rattle.oram_wire.specs.declared.session_messages.SessionReply.{SessionReply}
@@ -26,6 +27,6 @@ session_request_body (request.Discard address) = discard_body address
 
 -- the body of a reply
 abbrev pub session_reply_body : SessionReply → List ℕ
-session_reply_body (reply.Data bytes) = 144 ∷ bytes
-session_reply_body reply.Done = 145 ∷ []
-session_reply_body (reply.Refused code) = 146 ∷ code ∷ []
+session_reply_body (reply.Data bytes) = DATA ∷ bytes
+session_reply_body reply.Done = DONE ∷ []
+session_reply_body (reply.Refused code) = REFUSED ∷ code ∷ []

@@ -311,7 +311,7 @@ impl Stashes {
         Ok(())
     }
 
-    /// `stash settle ADDRESS`: removes all blocks but the one at `ADDRESS`, and writes what is left.
+    /// `stash keep ADDRESS`: removes all blocks but the one at `ADDRESS`, and writes what is left.
     fn keep_left_over(
         &mut self,
         alloc: Global,
@@ -356,7 +356,7 @@ impl Stashes {
             "contains" => self.contains(words, page),
             "evict" => self.evict(alloc, device, words, page),
             "place" => self.place(alloc, device, words, page),
-            "settle" => self.keep_left_over(alloc, words, page),
+            "keep" => self.keep_left_over(alloc, words, page),
             "random" => random::evictions(alloc, words, page),
             call => self.answer_whole(alloc, call, page),
         }

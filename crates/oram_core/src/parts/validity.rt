@@ -5,8 +5,8 @@ ghost use Rattle.oram_wire.specs.HostMessages.{fetch_body};
 ghost use Rattle.oram_semantics.specs.Agree.{IsAllowed};
 ghost use Rattle.oram_semantics.specs.Content.{entry_tree};
 ghost use Rattle.oram_semantics.specs.Nonces.{formatted, buckets_below, next_nonce};
-ghost use Rattle.oram_semantics.specs.State.{named_now};
-ghost use Rattle.oram_core.specs.Core.{IsAtWork, IsReasonOf, IsResting, IsStoreOf, most_named};
+ghost use Rattle.oram_semantics.specs.State.{map_entry_now};
+ghost use Rattle.oram_core.specs.Core.{IsAtWork, IsReasonOf, IsResting, IsStoreOf, most_map_entry};
 ghost use Rattle.oram_core.specs.Validity.{AreWaiting, HasMessage, HasTable, HoldsNothing, IsEnded, IsFitting, IsWorking};
 ghost use Rattle.oram_core.specs.Parts.{state_of, submission_at};
 
@@ -92,9 +92,9 @@ fn are_waiting(parts: &Parts) -> bool
 }
 
 /// Returns the greatest map entry that can be held at this stage of a command.
-fn most_named(device: &Device, entry_number: u32) -> u32
+fn most_map_entry(device: &Device, entry_number: u32) -> u32
     requires { entry_number < 2 * trees_of device.now }
-    ensures { result ≡ most_named device.now entry_number }
+    ensures { result ≡ most_map_entry device.now entry_number }
 {
     let trees = u32::from(device.trees());
     if entry_number == 0 || entry_number + 1 == 2 * trees {
@@ -110,10 +110,10 @@ fn is_fetch(message: &[u8], tree: u8, leaf: u32) -> bool
     match HostView::read(message) {
         Ok(
             HostView::Fetch {
-                tree: asked,
-                leaf: named,
+                tree: requested_tree,
+                leaf: requested_leaf,
             },
-        ) => asked == tree && named == leaf,
+        ) => requested_tree == tree && requested_leaf == leaf,
         _ => false,
     }
 }
@@ -127,14 +127,14 @@ fn is_store(message: &[u8], device: &Device, overhead: usize, tree: u8) -> bool
     match HostView::read(message) {
         Ok(
             HostView::Store {
-                tree: asked,
+                tree: requested_tree,
                 leaf,
                 records,
             },
         ) => {
             let depth = device.depth(tree);
             let path_len = (usize::from(depth) + 1) * device.record_len(overhead);
-            asked == tree && leaf < 1 << depth && records.len() == path_len
+            requested_tree == tree && leaf < 1 << depth && records.len() == path_len
         }
         _ => false,
     }
@@ -144,7 +144,7 @@ fn is_store(message: &[u8], device: &Device, overhead: usize, tree: u8) -> bool
 fn is_message(parts: &Parts, oldest: &Pending, overhead: usize) -> bool
     requires entry_number { parts.now.entry_number < 2 * trees_of parts.now.device }
     requires table { HasTable parts.now.device parts.now.table }
-    requires named { parts.now.held_entry ≤ most_named parts.now.device parts.now.entry_number }
+    requires map_entry { parts.now.held_entry ≤ most_map_entry parts.now.device parts.now.entry_number }
     requires allowed { IsAllowed parts.now.device (submission_at 0 oldest.now) }
     requires overhead { overhead ≤ 64 }
     ensures { IsTrue result ↔ HasMessage parts.now.device overhead (state_of parts.now) (submission_at 0 oldest.now) }
@@ -153,11 +153,11 @@ fn is_message(parts: &Parts, oldest: &Pending, overhead: usize) -> bool
     if parts.entry_number % 2 == 1 {
         return is_store(parts.message.as_slice(), &parts.device, overhead, tree);
     }
-    let named = match parts.entry_number {
+    let map_entry = match parts.entry_number {
         0 => parts.table[parts.device.address_in(tree, oldest.command.address()) as usize],
         _ => parts.held_entry,
     };
-    let leaf = leaf_for(&parts.device, tree, named, oldest.words.as_slice());
+    let leaf = leaf_for(&parts.device, tree, map_entry, oldest.words.as_slice());
     is_fetch(parts.message.as_slice(), tree, leaf)
 }
 
@@ -170,7 +170,7 @@ fn is_at_work(parts: &Parts, oldest: &Pending, overhead: usize) -> bool
 {
     let trees = u32::from(parts.device.trees());
     if parts.entry_number >= 2 * trees
-        || parts.held_entry > most_named(&parts.device, parts.entry_number)
+        || parts.held_entry > most_map_entry(&parts.device, parts.entry_number)
     {
         return false;
     }

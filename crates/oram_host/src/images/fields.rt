@@ -8,7 +8,7 @@ ghost use Rattle.oram_host.specs.Transfers.{TakesFrom};
 
 use super::{ImageFault, MAGIC, VERSION};
 use byteorder::{BigEndian, ByteOrder};
-use std::io::{ErrorKind, Read};
+use std::io::Read;
 
 /// Reads until the buffer is full or the input ends, and returns the number of bytes that it read.
 fn fill<R: Read>(reader: &mut R, buf: &mut [u8]) -> Result<usize, ImageFault>
@@ -19,22 +19,10 @@ fn fill<R: Read>(reader: &mut R, buf: &mut [u8]) -> Result<usize, ImageFault>
     ensures consumed { TakesFrom (R.remaining reader.old) (R.remaining reader.new) }
     ensures fault { IfErr result (λ why. why ≡ ImageFault.Io) }
 {
-    let mut filled = 0;
-    for _ in 0..u64::MAX {
-        if filled == buf.len() {
-            return Ok(filled);
-        }
-        match reader.read(&mut buf[filled..]) {
-            Ok(0) => return Ok(filled),
-            Ok(n) => filled += n,
-            Err(error) => {
-                if error.kind() != ErrorKind::Interrupted {
-                    return Err(ImageFault::Io);
-                }
-            }
-        }
+    match oram_wire::fill(reader, buf) {
+        Ok(filled) => Ok(filled),
+        Err(_) => Err(ImageFault::Io),
     }
-    Err(ImageFault::Io)
 }
 
 /// Fills the buffer. Fails with `Length` if the input ends before that.

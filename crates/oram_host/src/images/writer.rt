@@ -11,8 +11,9 @@ use super::{ImageFault, MAGIC, VERSION};
 use crate::trees::Tree;
 use byteorder::{BigEndian, ByteOrder};
 use oram_bytes::Bytes;
+use oram_wire::WriteFault;
 use std::collections::BTreeMap;
-use std::io::{ErrorKind, Write};
+use std::io::Write;
 
 /// Writes the bytes. If the writer fails, it has taken a beginning of them.
 fn write<W: Write>(writer: &mut W, bytes: &[u8]) -> Result<(), ImageFault>
@@ -20,22 +21,10 @@ fn write<W: Write>(writer: &mut W, bytes: &[u8]) -> Result<(), ImageFault>
     ensures begun { Begins (W.contents writer.old) (W.contents writer.new) bytes.now }
     ensures fault { IfErr result (λ f. f ≡ ImageFault.Io) }
 {
-    let mut written = 0;
-    for _ in 0..u64::MAX {
-        if written >= bytes.len() {
-            return Ok(());
-        }
-        match writer.write(&bytes[written..]) {
-            Ok(0) => return Err(ImageFault::Io),
-            Ok(count) => written += count,
-            Err(error) => {
-                if error.kind() != ErrorKind::Interrupted {
-                    return Err(ImageFault::Io);
-                }
-            }
-        }
+    match oram_wire::write(writer, bytes) {
+        Ok(()) => Ok(()),
+        Err(WriteFault) => Err(ImageFault::Io),
     }
-    Err(ImageFault::Io)
 }
 
 fn save_record<W: Write>(writer: &mut W, node: u32, bytes: &[u8]) -> Result<(), ImageFault>

@@ -30,37 +30,37 @@ pub returns-in-Some-fault_in-clause-fault : goal.returns-in-Some-fault_in-clause
 returns-in-Some-fault_in-clause-fault c =
     let all = c.if-bytes-slots.false ∙ size_of c.args.device.now _ _ c.slots.ensures.value c.block_bytes-slot_len.ensures.value in
     let steps = c.in-Some.ensures.steps in
-    let told = piece c.args.device.now c.args.tree c.args.bytes.now _ _ _ c.in-Some.slot.now _ _ _ _ _ c.depth.result _ c.loop-slot.invariant all steps.1.0 steps.1.1 steps.0
+    let next_piece = piece c.args.device.now c.args.tree c.args.bytes.now _ _ _ c.in-Some.slot.now _ _ _ _ _ c.depth.result _ c.loop-slot.invariant all steps.1.0 steps.1.1 steps.0
     c.blocks_in-tree_blocks.ensures.count c.depth.ensures.count c.depth.ensures.range c.in-Some-fault_in.ensures in
-    rw (at_fault _ _ _ _ _ _ _ _ _ _ _ _ c.loop-slot.invariant all told) refl
+    rw (at_fault _ _ _ _ _ _ _ _ _ _ _ _ c.loop-slot.invariant all next_piece) refl
 
 pub returns-in-Some-fault_in-clause-only : goal.returns-in-Some-fault_in-clause-only
 returns-in-Some-fault_in-clause-only c = λ cells s.
     let all = c.if-bytes-slots.false ∙ size_of c.args.device.now _ _ c.slots.ensures.value c.block_bytes-slot_len.ensures.value in
     let few = few_of_depth c.args.device.now c.args.tree c.depth.result (omega (arith, c.blocks_in-tree_blocks.ensures.count, c.blocks_in-tree_blocks.ensures.range)) c.depth.ensures.count c.depth.ensures.range in
     let steps = c.in-Some.ensures.steps in
-    let told = piece c.args.device.now c.args.tree c.args.bytes.now _ _ _ c.in-Some.slot.now _ _ _ _ _ c.depth.result _ c.loop-slot.invariant all steps.1.0 steps.1.1 steps.0
+    let next_piece = piece c.args.device.now c.args.tree c.args.bytes.now _ _ _ c.in-Some.slot.now _ _ _ _ _ c.depth.result _ c.loop-slot.invariant all steps.1.0 steps.1.1 steps.0
     c.blocks_in-tree_blocks.ensures.count c.depth.ensures.count c.depth.ensures.range c.in-Some-fault_in.ensures in
-    absurd (not_spelled _ _ cells _ _ few (at_fault _ _ _ _ _ _ _ _ _ _ _ _ c.loop-slot.invariant all told) s)
+    absurd (not_spelled _ _ cells _ _ few (at_fault _ _ _ _ _ _ _ _ _ _ _ _ c.loop-slot.invariant all next_piece) s)
 
 pub returns-in-Some-fault_in-clause-refused : goal.returns-in-Some-fault_in-clause-refused
 returns-in-Some-fault_in-clause-refused c = λ other h.
     let all = c.if-bytes-slots.false ∙ size_of c.args.device.now _ _ c.slots.ensures.value c.block_bytes-slot_len.ensures.value in
     let few = few_of_depth c.args.device.now c.args.tree c.depth.result (omega (arith, c.blocks_in-tree_blocks.ensures.count, c.blocks_in-tree_blocks.ensures.range)) c.depth.ensures.count c.depth.ensures.range in
     let steps = c.in-Some.ensures.steps in
-    let told = piece c.args.device.now c.args.tree c.args.bytes.now _ _ _ c.in-Some.slot.now _ _ _ _ _ c.depth.result _ c.loop-slot.invariant all steps.1.0 steps.1.1 steps.0
+    let next_piece = piece c.args.device.now c.args.tree c.args.bytes.now _ _ _ c.in-Some.slot.now _ _ _ _ _ c.depth.result _ c.loop-slot.invariant all steps.1.0 steps.1.1 steps.0
     c.blocks_in-tree_blocks.ensures.count c.depth.ensures.count c.depth.ensures.range c.in-Some-fault_in.ensures in
-    not_spelled _ _ h.0 _ _ few (at_fault _ _ _ _ _ _ _ _ _ _ _ _ c.loop-slot.invariant all told) h.1
+    not_spelled _ _ h.0 _ _ few (at_fault _ _ _ _ _ _ _ _ _ _ _ _ c.loop-slot.invariant all next_piece) h.1
 
 pub loop-slot-preserved-then-number-gt0 : goal.loop-slot-preserved-then-number-gt0
 loop-slot-preserved-then-number-gt0 c =
     let all = c.if-bytes-slots.false ∙ size_of c.args.device.now _ _ c.slots.ensures.value c.block_bytes-slot_len.ensures.value in
     let steps = c.in-Some.ensures.steps in
-    let told = piece c.args.device.now c.args.tree c.args.bytes.now _ _ _ c.in-Some.slot.now _ _ _ _ _ c.depth.result _ c.loop-slot.invariant all steps.1.0 steps.1.1 steps.0
+    let next_piece = piece c.args.device.now c.args.tree c.args.bytes.now _ _ _ c.in-Some.slot.now _ _ _ _ _ c.depth.result _ c.loop-slot.invariant all steps.1.0 steps.1.1 steps.0
     c.blocks_in-tree_blocks.ensures.count c.depth.ensures.count c.depth.ensures.range c.in_default.ensures in
     let small : IsBytes c.args.bytes.now = λ i. (c.type_inv.bytes i).fits in
     let held : List Cell → Type 0 = λ cells. IfOk c.with_block-blocks.result (λ v. v.items ≡ cells) in
-    let more = at_real _ _ _ _ _ _ held _ _ _ _ _ c.loop-slot.invariant all small told (omega (arith, c.number_in-number.ensures))
+    let more = at_real _ _ _ _ _ _ held _ _ _ _ _ c.loop-slot.invariant all small next_piece (omega (arith, c.number_in-number.ensures))
     (λ cells h. more_held (λ v. v.items) _ c.with_block-blocks.result cells (block_in c.in-Some.slot.now) c.with_block-blocks.ensures h) in
     moved c.args.device.now c.args.tree c.args.bytes.now (length c.loop-slot.yielded) _ (chunks_exact_rest c.next.new.self) (chunks_exact_size c.next.new.self) _ _ held
     (length_push c.loop-slot.yielded c.in-Some.slot) c.number_in-number.ensures more
@@ -69,9 +69,9 @@ pub loop-slot-preserved : goal.loop-slot-preserved
 loop-slot-preserved c =
     let all = c.if-bytes-slots.false ∙ size_of c.args.device.now _ _ c.slots.ensures.value c.block_bytes-slot_len.ensures.value in
     let steps = c.in-Some.ensures.steps in
-    let told = piece c.args.device.now c.args.tree c.args.bytes.now _ _ _ c.in-Some.slot.now _ _ _ _ _ c.depth.result _ c.loop-slot.invariant all steps.1.0 steps.1.1 steps.0
+    let next_piece = piece c.args.device.now c.args.tree c.args.bytes.now _ _ _ c.in-Some.slot.now _ _ _ _ _ c.depth.result _ c.loop-slot.invariant all steps.1.0 steps.1.1 steps.0
     c.blocks_in-tree_blocks.ensures.count c.depth.ensures.count c.depth.ensures.range c.in_default.ensures in
-    let more = at_dummy _ _ _ _ _ _ _ _ _ _ _ c.loop-slot.invariant all told (omega (arith, c.number_in-number.ensures)) in
+    let more = at_dummy _ _ _ _ _ _ _ _ _ _ _ c.loop-slot.invariant all next_piece (omega (arith, c.number_in-number.ensures)) in
     moved c.args.device.now c.args.tree c.args.bytes.now (length c.loop-slot.yielded) _ (chunks_exact_rest c.next.new.self) (chunks_exact_size c.next.new.self) _ _ _
     (length_push c.loop-slot.yielded c.in-Some.slot) c.number_in-number.ensures more
 

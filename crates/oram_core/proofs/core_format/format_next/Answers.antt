@@ -4,7 +4,7 @@ use Rattle.std.proofs.Math.Nat.{pow-le-pow_right}
 use Rattle.oram_geometry.specs.Sizes.{depth_of}
 use Rattle.oram_tree.specs.Content.{node_count}
 use Rattle.oram_tree.specs.Format.{IsBegun, IsBrokenOff, IsFormat}
-use Rattle.oram_tree.proofs.Puts.{if_err, broken_told}
+use Rattle.oram_tree.proofs.Puts.{if_err, broken_with}
 use Rattle.oram_semantics.specs.Nonces.{formatted_below}
 use Rattle.oram_semantics.proofs.NoncesApart.{formatted_small, node_count-small}
 use Rattle.oram_semantics.proofs.Bounds.{depth_small}
@@ -22,7 +22,7 @@ returns-in_err-made-clause-broken_off g c =
     let begins = λ (k : ℕ). IsBegun (g.S.Sealer.cipher c.args.sealer.now) c.args.device.now k c.args.tree in
     let B = λ (k : ℕ). IsBrokenOff g.K.Sink.putting g.K.Sink.refusing (begins k) c.args.sink.now c.in_err-made.field-0.0 c.format.new.sink in
     if_err c.from_residual.result _ _ c.from_residual.ensures.1
-    (λ fault same. broken_told g.K.Sink.putting g.K.Sink.refusing (begins (formatted_below c.args.device.now c.args.tree)) c.args.sink.now c.format.new.sink fault c.in_err-made.field-0.0 same
+    (λ fault same. broken_with g.K.Sink.putting g.K.Sink.refusing (begins (formatted_below c.args.device.now c.args.tree)) c.args.sink.now c.format.new.sink fault c.in_err-made.field-0.0 same
     (subst B c.requires.nonce c.in_err-made.ensures.broken_off))
 
 pub returns-in-Err-clause-broken_off : goal.returns-in-Err-clause-broken_off

@@ -5,7 +5,7 @@ use Rattle.oram_semantics.specs.Nonces.{formatted_below}
 use Rattle.oram_bucket.specs.Cipher.{IsCipher}
 use Rattle.oram_core.specs.Formatting.{AreMade}
 use Rattle.oram_core.specs.Core.{scheme_with}
-use Rattle.oram_tree.proofs.Puts.{if_err, broken_told}
+use Rattle.oram_tree.proofs.Puts.{if_err, broken_with}
 use Rattle.oram_core.proofs.Made.{below_none, none_made, next_made, broken_between, broken_within}
 use Rattle.std.proofs.lemmas.Result.{IfOk-from_err}
 use Rattle.oram_core.proofs.core_format.format_trees.Goals as goal
@@ -28,7 +28,7 @@ returns-in_err-format_next-clause-broken_off g c =
     let law : IsCipher v.cipher = g.met.S.Sealer.lawful c.args.sealer.now in
     let below : c.loop-tree.tree < trees_of c.args.device.now = omega (arith, c.trees-tree-end.ensures.count) in
     if_err c.from_residual-in_err-format_next.result _ _ c.from_residual-in_err-format_next.ensures.1
-    (λ fault same. broken_told g.K.Sink.putting g.K.Sink.refusing (IsFormatBegun v) c.args.sink.now c.format_next.new.sink fault c.in_err-format_next.field-0.0 same
+    (λ fault same. broken_with g.K.Sink.putting g.K.Sink.refusing (IsFormatBegun v) c.args.sink.now c.format_next.new.sink fault c.in_err-format_next.field-0.0 same
     (broken_within v g.K.Sink.putting g.K.Sink.refusing c.trees.ensures.ranges law c.args.sink.now c.loop-tree.sink c.format_next.new.sink c.loop-tree.tree c.loop-tree.so_far.trees.items c.in_err-format_next.field-0.0 below c.loop-tree.invariant.made c.in_err-format_next.ensures.broken_off))
 
 pub loop-tree-preserved : goal.loop-tree-preserved

@@ -3,7 +3,7 @@ use Rattle.std.proofs.lemmas.List.Elements.{All-get_or}
 use Rattle.oram_geometry.specs.Sizes.{address_in, depth_of, trees_of}
 use Rattle.oram_semantics.specs.Content.{block_of, new_leaf}
 use Rattle.oram_semantics.specs.NextFetches.{table_after}
-use Rattle.oram_core.proofs.NextFetches.{between, entry_kept, entry_named, table_none}
+use Rattle.oram_core.proofs.NextFetches.{between, entry_kept, entry_behind, table_none}
 use Rattle.oram_core.proofs.Small.{leaf_fits}
 use Rattle.oram_core.proofs.next_fetches.entry_after.Goals as goal
 use Rattle.oram_core.proofs.next_fetches.entry_after.Goals.{then-address_in-block, else-address_in-block}
@@ -13,7 +13,7 @@ loop-at-init c =
     let d = c.args.device.now in
     record {
       value = sym (table_none d c.args.table.now c.args.queue.now.items c.args.from c.args.block);
-      range = All-get_or (λ (e : ℕ). e ≤ 2 ^ depth_of d (trees_of d - 1)) c.args.table.now c.args.block 0 c.requires.block c.requires.names;
+      range = All-get_or (λ (e : ℕ). e ≤ 2 ^ depth_of d (trees_of d - 1)) c.args.table.now c.args.block 0 c.requires.block c.requires.map_entries;
     }
 
 pub overflow_add-entry : goal.overflow_add-entry
@@ -32,7 +32,7 @@ loop-at-preserved c =
           let is = w.entry-is in
           record {
             value = w.entry-is ∙ ap (λ (k : ℕ). k + 1) (w.new_leaf-entry.ensures.value ∙ ap (λ (i : ℕ). new_leaf d i y) last)
-                ∙ sym (entry_named d c.args.table.now c.args.queue.now.items c.args.from c.loop-at.at c.args.block y (omega arith) (omega arith) c.index-earlier.ensures c.requires.block (sym block_is ∙ w.if-address_in-block.true));
+                ∙ sym (entry_behind d c.args.table.now c.args.queue.now.items c.args.from c.loop-at.at c.args.block y (omega arith) (omega arith) c.index-earlier.ensures c.requires.block (sym block_is ∙ w.if-address_in-block.true));
             range = rw w.entry-is (omega (arith, small));
           }
       | else-address_in-block w ↦

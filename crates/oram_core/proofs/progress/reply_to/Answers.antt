@@ -14,11 +14,11 @@ with_body x b = record { session = x.session; ticket = x.ticket; body = b }
 pub returns : goal.returns
 returns c =
     let x = c.args.submission.now in
-    let told = λ (k : Command). body_from c.args.before k in
+    let body_for = λ (k : Command). body_from c.args.before k in
     ap (with_body x) (elim c.match-submission.branch as (λ _. c.match-submission.body ≡ body_from c.args.before x.command) [
-      | in-Read w ↦ w.body-is ∙ ap told (sym w.in-Read.is)
+      | in-Read w ↦ w.body-is ∙ ap body_for (sym w.in-Read.is)
       | in-Write w ↦ (elim w.in-Write.is [
-        | inl p ↦ w.body-is ∙ ap told (sym p.2)
-        | inr p ↦ w.body-is ∙ ap told (sym p.1)
+        | inl p ↦ w.body-is ∙ ap body_for (sym p.2)
+        | inr p ↦ w.body-is ∙ ap body_for (sym p.1)
       ])
     ])

@@ -4,7 +4,7 @@ use Rattle.std.proofs.lemmas.Fn.{filter_same}
 use Rattle.std.proofs.lemmas.List.Sorted.{IsNonDecreasingBy-from_sort_by_key}
 use Rattle.oram_bucket.specs.declared.block.Block.{Block}
 use Rattle.oram_bucket.specs.Cell.{IsRising}
-use Rattle.oram_stash.proofs.StayingBlocks.{sorted_blocks_rise, settled, settled_apart}
+use Rattle.oram_stash.proofs.StayingBlocks.{sorted_blocks_rise, staying, staying_apart}
 use Rattle.oram_stash.proofs.Stash.keep_left_over.Goals as goal
 
 -- those that stay, in the order in which they came
@@ -21,11 +21,11 @@ kept_is c =
     filter_same _ test _ (λ x b f called. (search rules, search rules)) c.append-2.new.self.items c.retain.new.self.items c.retain.ensures.filtered ∙ ap (filter test) all
 
 pub returns-clause-kept : goal.returns-clause-kept
-returns-clause-kept c = settled c.args.self.now c.args.other c.retain.new.self.items c.sort_unstable_by_key.new.self.items c.args.stays.now (kept_is c) c.sort_unstable_by_key.ensures.permutation
+returns-clause-kept c = staying c.args.self.now c.args.other c.retain.new.self.items c.sort_unstable_by_key.new.self.items c.args.stays.now (kept_is c) c.sort_unstable_by_key.ensures.permutation
 
 pub returns-clause-rising : goal.returns-clause-rising
 returns-clause-rising c =
-    let apart = settled_apart c.args.self.now c.args.other c.retain.new.self.items c.args.stays.now (kept_is c) (subst IsRising c.self.view_is c.self.invariant) (subst IsRising c.other.view_is c.other.invariant) c.requires.apart in
+    let apart = staying_apart c.args.self.now c.args.other c.retain.new.self.items c.args.stays.now (kept_is c) (subst IsRising c.self.view_is c.self.invariant) (subst IsRising c.other.view_is c.other.invariant) c.requires.apart in
     sorted_blocks_rise c.retain.new.self.items c.sort_unstable_by_key.new.self.items c.sort_unstable_by_key.ensures.permutation apart
     (IsNonDecreasingBy-from_sort_by_key (λ (b : Block). b.address) c.sort_unstable_by_key.new.self.items c.sort_unstable_by_key.ensures.sorted (λ a r f called. search rules))
 

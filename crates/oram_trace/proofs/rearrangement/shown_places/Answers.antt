@@ -9,7 +9,7 @@ use Rattle.oram_trace.proofs.rearrangement.shown_places.Goals.{in-Some, in-None,
 
 pub loop-index-init : goal.loop-index-init
 loop-index-init c = record {
-  shown = search rules;
+  places = search rules;
   last = λ block. (let empty = c.new-last_uses.ensures.empty in rw empty (sym (last_with-none c.args.device.now c.args.addresses.now c.args.tree block)));
 }
 
@@ -49,8 +49,8 @@ placed c =
 
 pub loop-index-preserved : goal.loop-index-preserved
 loop-index-preserved c = record {
-  shown = c.in_ok-push.ensures.items
-      ∙ ap (λ ys. ys ++ c.match-branch-3.place ∷ []) c.loop-index.invariant.shown
+  places = c.in_ok-push.ensures.items
+      ∙ ap (λ ys. ys ++ c.match-branch-3.place ∷ []) c.loop-index.invariant.places
       ∙ ap (λ p. map (place c.args.device.now c.args.addresses.now c.args.tree) (range_with_len 0 c.loop-index.index) ++ p ∷ []) (placed c)
       ∙ sym (map-range_with_len_more (place c.args.device.now c.args.addresses.now c.args.tree) 0 c.loop-index.index c.loop-index.index (omega arith));
   last = last_with-put c.args.device.now c.args.addresses.now c.args.tree c.loop-index.index c.address_in-block.result c.loop-index.last_uses c.insert.new.self
@@ -61,4 +61,4 @@ pub returns : goal.returns
 unfolding shown_places
 returns c =
     let all : c.loop-index.index ≡ length c.args.addresses.now = omega (arith, c.loop-index-test.false) in
-    c.loop-index.invariant.shown ∙ ap (λ n. map (place c.args.device.now c.args.addresses.now c.args.tree) (range_with_len 0 n)) all
+    c.loop-index.invariant.places ∙ ap (λ n. map (place c.args.device.now c.args.addresses.now c.args.tree) (range_with_len 0 n)) all

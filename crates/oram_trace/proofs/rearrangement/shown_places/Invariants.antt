@@ -9,6 +9,6 @@ use Rattle.oram_trace.proofs.rearrangement.shown_places.Given as goal
 -- the map has the last use of each block
 abbrev pub invariant-loop-index : goal.invariant-loop-index
 invariant-loop-index l = record {
-  shown : l.shown.items ≡ map (place l.device l.addresses l.tree) (range_with_len 0 l.index);
+  places : l.places.items ≡ map (place l.device l.addresses l.tree) (range_with_len 0 l.index);
   last : (block : ℕ) → get nat_cmp l.last_uses block ≡ last_with l.device l.addresses l.tree l.index block;
 }

@@ -24,7 +24,7 @@ returns-in_err-lookup-clause-updates g c records content stored path named =
 pub returns-clause-updates : goal.returns-clause-updates
 returns-clause-updates g c records content stored path named gained e =
     let opening = (g.S.Sealer.cipher c.args.sealer.now).opening in
-    let sealing = (g.S.Sealer.cipher c.args.sealer.now).sealing in
+    let cipher = g.S.Sealer.cipher c.args.sealer.now in
     let overhead = (g.S.Sealer.cipher c.args.sealer.now).overhead in
     let device = c.args.device.now in
     let view = c.args.path.now in
@@ -38,11 +38,11 @@ returns-clause-updates g c records content stored path named gained e =
     let stash_is : c.self.inside.stash ≡ c.args.self.now.stash = ap (λ (t : State). t.stash) c.self.view_is in
     let reads = λ (n : ℕ). Reads opening device n in
     let looked = moved (λ n xs. IsLookup (IsNear (reads n) view xs) device.block_bytes c.args.request.address lookup.found lookup.before.items) _ _ _ _ number_is stash_is c.in_ok-lookup.ensures.lookup in
-    let written = moved (λ n xs. IsRewritten (reads n) sealing device c.args.request.nonce view xs (with_bytes view bytes) cell stash) _ _ _ _ number_is stash_is w.3 in
+    let written = moved (λ n xs. IsRewritten (record { device = device; tree = n; cipher = cipher; path = view; nonce = c.args.request.nonce }) xs (with_bytes view bytes) cell stash) _ _ _ _ number_is stash_is w.3 in
     let P : ℕ → List ℕ → Type 0 = λ n bs. let after : State = record { number = n; root = root; stash = stash } in IsUpdate opening overhead device view (with_bytes view bs) records content cell lookup.found lookup.before.items after in
     let is : bytes ≡ gained = gained_is c.args.out.now.items c.rewrite.new.out.items bytes gained w.1 e in
     subst (P c.self.inside.number) is (let Q : ℕ → Type 0 = λ n. P n bytes in subst Q (sym number_is)
-    (updated opening sealing overhead c.args.request.nonce c.args.request.old_leaf device view bytes c.args.self.now root stash records content cell lookup.found lookup.before.items
+    (updated cipher c.args.request.nonce c.args.request.old_leaf device view bytes c.args.self.now root stash records content cell lookup.found lookup.before.items
     c.trees.ensures.ranges c.requires.path c.requires.old_leaf stored path named looked written w.4))
 
 pub returns-clause-written : goal.returns-clause-written
@@ -53,7 +53,7 @@ returns-clause-written g c gained e =
     let cell = edited_block c.args.request.address c.args.request.new_leaf c.args.edit c.in_ok-lookup.lookup.before.items in
     let number_is : c.self.inside.number ≡ c.args.self.now.number = ap (λ (t : State). t.number) c.self.view_is in
     let stash_is : c.self.inside.stash ≡ c.args.self.now.stash = ap (λ (t : State). t.stash) c.self.view_is in
-    let W = λ (n : ℕ) (xs : List Cell) (bs : List ℕ). IsRewritten (Reads (g.S.Sealer.cipher c.args.sealer.now).opening device n) (g.S.Sealer.cipher c.args.sealer.now).sealing device c.args.request.nonce view xs (with_bytes view bs) cell c.rewrite.new.stash in
+    let W = λ (n : ℕ) (xs : List Cell) (bs : List ℕ). IsRewritten (record { device = device; tree = n; cipher = g.S.Sealer.cipher c.args.sealer.now; path = view; nonce = c.args.request.nonce }) xs (with_bytes view bs) cell c.rewrite.new.stash in
     let is : w.0 ≡ gained = gained_is c.args.out.now.items c.rewrite.new.out.items w.0 gained w.1 e in
     let P : List ℕ → Type 0 = W c.args.self.now.number c.args.self.now.stash in
     subst P is (moved (λ n xs. W n xs w.0) _ _ _ _ number_is stash_is w.3)

@@ -4,7 +4,6 @@ use Rattle.oram_geometry.specs.Sizes.{depth_of}
 use Rattle.oram_hash.specs.Path.{Path}
 use Rattle.oram_bucket.specs.Cell.{Cell}
 use Rattle.oram_bucket.specs.Bucket.{IsBlockOf, IsBucketOf}
-use Rattle.oram_bucket.specs.SealedBlocks.{Reads}
 use Rattle.oram_stash.specs.Eviction.{IsEviction}
 use Rattle.oram_tree.specs.Access.{IsAppended}
 use Rattle.oram_tree.proofs.Sealed.{lent}
@@ -39,7 +38,7 @@ returns-clause-evicted g c =
     let deep : ℕ = depth_of c.args.device.now c.args.tree in
     let depth_is : c.args.path.now.depth ≡ deep = ap (λ (p : Path). p.depth) c.requires.path in
     let leaf_is : c.args.path.now.leaf ≡ c.args.leaf = ap (λ (p : Path). p.leaf) c.requires.path in
-    let A : List (Vec (Bor Cell) Global) → Type 0 = λ vs. IsAppended (Reads (g.S.Sealer.cipher c.args.sealer.now).opening c.args.device.now c.args.tree) (g.S.Sealer.cipher c.args.sealer.now).sealing c.args.device.now c.args.nonce c.args.path.now (lent vs) c.args.out.now.items c.append_path.new.out.items c.in_ok-root.root in
+    let A : List (Vec (Bor Cell) Global) → Type 0 = λ vs. IsAppended (record { device = c.args.device.now; tree = c.args.tree; cipher = g.S.Sealer.cipher c.args.sealer.now; path = c.args.path.now; nonce = c.args.nonce }) (lent vs) c.args.out.now.items c.append_path.new.out.items c.in_ok-root.root in
     let P : ℕ → Type 0 = λ n. E n c.args.path.now.leaf in
     let Q : ℕ → Type 0 = E deep in (
       lists,

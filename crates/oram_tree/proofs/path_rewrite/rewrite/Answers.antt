@@ -4,10 +4,10 @@ use Rattle.oram_bucket.specs.Cell.{Cell}
 use Rattle.oram_bucket.specs.Bucket.{IsBlockOf}
 use Rattle.oram_bucket.specs.SealedBlocks.{Reads}
 use Rattle.oram_tree.specs.Edits.{edited_block}
-use Rattle.oram_tree.specs.Access.{IsNear, IsRewritten}
+use Rattle.oram_tree.specs.Access.{Rewriting, IsNear, IsRewritten}
 use Rattle.oram_tree.proofs.Gathered.{near_block}
 use Rattle.oram_tree.proofs.Rewrites.{before_len, changed_block, waiting_blocks, rest_blocks, rewritten}
-use Rattle.oram_tree.proofs.Prepared.{looked_both, same_lookup, settled_rest, rest_waits, addresses_rise}
+use Rattle.oram_tree.proofs.Prepared.{looked_both, same_lookup, remaining_is_rest, rest_waits, addresses_rise}
 use Rattle.oram_tree.proofs.path_rewrite.rewrite.Goals as goal
 use Rattle.oram_tree.proofs.path_rewrite.rewrite.Given as given
 
@@ -31,22 +31,20 @@ returns-clause-data_len g c =
 rest_is : (g : given.Over) (c : goal.After-commit-lookup g) → c.commit-lookup.new.stash ≡ c.in_ok-prepared.ensures.prepared.rest
 rest_is g c =
     let p = c.in_ok-prepared.ensures.prepared in
-    settled_rest c.args.stash.now c.in_ok-prepared.prepared.near p.waiting p.rest c.commit-lookup.new.stash c.in_ok-prepared.prepared.stays.items c.args.request.address p.rising p.evicted.rising c.commit-lookup.ensures.rising p.stays_are
+    remaining_is_rest c.args.stash.now c.in_ok-prepared.prepared.near p.waiting p.rest c.commit-lookup.new.stash c.in_ok-prepared.prepared.stays.items c.args.request.address p.rising p.evicted.rising c.commit-lookup.ensures.rising p.stays_are
     (rest_waits p.waiting p.lists p.rest _ _ _ p.evicted) p.from_both c.commit-lookup.ensures.kept
 
 pub returns-clause-written : goal.returns-clause-written
 returns-clause-written g c =
-    let opening = (g.S.Sealer.cipher c.args.sealer.now).opening in
-    let sealing = (g.S.Sealer.cipher c.args.sealer.now).sealing in
-    let reads = Reads opening c.args.device.now c.args.tree in
+    let w : Rewriting = record { device = c.args.device.now; tree = c.args.tree; cipher = g.S.Sealer.cipher c.args.sealer.now; path = c.args.path.now; nonce = c.args.request.nonce } in
     let p = c.in_ok-prepared.ensures.prepared in
     let a = p.appended in
     let path = c.args.path.now in
     let cell : List ℕ → Cell = λ before. edited_block c.args.request.address c.args.request.new_leaf c.args.edit before in
     let q = with_bytes path a.records in
-    let P : List Cell → Type 0 = λ rest. IsRewritten reads sealing c.args.device.now c.args.request.nonce path c.args.stash.now q (cell c.commit-lookup.result.before.items) rest in
-    let Q : List ℕ → Type 0 = λ before. IsRewritten reads sealing c.args.device.now c.args.request.nonce path c.args.stash.now q (cell before) p.rest in
-    let R = rewritten opening sealing c.args.device.now c.args.tree c.args.request.nonce path.depth path.leaf path q c.args.stash.now p.waiting _ p.lists p.rest a.parts refl refl p.rising p.waits p.evicted a.rebuilt.sealed
+    let P : List Cell → Type 0 = λ rest. IsRewritten w c.args.stash.now q (cell c.commit-lookup.result.before.items) rest in
+    let Q : List ℕ → Type 0 = λ before. IsRewritten w c.args.stash.now q (cell before) p.rest in
+    let R = rewritten w path.depth path.leaf q c.args.stash.now p.waiting _ p.lists p.rest a.parts refl refl p.rising p.waits p.evicted a.rebuilt.sealed
     (λ level h. a.sealed level (omega (arith, p.evicted.placement.levels))) (λ level h. a.read_back level (omega (arith, p.evicted.placement.levels))) in
     (a.records, a.gained, a.rebuilt.whole, subst P (sym (rest_is g c)) (subst Q (sym c.commit-lookup.ensures.before) R), a.stands)
 

@@ -3,7 +3,7 @@ use Rattle.std.proofs.lemmas.Result.{on_ok_weaker, IfOk-weaker, IfErr-weaker}
 use Rattle.sha2.specs.Sha256.{sha256}
 use Rattle.oram_bucket.specs.Bucket.{spelling}
 use Rattle.oram_tree.specs.Content.{node_count}
-use Rattle.oram_tree.proofs.Puts.{left_nodes, right_nodes, node_count-twice, puts-leaf, puts-inner, root_record-leaf, root_record-inner, if_err, broken_after, broken_told, PutsAll-append, starts-leaf, starts-left, starts-right, starts-top}
+use Rattle.oram_tree.proofs.Puts.{left_nodes, right_nodes, node_count-twice, puts-leaf, puts-inner, root_record-leaf, root_record-inner, if_err, broken_after, broken_with, PutsAll-append, starts-leaf, starts-left, starts-right, starts-top}
 use Rattle.oram_tree.proofs.tree_format.+put_subtree.Goals as goal
 
 pub returns-then-height-eq0-clause-put : goal.returns-then-height-eq0-clause-put
@@ -60,7 +60,7 @@ returns-in_err-left-clause-broken_off g t c =
     if_err c.from_residual.result _ _ c.from_residual.ensures.1
     (λ fault same. broken_after g.K.Sink.putting g.K.Sink.refusing _ _ c.args.sink.now c.args.sink.now c.put_subtree.new.sink fault []
     (λ xs s. starts-left seal c.args.tree c.args.height c.args.nonce c.args.node c.nodes_below-below.result xs some c.nodes_below-below.ensures s) refl
-    (broken_told g.K.Sink.putting g.K.Sink.refusing _ c.args.sink.now c.put_subtree.new.sink fault c.in_err-left.field-0.0 same c.in_err-left.ensures.broken_off))
+    (broken_with g.K.Sink.putting g.K.Sink.refusing _ c.args.sink.now c.put_subtree.new.sink fault c.in_err-left.field-0.0 same c.in_err-left.ensures.broken_off))
 
 pub returns-in_err-right-clause-broken_off : goal.returns-in_err-right-clause-broken_off
 returns-in_err-right-clause-broken_off g t c =
@@ -69,7 +69,7 @@ returns-in_err-right-clause-broken_off g t c =
     if_err c.from_residual-in_err-right.result _ _ c.from_residual-in_err-right.ensures.1
     (λ fault same. broken_after g.K.Sink.putting g.K.Sink.refusing _ _ c.args.sink.now c.put_subtree.new.sink c.put_subtree-2.new.sink fault _
     (λ xs s. starts-right seal c.args.tree c.args.height c.args.nonce c.args.node c.nodes_below-below.result xs some c.nodes_below-below.ensures s) c.in_ok-left.ensures.put
-    (broken_told g.K.Sink.putting g.K.Sink.refusing _ c.put_subtree.new.sink c.put_subtree-2.new.sink fault c.in_err-right.field-0.0 same c.in_err-right.ensures.broken_off))
+    (broken_with g.K.Sink.putting g.K.Sink.refusing _ c.put_subtree.new.sink c.put_subtree-2.new.sink fault c.in_err-right.field-0.0 same c.in_err-right.ensures.broken_off))
 
 pub returns-clause-broken_off : goal.returns-clause-broken_off
 returns-clause-broken_off g t c =

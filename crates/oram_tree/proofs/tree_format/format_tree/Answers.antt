@@ -38,8 +38,8 @@ returns-in_err-put-clause-broken_off g c =
     c.trees.ensures.ranges (g.met.S.Sealer.lawful c.args.sealer.now) c.requires.nonces in
     let shape_is = c.deref.ensures.value ∙ c.in_ok-shape.ensures ∙ ap (λ (o : ℕ). shape_body i (depth_of d i) (record_len_of d o)) c.overhead.ensures in
     if_err c.from_residual-in_err-put.result _ _ c.from_residual-in_err-put.ensures.1
-    (λ fault told. refused_first g.K.Sink.putting g.K.Sink.refusing _ c.args.sink.now c.put.new.self fault (shape_body i (depth_of d i) (record_len_of d (g.S.Sealer.cipher c.args.sealer.now).overhead)) c.in_err-put.field-0.0
-    (begins [] (_, refl)) (begins (_ ∷ []) (_, refl)) (subst R shape_is c.in_err-put.ensures.refused) told)
+    (λ fault reported. refused_first g.K.Sink.putting g.K.Sink.refusing _ c.args.sink.now c.put.new.self fault (shape_body i (depth_of d i) (record_len_of d (g.S.Sealer.cipher c.args.sealer.now).overhead)) c.in_err-put.field-0.0
+    (begins [] (_, refl)) (begins (_ ∷ []) (_, refl)) (subst R shape_is c.in_err-put.ensures.refused) reported)
 
 pub returns-clause-broken_off : goal.returns-clause-broken_off
 returns-clause-broken_off g c =

@@ -1,7 +1,7 @@
 use Rattle.std.proofs.Common.{◌≡◌, ℕ, Bool, true, false, if◌then◌else◌, ap, sym, ◌∙◌, ◌<◌, refl, subst}
 use Rattle.oram_semantics.specs.Content.{entry_tree}
 use Rattle.oram_semantics.specs.Messages.{requested}
-use Rattle.oram_semantics.specs.Blocks.{next_named}
+use Rattle.oram_semantics.specs.Blocks.{next_map_entry}
 use Rattle.oram_wire.specs.HostMessages.{store_body}
 use Rattle.oram_semantics.specs.declared.events.Reason.TheVariants as reason
 use Rattle.oram_semantics.specs.declared.events.Submission.{Submission}
@@ -21,9 +21,9 @@ returns-then-is_misled-clause-ok g c = λ x rest records q m.
     let device_is : c.self.inside.device ≡ now.device = ap (λ (u : CoreValue g.row.S.Denot). u.device) c.self.view_is in
     let first : c.oldest.result.now ≡ x = c.oldest.ensures.first x rest q in
     let same : c.deref.result.now ≡ before = c.deref.ensures.value in
-    let named : c.named_below-named.result ≡ next_named now.device tree x before = c.named_below-named.ensures ∙ cc in
+    let map_entry_is : c.map_entry_below-map_entry.result ≡ next_map_entry now.device tree x before = c.map_entry_below-map_entry.ensures ∙ cc in
     let of = c.requires.oldest x rest q in
-    let test = sym (c.is_misled.ensures x before of.0 named) in
+    let test = sym (c.is_misled.ensures x before of.0 map_entry_is) in
     let yes : is_misled v now.state x c.args.lookup.found before ≡ true = test ∙ c.if-is_misled.true in
     c.fail.ensures.ok ∙ ap (λ (i : ℕ). failed_by now.state (reason.Tampered i 0)) c.requires.tree
     ∙ sym (ap (λ (b : Bool). if b then failed_by now.state (reason.Tampered (entry_tree now.device now.state.entry_number) 0) else stored_by v now.state x before records) yes)
@@ -37,12 +37,12 @@ commit-requires-clause-oldest g c = λ x rest q.
     let device_is : c.self.inside.device ≡ now.device = ap (λ (u : CoreValue g.row.S.Denot). u.device) c.self.view_is in
     let first : c.oldest.result.now ≡ x = c.oldest.ensures.first x rest q in
     let same : c.deref.result.now ≡ before = c.deref.ensures.value in
-    let named : c.named_below-named.result ≡ next_named now.device tree x before = c.named_below-named.ensures ∙ cc in
+    let map_entry_is : c.map_entry_below-map_entry.result ≡ next_map_entry now.device tree x before = c.map_entry_below-map_entry.ensures ∙ cc in
     let of = c.requires.oldest x rest q in
-    (of.0, of.1, named)
+    (of.0, of.1, map_entry_is)
 
-pub commit-requires-clause-named : goal.commit-requires-clause-named
-commit-requires-clause-named g c =
+pub commit-requires-clause-map_entry : goal.commit-requires-clause-map_entry
+commit-requires-clause-map_entry g c =
     let now = c.args.self.now in
     let v = scheme_of g.S.Sealer.cipher now in
     let tree = c.args.path_access.tree in
@@ -52,9 +52,9 @@ commit-requires-clause-named g c =
     let device_is : c.self.inside.device ≡ now.device = ap (λ (u : CoreValue g.row.S.Denot). u.device) c.self.view_is in
     let first : c.oldest.result.now ≡ x = c.oldest.ensures.first x o.rest o.queue in
     let same : c.deref.result.now ≡ before = c.deref.ensures.value in
-    let named : c.named_below-named.result ≡ next_named now.device tree x before = c.named_below-named.ensures ∙ cc in
-    let no : is_misled v now.state x c.args.lookup.found before ≡ false = sym (c.is_misled.ensures x before (c.requires.oldest x o.rest o.queue).0 named) ∙ c.if-is_misled.false in
-    led_right v now.state x c.args.lookup.found before tree c.named_below-named.result no c.requires.tree named
+    let map_entry_is : c.map_entry_below-map_entry.result ≡ next_map_entry now.device tree x before = c.map_entry_below-map_entry.ensures ∙ cc in
+    let no : is_misled v now.state x c.args.lookup.found before ≡ false = sym (c.is_misled.ensures x before (c.requires.oldest x o.rest o.queue).0 map_entry_is) ∙ c.if-is_misled.false in
+    led_right v now.state x c.args.lookup.found before tree c.map_entry_below-map_entry.result no c.requires.tree map_entry_is
 
 pub returns-clause-ok : goal.returns-clause-ok
 returns-clause-ok g c = λ x rest records q m.
@@ -65,16 +65,16 @@ returns-clause-ok g c = λ x rest records q m.
     let device_is : c.self.inside.device ≡ now.device = ap (λ (u : CoreValue g.row.S.Denot). u.device) c.self.view_is in
     let first : c.oldest.result.now ≡ x = c.oldest.ensures.first x rest q in
     let same : c.deref.result.now ≡ before = c.deref.ensures.value in
-    let named : c.named_below-named.result ≡ next_named now.device tree x before = c.named_below-named.ensures ∙ cc in
+    let map_entry_is : c.map_entry_below-map_entry.result ≡ next_map_entry now.device tree x before = c.map_entry_below-map_entry.ensures ∙ cc in
     let of = c.requires.oldest x rest q in
-    let test = sym (c.is_misled.ensures x before of.0 named) in
+    let test = sym (c.is_misled.ensures x before of.0 map_entry_is) in
     let no : is_misled v now.state x c.args.lookup.found before ≡ false = test ∙ c.if-is_misled.false in
     let kept : c.send.result.kept ≡ store_body tree (requested now.state.message).leaf records = c.send.ensures.kept ∙ m ∙ ap (λ (l : ℕ). store_body tree l records) c.requires.leaf in
-    c.commit.ensures.ok ∙ stored_so v now.state x tree c.args.path_access.block c.args.path_access.new_leaf c.named_below-named.result before records c.send.result.kept c.requires.tree of.0 of.1 named kept
+    c.commit.ensures.ok ∙ stored_so v now.state x tree c.args.path_access.block c.args.path_access.new_leaf c.map_entry_below-map_entry.result before records c.send.result.kept c.requires.tree of.0 of.1 map_entry_is kept
     ∙ sym (ap (λ (b : Bool). if b then failed_by now.state (reason.Tampered (entry_tree now.device now.state.entry_number) 0) else stored_by v now.state x before records) no)
 
-pub named_below-named-requires-clause-tree : goal.named_below-named-requires-clause-tree
-named_below-named-requires-clause-tree g c = subst (λ (u : CoreValue g.row.S.Denot). c.args.path_access.tree < trees_of u.device) (sym c.self.view_is) c.requires.ranges.0
+pub map_entry_below-map_entry-requires-clause-tree : goal.map_entry_below-map_entry-requires-clause-tree
+map_entry_below-map_entry-requires-clause-tree g c = subst (λ (u : CoreValue g.row.S.Denot). c.args.path_access.tree < trees_of u.device) (sym c.self.view_is) c.requires.ranges.0
 
 pub is_misled-requires-clause-tree : goal.is_misled-requires-clause-tree
 is_misled-requires-clause-tree g c = c.requires.tree

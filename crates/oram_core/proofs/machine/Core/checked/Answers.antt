@@ -3,7 +3,7 @@ use Rattle.oram_geometry.specs.Sizes.{depth_of, trees_of}
 use Rattle.oram_hash.specs.Path.{Path}
 use Rattle.oram_semantics.specs.Messages.{requested, message_place}
 use Rattle.oram_core.specs.Core.{CoreValue, scheme_of, IsSound}
-use Rattle.oram_core.proofs.Small.{asked_leaf}
+use Rattle.oram_core.proofs.Small.{requested_leaf}
 use Rattle.oram_core.proofs.MethodEnds.{leaf_here}
 use Rattle.oram_core.proofs.AnswerVerdicts.{lends, path_same, checked_as, lent_within}
 use Rattle.oram_core.proofs.Sound.{has_oldest}
@@ -14,7 +14,7 @@ check-requires-clause-leaf g c =
     let now = c.args.self.now in
     let v = scheme_of g.S.Sealer.cipher now in
     let h = lends g.S.Sealer.cipher _ now c.index.result.now c.from.result c.tree_at_work-tree.result c.self.view_is c.self.invariant c.requires c.from.ensures c.tree_at_work-tree.ensures.value c.index.ensures in
-    let leaf_is : c.leaf_named-leaf.result ≡ (requested now.state.message).leaf = c.leaf_named-leaf.ensures ∙ ap message_place (c.as_slice.ensures ∙ ap (λ (u : CoreValue g.row.S.Denot). u.state.message) c.self.view_is) ∙ asked_leaf _ in
+    let leaf_is : c.leaf_named-leaf.result ≡ (requested now.state.message).leaf = c.leaf_named-leaf.ensures ∙ ap message_place (c.as_slice.ensures ∙ ap (λ (u : CoreValue g.row.S.Denot). u.state.message) c.self.view_is) ∙ requested_leaf _ in
     subst (λ (u : CoreValue g.row.S.Denot). c.leaf_named-leaf.result < 2 ^ depth_of u.device c.index.result.now.number) (sym c.self.view_is) (rw (leaf_is, h.at.number) (leaf_here v.device v.cipher.overhead now.state h.sound c.requires))
 
 pub returns-clause-checked : goal.returns-clause-checked
@@ -22,7 +22,7 @@ returns-clause-checked g c =
     let now = c.args.self.now in
     let v = scheme_of g.S.Sealer.cipher now in
     let h = lends g.S.Sealer.cipher _ now c.index.result.now c.from.result c.tree_at_work-tree.result c.self.view_is c.self.invariant c.requires c.from.ensures c.tree_at_work-tree.ensures.value c.index.ensures in
-    let leaf_is : c.leaf_named-leaf.result ≡ (requested now.state.message).leaf = c.leaf_named-leaf.ensures ∙ ap message_place (c.as_slice.ensures ∙ ap (λ (u : CoreValue g.row.S.Denot). u.state.message) c.self.view_is) ∙ asked_leaf _ in
+    let leaf_is : c.leaf_named-leaf.result ≡ (requested now.state.message).leaf = c.leaf_named-leaf.ensures ∙ ap message_place (c.as_slice.ensures ∙ ap (λ (u : CoreValue g.row.S.Denot). u.state.message) c.self.view_is) ∙ requested_leaf _ in
     let device_is : c.self.inside.device ≡ now.device = ap (λ (u : CoreValue g.row.S.Denot). u.device) c.self.view_is in
     let overhead_is : c.overhead-overhead.result ≡ v.cipher.overhead = c.overhead-overhead.ensures ∙ ap (λ (u : CoreValue g.row.S.Denot). (g.S.Sealer.cipher u.sealer).overhead) c.self.view_is in
     checked_as v now.state c.index.result.now.number c.leaf_named-leaf.result c.overhead-overhead.result c.self.inside.device c.index.result.now c.args.records.now c.check.result device_is h.at.number leaf_is overhead_is h.at.is c.check.ensures.accepted c.check.ensures.length c.check.ensures.tampered c.check.ensures.judged
@@ -32,7 +32,7 @@ returns-clause-view g c =
     let now = c.args.self.now in
     let v = scheme_of g.S.Sealer.cipher now in
     let h = lends g.S.Sealer.cipher _ now c.index.result.now c.from.result c.tree_at_work-tree.result c.self.view_is c.self.invariant c.requires c.from.ensures c.tree_at_work-tree.ensures.value c.index.ensures in
-    let leaf_is : c.leaf_named-leaf.result ≡ (requested now.state.message).leaf = c.leaf_named-leaf.ensures ∙ ap message_place (c.as_slice.ensures ∙ ap (λ (u : CoreValue g.row.S.Denot). u.state.message) c.self.view_is) ∙ asked_leaf _ in
+    let leaf_is : c.leaf_named-leaf.result ≡ (requested now.state.message).leaf = c.leaf_named-leaf.ensures ∙ ap message_place (c.as_slice.ensures ∙ ap (λ (u : CoreValue g.row.S.Denot). u.state.message) c.self.view_is) ∙ requested_leaf _ in
     let device_is : c.self.inside.device ≡ now.device = ap (λ (u : CoreValue g.row.S.Denot). u.device) c.self.view_is in
     let overhead_is : c.overhead-overhead.result ≡ v.cipher.overhead = c.overhead-overhead.ensures ∙ ap (λ (u : CoreValue g.row.S.Denot). (g.S.Sealer.cipher u.sealer).overhead) c.self.view_is in
     subst (λ (p : Path). IfOk c.check.result (λ q. q ≡ p)) (path_same v now.state c.index.result.now.number c.leaf_named-leaf.result c.overhead-overhead.result c.self.inside.device c.args.records.now device_is h.at.number leaf_is overhead_is) c.check.ensures.view

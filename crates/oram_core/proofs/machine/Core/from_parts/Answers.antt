@@ -6,7 +6,7 @@ use Rattle.oram_core.specs.Core.{IsSound}
 use Rattle.oram_core.specs.Validity.{AreTrees, IsFitting}
 use Rattle.oram_core.specs.Parts.{Parts, AreParts, state_of}
 use Rattle.oram_tree.specs.declared.faults.PartsFault.{PartsFault}
-use Rattle.oram_core.proofs.Fits.{memory_apart, parts_by, fits_of, told_err, trees_of_parts}
+use Rattle.oram_core.proofs.Fits.{memory_apart, parts_by, fits_of, at_err, trees_of_parts}
 use Rattle.oram_core.proofs.Sound.{stage_within}
 use Rattle.std.proofs.lemmas.Result.{IfOk-from_err}
 use Rattle.oram_core.proofs.Heard.{no_ok, ok_apart}
@@ -19,7 +19,7 @@ pub returns-in_err-trees-clause-content : goal.returns-in_err-trees-clause-conte
 returns-in_err-trees-clause-content g c = λ same are.
     let o = (g.S.Sealer.cipher c.args.sealer).overhead in
     let trees = subst (λ (p : Parts). AreTrees p.device 0 p.trees) (sym c.parts.view_is) (trees_of_parts o c.args.parts are) in
-    c.in_err-trees.ensures.content (ap Err (sym (told_err c.from_residual.result _ PartsFault.Content same c.from_residual.ensures.1))) trees
+    c.in_err-trees.ensures.content (ap Err (sym (at_err c.from_residual.result _ PartsFault.Content same c.from_residual.ensures.1))) trees
 
 pub overflow_cast-result : goal.overflow_cast-result
 overflow_cast-result g c =

@@ -11,7 +11,7 @@ use Rattle.oram_semantics.specs.declared.events.Reason.TheVariants as reason
 use Rattle.oram_core.specs.PlainSteps.{done, failed_by, stored_by, is_misled}
 use Rattle.oram_core.specs.Steps.{Heard}
 use Rattle.oram_core.proofs.Heard.{taken_heard, failed_heard, on_err}
-use Rattle.oram_core.proofs.Judged.{access_used, unreadable_used, readable_now, readable_told, looked_now}
+use Rattle.oram_core.proofs.Judged.{access_used, unreadable_used, readable_now, readable_in, looked_now}
 use Rattle.oram_core.proofs.LocalRule.{Waits, waits}
 use Rattle.oram_core.proofs.AnswerVerdicts.{lends, gives_back, lent_within}
 use Rattle.oram_core.proofs.Accesses.{access_moves, ready_tree}
@@ -79,7 +79,7 @@ pub returns-in-Ok-clause-moves : goal.returns-in-Ok-clause-moves
 returns-in-Ok-clause-moves g c = λ w fits on_path.
     let now = c.args.self.now in
     let v = scheme_of g.S.Sealer.cipher now in
-    let told = c.index_mut.result.now in
+    let tree_lent = c.index_mut.result.now in
     let h = lends g.S.Sealer.cipher _ c.args.self.now c.index_mut.result.now c.from.result c.path_access-path_access.result.tree c.self.view_is c.self.invariant c.requires.waiting c.from.ensures c.path_access-path_access.ensures.tree c.index_mut.ensures.value in
     let o : Waits now.state = waits now.state c.requires.waiting in
     let i = entry_tree now.device now.state.entry_number in
@@ -96,8 +96,8 @@ returns-in-Ok-clause-moves g c = λ w fits on_path.
     let does = subst (λ (u : CoreValue g.row.S.Denot). (x : Submission) (rest : List Submission) (records : List ℕ) → u.state.queue ≡ x ∷ rest → message ≡ store_body c.path_access-path_access.result.tree c.path_access-path_access.result.leaf records → done c.adopt_access.result c.adopt_access.new.self.state ≡ (let s' = record u.state { trees = slice_set u.state.trees c.from.result new } in if is_misled (scheme_of g.S.Sealer.cipher u) s' x found before then failed_by s' (reason.Tampered (entry_tree u.device u.state.entry_number) 0) else stored_by (scheme_of g.S.Sealer.cipher u) s' x before records)) c.self.view_is c.adopt_access.ensures.ok in
     let does_at = subst (λ (k : ℕ). done c.adopt_access.result c.adopt_access.new.self.state ≡ (let s' = record now.state { trees = slice_set now.state.trees k new } in if is_misled v s' o.oldest found before then failed_by s' why else stored_by v s' o.oldest before records)) (c.from.ensures ∙ c.path_access-path_access.ensures.tree) (does o.oldest o.rest records o.queue body) in
     let block : Cell = edited_block c.path_access-path_access.result.block c.path_access-path_access.result.new_leaf c.edit_for.result before in
-    let written : IsRewritten (Reads v.cipher.opening now.device told.number) v.cipher.sealing now.device now.state.nonce path told.stash (with_bytes path records) block new.stash =
-    subst (λ (u : CoreValue g.row.S.Denot). IsRewritten (Reads (g.S.Sealer.cipher u.sealer).opening u.device told.number) (g.S.Sealer.cipher u.sealer).sealing u.device u.state.nonce path told.stash (with_bytes path records) block new.stash) c.self.view_is (c.in-Ok.ensures.written records gained) in
+    let written : IsRewritten (record { device = now.device; tree = tree_lent.number; cipher = v.cipher; path = path; nonce = now.state.nonce }) tree_lent.stash (with_bytes path records) block new.stash =
+    subst (λ (u : CoreValue g.row.S.Denot). IsRewritten (record { device = u.device; tree = tree_lent.number; cipher = g.S.Sealer.cipher u.sealer; path = path; nonce = u.state.nonce }) tree_lent.stash (with_bytes path records) block new.stash) c.self.view_is (c.in-Ok.ensures.written records gained) in
     let long : length records ≡ (depth_of now.device i + 1) * record_len v = c.in-Ok.ensures.whole records gained ∙ ap (λ (p : Path). (p.depth + 1) * p.record_len) c.requires.path in
     let x = o.oldest in
     let tree = c.path_access-path_access.ensures.tree in
@@ -113,24 +113,24 @@ returns-in-Ok-clause-moves g c = λ w fits on_path.
     ap (λ (k : ℕ). let d : Cell = record { address = k; leaf = c.path_access-path_access.result.new_leaf; content = edited_content c.edit_for.result before } in d) at_block
     ∙ ap (λ (k : ℕ). let d : Cell = record { address = block_of now.device i x; leaf = k; content = edited_content c.edit_for.result before } in d) at_leaf
     ∙ ap (λ (b : List ℕ). let d : Cell = record { address = block_of now.device i x; leaf = new_leaf now.device i x; content = b } in d) content in
-    let ready = ready_tree v now.state w told o h.sound c.requires.entry_number fits h.at in
+    let ready = ready_tree v now.state w tree_lent o h.sound c.requires.entry_number fits h.at in
     let absent : IsAtOrAbsent (w.content i) c.path_access-path_access.result.block c.path_access-path_access.result.leaf =
     subst (λ (k : ℕ). IsAtOrAbsent (w.content i) c.path_access-path_access.result.block k) (sym c.path_access-path_access.ensures.leaf)
     (subst (λ (k : ℕ). IsAtOrAbsent (w.content i) k (requested now.state.message).leaf) (sym at_block) ready.at_leaf) in
-    let updates = subst (λ (u : CoreValue g.row.S.Denot). (rs : ℕ → List ℕ) (held : Map) → IsStoredWith (g.S.Sealer.cipher u.sealer).opening (g.S.Sealer.cipher u.sealer).overhead u.device told rs held → IsPathOf rs path → IsAtOrAbsent held c.path_access-path_access.result.block c.path_access-path_access.result.leaf
+    let updates = subst (λ (u : CoreValue g.row.S.Denot). (rs : ℕ → List ℕ) (held : Map) → IsStoredWith (g.S.Sealer.cipher u.sealer).opening (g.S.Sealer.cipher u.sealer).overhead u.device tree_lent rs held → IsPathOf rs path → IsAtOrAbsent held c.path_access-path_access.result.block c.path_access-path_access.result.leaf
     → MatchResult c.access_to-looked.result (λ a. (gained : List ℕ) → message ≡ header ++ gained → IsUpdate (g.S.Sealer.cipher u.sealer).opening (g.S.Sealer.cipher u.sealer).overhead u.device path (with_bytes path gained) rs held (edited_block c.path_access-path_access.result.block c.path_access-path_access.result.new_leaf c.edit_for.result a.before.items) a.found a.before.items new) (λ f. f ≡ fault.OutOfMemory)) c.self.view_is c.access_to-looked.ensures.updates in
-    let told_so = subst (λ r. MatchResult r (λ a. (gained : List ℕ) → message ≡ header ++ gained → IsUpdate v.cipher.opening v.cipher.overhead now.device path (with_bytes path gained) (w.records i) (w.content i) (edited_block c.path_access-path_access.result.block c.path_access-path_access.result.new_leaf c.edit_for.result a.before.items) a.found a.before.items new) (λ f. f ≡ fault.OutOfMemory)) c.in-Ok.is (updates (w.records i) (w.content i) ready.stored on_path absent) in
+    let update_if_ok = subst (λ r. MatchResult r (λ a. (gained : List ℕ) → message ≡ header ++ gained → IsUpdate v.cipher.opening v.cipher.overhead now.device path (with_bytes path gained) (w.records i) (w.content i) (edited_block c.path_access-path_access.result.block c.path_access-path_access.result.new_leaf c.edit_for.result a.before.items) a.found a.before.items new) (λ f. f ≡ fault.OutOfMemory)) c.in-Ok.is (updates (w.records i) (w.content i) ready.stored on_path absent) in
     let update : IsUpdate v.cipher.opening v.cipher.overhead now.device path (with_bytes path records) (w.records i) (w.content i) cell found before new =
-    subst (λ (d : Cell). IsUpdate v.cipher.opening v.cipher.overhead now.device path (with_bytes path records) (w.records i) (w.content i) d found before new) same (told_so records gained) in
-    let made : IsRewritten (Reads v.cipher.opening now.device told.number) v.cipher.sealing now.device now.state.nonce path told.stash (with_bytes path records) cell new.stash =
-    subst (λ (d : Cell). IsRewritten (Reads v.cipher.opening now.device told.number) v.cipher.sealing now.device now.state.nonce path told.stash (with_bytes path records) d new.stash) same written in
-    access_moves v now.state w told new path found before records why c.adopt_access.result c.adopt_access.new.self.state o h.sound c.requires.entry_number fits h.at c.requires.path long c.access_to-looked.ensures.number update made does_at
+    subst (λ (d : Cell). IsUpdate v.cipher.opening v.cipher.overhead now.device path (with_bytes path records) (w.records i) (w.content i) d found before new) same (update_if_ok records gained) in
+    let made : IsRewritten (record { device = now.device; tree = tree_lent.number; cipher = v.cipher; path = path; nonce = now.state.nonce }) tree_lent.stash (with_bytes path records) cell new.stash =
+    subst (λ (d : Cell). IsRewritten (record { device = now.device; tree = tree_lent.number; cipher = v.cipher; path = path; nonce = now.state.nonce }) tree_lent.stash (with_bytes path records) d new.stash) same written in
+    access_moves v now.state w tree_lent new path found before records why c.adopt_access.result c.adopt_access.new.self.state o h.sound c.requires.entry_number fits h.at c.requires.path long c.access_to-looked.ensures.number update made does_at
 
 pub returns-in-Unreadable-clause-moves : goal.returns-in-Unreadable-clause-moves
 returns-in-Unreadable-clause-moves g c = λ w fits on_path.
     let now = c.args.self.now in
     let v = scheme_of g.S.Sealer.cipher now in
-    let told = c.index_mut.result.now in
+    let tree_lent = c.index_mut.result.now in
     let h = lends g.S.Sealer.cipher _ c.args.self.now c.index_mut.result.now c.from.result c.path_access-path_access.result.tree c.self.view_is c.self.invariant c.requires.waiting c.from.ensures c.path_access-path_access.ensures.tree c.index_mut.ensures.value in
     let o : Waits now.state = waits now.state c.requires.waiting in
     let i = entry_tree now.device now.state.entry_number in
@@ -142,14 +142,14 @@ returns-in-Unreadable-clause-moves g c = λ w fits on_path.
     let tree = c.path_access-path_access.ensures.tree in
     let ob = c.path_access-path_access.ensures.oldest o.oldest o.rest o.queue in
     let at_block : c.path_access-path_access.result.block ≡ block_of now.device i x = ob.0 ∙ ap (λ (k : ℕ). block_of now.device k x) tree in
-    let ready = ready_tree v now.state w told o h.sound c.requires.entry_number fits h.at in
+    let ready = ready_tree v now.state w tree_lent o h.sound c.requires.entry_number fits h.at in
     let absent : IsAtOrAbsent (w.content i) c.path_access-path_access.result.block c.path_access-path_access.result.leaf =
     subst (λ (k : ℕ). IsAtOrAbsent (w.content i) c.path_access-path_access.result.block k) (sym c.path_access-path_access.ensures.leaf)
     (subst (λ (k : ℕ). IsAtOrAbsent (w.content i) k (requested now.state.message).leaf) (sym at_block) ready.at_leaf) in
-    let updates = subst (λ (u : CoreValue g.row.S.Denot). (rs : ℕ → List ℕ) (held : Map) → IsStoredWith (g.S.Sealer.cipher u.sealer).opening (g.S.Sealer.cipher u.sealer).overhead u.device told rs held → IsPathOf rs path → IsAtOrAbsent held c.path_access-path_access.result.block c.path_access-path_access.result.leaf
+    let updates = subst (λ (u : CoreValue g.row.S.Denot). (rs : ℕ → List ℕ) (held : Map) → IsStoredWith (g.S.Sealer.cipher u.sealer).opening (g.S.Sealer.cipher u.sealer).overhead u.device tree_lent rs held → IsPathOf rs path → IsAtOrAbsent held c.path_access-path_access.result.block c.path_access-path_access.result.leaf
     → MatchResult c.access_to-looked.result (λ a. (gained : List ℕ) → message ≡ header ++ gained → IsUpdate (g.S.Sealer.cipher u.sealer).opening (g.S.Sealer.cipher u.sealer).overhead u.device path (with_bytes path gained) rs held (edited_block c.path_access-path_access.result.block c.path_access-path_access.result.new_leaf c.edit_for.result a.before.items) a.found a.before.items new) (λ f. f ≡ fault.OutOfMemory)) c.self.view_is c.access_to-looked.ensures.updates in
-    let told_so = subst (λ r. MatchResult r (λ a. (gained : List ℕ) → message ≡ header ++ gained → IsUpdate v.cipher.opening v.cipher.overhead now.device path (with_bytes path gained) (w.records i) (w.content i) (edited_block c.path_access-path_access.result.block c.path_access-path_access.result.new_leaf c.edit_for.result a.before.items) a.found a.before.items new) (λ f. f ≡ fault.OutOfMemory)) (c.in-Err.is ∙ ap Err c.in-Unreadable.is) (updates (w.records i) (w.content i) ready.stored on_path absent) in
-    absurd (let no_way : fault.Unreadable ≡ fault.OutOfMemory = told_so in cc)
+    let update_if_ok = subst (λ r. MatchResult r (λ a. (gained : List ℕ) → message ≡ header ++ gained → IsUpdate v.cipher.opening v.cipher.overhead now.device path (with_bytes path gained) (w.records i) (w.content i) (edited_block c.path_access-path_access.result.block c.path_access-path_access.result.new_leaf c.edit_for.result a.before.items) a.found a.before.items new) (λ f. f ≡ fault.OutOfMemory)) (c.in-Err.is ∙ ap Err c.in-Unreadable.is) (updates (w.records i) (w.content i) ready.stored on_path absent) in
+    absurd (let no_way : fault.Unreadable ≡ fault.OutOfMemory = update_if_ok in cc)
 
 pub returns-in-Ok-clause-heard : goal.returns-in-Ok-clause-heard
 returns-in-Ok-clause-heard g c =
@@ -179,7 +179,7 @@ pub returns-in-Ok-clause-uses : goal.returns-in-Ok-clause-uses
 returns-in-Ok-clause-uses g c =
     let now = c.args.self.now in
     let v = scheme_of g.S.Sealer.cipher now in
-    let told = c.index_mut.result.now in
+    let tree_lent = c.index_mut.result.now in
     let h = lends g.S.Sealer.cipher _ c.args.self.now c.index_mut.result.now c.from.result c.path_access-path_access.result.tree c.self.view_is c.self.invariant c.requires.waiting c.from.ensures c.path_access-path_access.ensures.tree c.index_mut.ensures.value in
     let o : Waits now.state = waits now.state c.requires.waiting in
     let i = entry_tree now.device now.state.entry_number in
@@ -190,30 +190,30 @@ returns-in-Ok-clause-uses g c =
     let message = c.access_to-looked.new.out.items in
     let body : message ≡ store_body c.path_access-path_access.result.tree c.path_access-path_access.result.leaf records = c.in-Ok.ensures.appends.1 ∙ c.in_ok-message.ensures.items records in
     let path = c.args.path.now in
-    let readable = subst (λ (u : CoreValue g.row.S.Denot). OnOk c.access_to-looked.result (IsReadable (Reads (g.S.Sealer.cipher u.sealer).opening u.device told.number) path told.stash)) c.self.view_is c.access_to-looked.ensures.readable in
-    let read : IsReadable (Reads v.cipher.opening now.device told.number) path told.stash = subst (λ r. OnOk r (IsReadable (Reads v.cipher.opening now.device told.number) path told.stash)) c.in-Ok.is readable in
-    let looked = subst (λ (u : CoreValue g.row.S.Denot). IsLookup (IsNear (Reads (g.S.Sealer.cipher u.sealer).opening u.device told.number) path told.stash) u.device.block_bytes c.path_access-path_access.result.block found before) c.self.view_is c.in-Ok.ensures.lookup in
+    let readable = subst (λ (u : CoreValue g.row.S.Denot). OnOk c.access_to-looked.result (IsReadable (Reads (g.S.Sealer.cipher u.sealer).opening u.device tree_lent.number) path tree_lent.stash)) c.self.view_is c.access_to-looked.ensures.readable in
+    let read : IsReadable (Reads v.cipher.opening now.device tree_lent.number) path tree_lent.stash = subst (λ r. OnOk r (IsReadable (Reads v.cipher.opening now.device tree_lent.number) path tree_lent.stash)) c.in-Ok.is readable in
+    let looked = subst (λ (u : CoreValue g.row.S.Denot). IsLookup (IsNear (Reads (g.S.Sealer.cipher u.sealer).opening u.device tree_lent.number) path tree_lent.stash) u.device.block_bytes c.path_access-path_access.result.block found before) c.self.view_is c.in-Ok.ensures.lookup in
     let ob = c.path_access-path_access.ensures.oldest o.oldest o.rest o.queue in
     let at_block : c.path_access-path_access.result.block ≡ block_of now.device i o.oldest = ob.0 ∙ ap (λ (k : ℕ). block_of now.device k o.oldest) c.path_access-path_access.ensures.tree in
     let does = subst (λ (u : CoreValue g.row.S.Denot). (x : Submission) (rest : List Submission) (records : List ℕ) → u.state.queue ≡ x ∷ rest → message ≡ store_body c.path_access-path_access.result.tree c.path_access-path_access.result.leaf records → done c.adopt_access.result c.adopt_access.new.self.state ≡ (let after = record u.state { trees = slice_set u.state.trees c.from.result new } in if is_misled (scheme_of g.S.Sealer.cipher u) after x found before then failed_by after (reason.Tampered (entry_tree u.device u.state.entry_number) 0) else stored_by (scheme_of g.S.Sealer.cipher u) after x before records)) c.self.view_is c.adopt_access.ensures.ok in
     access_used v now.state (slice_set now.state.trees c.from.result new) o.oldest o.rest path found before records c.adopt_access.result c.adopt_access.new.self.state o.queue
-    (readable_now v now.state told path h.at read)
-    (looked_now v now.state told path c.path_access-path_access.result.block o.oldest found before h.at at_block looked)
+    (readable_now v now.state tree_lent path h.at read)
+    (looked_now v now.state tree_lent path c.path_access-path_access.result.block o.oldest found before h.at at_block looked)
     (does o.oldest o.rest records o.queue body)
 
 pub returns-in-Unreadable-clause-uses : goal.returns-in-Unreadable-clause-uses
 returns-in-Unreadable-clause-uses g c =
     let now = c.args.self.now in
     let v = scheme_of g.S.Sealer.cipher now in
-    let told = c.index_mut.result.now in
+    let tree_lent = c.index_mut.result.now in
     let h = lends g.S.Sealer.cipher _ c.args.self.now c.index_mut.result.now c.from.result c.path_access-path_access.result.tree c.self.view_is c.self.invariant c.requires.waiting c.from.ensures c.path_access-path_access.ensures.tree c.index_mut.ensures.value in
     let new = c.access_to-looked.new.self in
     let path = c.args.path.now in
     let e = reason.Tampered c.path_access-path_access.result.tree 0 in
-    let unreadable = subst (λ (u : CoreValue g.row.S.Denot). c.access_to-looked.result ≡ Err fault.Unreadable → ¬ IsReadable (Reads (g.S.Sealer.cipher u.sealer).opening u.device told.number) path told.stash) c.self.view_is c.access_to-looked.ensures.unreadable in
+    let unreadable = subst (λ (u : CoreValue g.row.S.Denot). c.access_to-looked.result ≡ Err fault.Unreadable → ¬ IsReadable (Reads (g.S.Sealer.cipher u.sealer).opening u.device tree_lent.number) path tree_lent.stash) c.self.view_is c.access_to-looked.ensures.unreadable in
     let does = subst (λ (u : CoreValue g.row.S.Denot). done c.fail.result c.fail.new.self.state ≡ failed_by (record u.state { trees = slice_set u.state.trees c.from.result new }) e) c.self.view_is c.fail.ensures.ok in
     unreadable_used v now.state (record now.state { trees = slice_set now.state.trees c.from.result new }) c.fail.new.self.state c.path_access-path_access.result.tree path c.fail.result c.path_access-path_access.ensures.tree
-    (λ so. unreadable (c.in-Err.is ∙ ap Err c.in-Unreadable.is) (readable_told v now.state told path h.at so)) does
+    (λ so. unreadable (c.in-Err.is ∙ ap Err c.in-Unreadable.is) (readable_in v now.state tree_lent path h.at so)) does
 
 pub path_access-path_access-requires : goal.path_access-path_access-requires
 path_access-path_access-requires g c = c.requires.waiting

@@ -7,7 +7,7 @@ use Rattle.oram_core.specs.Verdicts.{Means, Tells}
 use Rattle.oram_core.specs.declared.verdicts.Verdict.TheVariants as verdict
 use Rattle.oram_semantics.specs.Answers.Outcome.{Good}
 use Rattle.oram_core.proofs.Heard.{failed_heard, if_ok, on_err}
-use Rattle.oram_core.proofs.Judged.{use_told, stored_told}
+use Rattle.oram_core.proofs.Judged.{use_verdict, stored_verdict}
 use Rattle.oram_core.proofs.LocalRule.{fail_moves, moves_by, stall_moves}
 use Rattle.std.proofs.lemmas.Result.{IfOk-from_err}
 use Rattle.oram_core.proofs.machine.Core.take_answer.Goals as goal
@@ -16,15 +16,15 @@ pub returns-in-Path-clause-verdict : goal.returns-in-Path-clause-verdict
 returns-in-Path-clause-verdict g c = λ other.
     let v = scheme_of g.S.Sealer.cipher c.args.self.now in
     let s = c.args.self.now.state in
-    let told = subst (Tells v s c.args.bytes.now) c.in-Path.is c.verdict.ensures.tells in
-    if_ok _ _ c.store.result (λ y u. use_told v s c.args.bytes.now c.in-Path.path y.note told u) c.store.ensures.uses
+    let tells = subst (Tells v s c.args.bytes.now) c.in-Path.is c.verdict.ensures.tells in
+    if_ok _ _ c.store.result (λ y u. use_verdict v s c.args.bytes.now c.in-Path.path y.note tells u) c.store.ensures.uses
 
 pub returns-in-Stored-clause-verdict : goal.returns-in-Stored-clause-verdict
 returns-in-Stored-clause-verdict g c = λ other.
     let v = scheme_of g.S.Sealer.cipher c.args.self.now in
     let s = c.args.self.now.state in
-    let told = subst (Tells v s c.args.bytes.now) c.in-Stored.is c.verdict.ensures.tells in
-    if_ok _ _ c.proceed.result (λ y n. subst (IsVerdict v s c.args.bytes.now) (sym n) (stored_told v s c.args.bytes.now told)) c.proceed.ensures.taken
+    let tells = subst (Tells v s c.args.bytes.now) c.in-Stored.is c.verdict.ensures.tells in
+    if_ok _ _ c.proceed.result (λ y n. subst (IsVerdict v s c.args.bytes.now) (sym n) (stored_verdict v s c.args.bytes.now tells)) c.proceed.ensures.taken
 
 pub returns-in-Path-clause-moves : goal.returns-in-Path-clause-moves
 returns-in-Path-clause-moves g c = λ w fits apart.
@@ -160,8 +160,8 @@ pub returns-in_ok-replies-in-Bad-clause-verdict : goal.returns-in_ok-replies-in-
 returns-in_ok-replies-in-Bad-clause-verdict g c = λ other.
     let v = scheme_of g.S.Sealer.cipher c.args.self.now in
     let s = c.args.self.now.state in
-    let told = subst (Tells v s c.args.bytes.now) c.in-Bad.is c.verdict.ensures.tells in
-    subst (IsVerdict v s c.args.bytes.now) (sym (ap (λ (d : Done). d.note) c.fail.ensures.ok)) told
+    let tells = subst (Tells v s c.args.bytes.now) c.in-Bad.is c.verdict.ensures.tells in
+    subst (IsVerdict v s c.args.bytes.now) (sym (ap (λ (d : Done). d.note) c.fail.ensures.ok)) tells
 
 pub returns-in_ok-replies-in-Bad-clause-no_room : goal.returns-in_ok-replies-in-Bad-clause-no_room
 returns-in_ok-replies-in-Bad-clause-no_room g c = λ is. absurd (let no_way : verdict.Bad c.in-Bad.reason ≡ verdict.NoRoom = sym c.in-Bad.is ∙ c.verdict.ensures.no_room.1 is in cc)

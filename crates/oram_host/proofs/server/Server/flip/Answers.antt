@@ -53,8 +53,8 @@ returns c =
     let written : WritesThrough nat_cmp (nat_cmp tree) trees changed after = c.get_mut.follows.holds changed in
     let found : get nat_cmp trees tree ≡ Some c.in-Some.kept.now = search rules in
     let some : IsSome (get nat_cmp trees tree) = rw found refl in
-    let told = was_flipped c.flip.result host (host_of after) tree node c.args.offset (kept_by c.in-Some.kept.now) (kept_by changed) (tree_there trees host tree c.in-Some.kept.now c.self.view_is found)
+    let flipped = was_flipped c.flip.result host (host_of after) tree node c.args.offset (kept_by c.in-Some.kept.now) (kept_by changed) (tree_there trees host tree c.in-Some.kept.now c.self.view_is found)
     (keeps_written trees after host (host_of after) tree changed c.self.view_is refl some written) (same_host trees after host (host_of after) tree c.in-Some.kept.now changed c.self.view_is refl found written)
     c.flip.ensures.flipped c.flip.ensures.same in
     let P : ℕ → ℕ → Type 0 = λ t n. MatchBool c.flip.result (IsFlipped host t n c.args.offset (host_of after)) (IsByteless host t n c.args.offset × (host_of after ≡ host)) in
-    subst (P c.args.tree) c.in-Ok-try_from.ensures.1 (subst (λ (t : ℕ). P t node) c.in-Ok.ensures.1 told)
+    subst (P c.args.tree) c.in-Ok-try_from.ensures.1 (subst (λ (t : ℕ). P t node) c.in-Ok.ensures.1 flipped)

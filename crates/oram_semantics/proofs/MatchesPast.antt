@@ -20,8 +20,8 @@ next_by v past s old (Some e) f = f.next
 next_by v past s old None f = f.0.next ∙ sym (accepted_len past old s.queue f.0.split)
 
 -- the next ticket
-pub next_told : (v : Setting) (past : List Step) (s : State) → Follows v past s → s.next ≡ length (accepted past)
-next_told v past s f = next_by v past s f.old s.failure f.follows
+pub next_matches : (v : Setting) (past : List Step) (s : State) → Follows v past s → s.next ≡ length (accepted past)
+next_matches v past s f = next_by v past s f.old s.failure f.follows
 
 failure_by : (v : Setting) (past : List Step) (s : State) (old : List Submission) (failure : Option Reason)
     → FollowsAt v past old s failure → failure ≡ (progress v past).failure
@@ -29,20 +29,20 @@ failure_by v past s old (Some e) f = sym f.failed
 failure_by v past s old None f = sym f.0.alive
 
 -- the failure
-pub failure_told : (v : Setting) (past : List Step) (s : State) → Follows v past s → s.failure ≡ (progress v past).failure
-failure_told v past s f = failure_by v past s f.old s.failure f.follows
+pub failure_matches : (v : Setting) (past : List Step) (s : State) → Follows v past s → s.failure ≡ (progress v past).failure
+failure_matches v past s f = failure_by v past s f.old s.failure f.follows
 
-status_told_by : (v : Setting) (past : List Step) (s : State) (old : List Submission) (failure : Option Reason)
+status_matches_by : (v : Setting) (past : List Step) (s : State) (old : List Submission) (failure : Option Reason)
     → s.failure ≡ failure → IsFit v.scheme.device → FollowsAt v past old s failure
     → status_by failure s.queue s.lost ≡ status v past
-status_told_by v past s old (Some e) h fit f = sym (status_ends v past e f.failed)
-status_told_by v past s old None h fit f =
+status_matches_by v past s old (Some e) h fit f = sym (status_ends v past e f.failed)
+status_matches_by v past s old None h fit f =
     sym (status_is v past old s fit f.0 h ∙ ap (λ (o : Option Reason). status_by o s.queue s.lost) h)
 
 -- the status
-pub status_told : (v : Setting) (past : List Step) (s : State) → IsFit v.scheme.device → Follows v past s
+pub status_matches : (v : Setting) (past : List Step) (s : State) → IsFit v.scheme.device → Follows v past s
     → status_in s ≡ status v past
-status_told v past s fit f = status_told_by v past s f.old s.failure refl fit f.follows
+status_matches v past s fit f = status_matches_by v past s f.old s.failure refl fit f.follows
 
 few_wait : (v : Setting) (past : List Step) (s : State) (old : List Submission) (failure : Option Reason) → failure ≡ None
     → IsFit v.scheme.device → FollowsAt v past old s failure
@@ -56,9 +56,9 @@ few_wait v past s old None h fit f =
     omega arith
 
 -- the commands without a reply
-pub waiting_told : (v : Setting) (past : List Step) (s : State) → s.failure ≡ None → IsFit v.scheme.device → Follows v past s
+pub waiting_matches : (v : Setting) (past : List Step) (s : State) → s.failure ≡ None → IsFit v.scheme.device → Follows v past s
     → length s.queue ≡ length (accepted past) - answered_tickets v past
-waiting_told v past s h fit f = few_wait v past s f.old s.failure h fit f.follows
+waiting_matches v past s h fit f = few_wait v past s f.old s.failure h fit f.follows
 
 none_waits_by : (v : Setting) (past : List Step) (s : State) (old : List Submission) (failure : Option Reason) (e : Reason)
     → failure ≡ Some e → FollowsAt v past old s failure → s.queue ≡ []
@@ -69,18 +69,18 @@ none_waits_by v past s old None e h f = absurd (let both : None ≡ Some e = h i
 pub none_waits : (v : Setting) (past : List Step) (s : State) (e : Reason) → s.failure ≡ Some e → Follows v past s → s.queue ≡ []
 none_waits v past s e h f = none_waits_by v past s f.old s.failure e h f.follows
 
-waits_told : (v : Setting) (past : List Step) (s : State) (failure : Option Reason) → s.failure ≡ failure → IsFit v.scheme.device → Follows v past s
+waits_matches : (v : Setting) (past : List Step) (s : State) (failure : Option Reason) → s.failure ≡ failure → IsFit v.scheme.device → Follows v past s
     → length s.queue ≡ waiting_by failure (length (accepted past) - answered_tickets v past)
-waits_told v past s None h fit f = waiting_told v past s h fit f
-waits_told v past s (Some e) h fit f = ap length (none_waits v past s e h f)
+waits_matches v past s None h fit f = waiting_matches v past s h fit f
+waits_matches v past s (Some e) h fit f = ap length (none_waits v past s e h f)
 
 -- what a core that follows a past tells agrees with it
 pub tells_of : (v : Setting) (past : List Step) (s : State) → IsFit v.scheme.device → Follows v past s → TellsOf v past s
 tells_of v past s fit f = record {
-  next = next_told v past s f;
-  waiting = waits_told v past s s.failure refl fit f ∙ ap (λ (o : Option Reason). waiting_by o (length (accepted past) - answered_tickets v past)) (failure_told v past s f);
-  status = status_told v past s fit f;
-  failure = failure_told v past s f;
+  next = next_matches v past s f;
+  waiting = waits_matches v past s s.failure refl fit f ∙ ap (λ (o : Option Reason). waiting_by o (length (accepted past) - answered_tickets v past)) (failure_matches v past s f);
+  status = status_matches v past s fit f;
+  failure = failure_matches v past s f;
 }
 
 -- steps lead from a core that follows a past to one that follows the longer past

@@ -1,9 +1,0 @@
-use Rattle.std.proofs.Common.{arith}
-use Rattle.oram_core.proofs.Small.{named_none, named_some}
-use Rattle.oram_core.proofs.path_access.named_below.Goals as goal
-
-pub returns-in-0 : goal.returns-in-0
-returns-in-0 c = named_none _ _ _ _ c.in-0.is
-
-pub returns-in_default : goal.returns-in_default
-returns-in_default c = rw (c.entry_in.ensures, c.entry_of.ensures.value) (named_some _ _ _ _ (omega arith))
