@@ -67,7 +67,7 @@ refusal_fits d false waiting taken c words fits = rw (fit_address d c fits) (rw 
 -- the command is accepted, and stands at the end of the queue; or it is refused, and nothing changes
 abbrev Joins : State → Asked → State → Type 0
 Joins s a t = (is_accepted a.shown.note ≡ true) × (y : Submission) × (y.command ≡ a.command) × (t.queue ≡ s.queue ++ y ∷ [])
-    × ((d : Sizes) (array : ℕ → List ℕ) → array_if a.shown.note d a.command array ≡ array_after d a.command array)
+    × ((d : Sizes) (array : ℕ → List ℕ) → array_if a.shown.note d a.command array ≡ array_after d a.command array) × (t.failure ≡ s.failure)
 
 abbrev Stays : State → Asked → State → Type 0
 Stays s a t = (is_accepted a.shown.note ≡ false) × (t ≡ s) × ((d : Sizes) (array : ℕ → List ℕ) → array_if a.shown.note d a.command array ≡ array)
@@ -85,12 +85,52 @@ stepped v s t a step =
         ⊎ ((e : Refusal) × (refusal_of v.device (is_over (status_in s)) (length s.queue) s.next a.command a.words ≡ Some e) × Stays s a t)
     by y None is none same =
         let note : a.shown.note ≡ Accepted y.ticket = ap (λ (d : Did). d.note) same in
-        inl (none, (ap is_accepted note, y, is, ap (λ (d : Did). d.state.queue) same, λ d array. ap (λ (n : Note). array_if n d a.command array) note))
+        inl (none, (ap is_accepted note, y, is, ap (λ (d : Did). d.state.queue) same, λ d array. ap (λ (n : Note). array_if n d a.command array) note, ap (λ (d : Did). d.state.failure) same))
     by y (Some e) is some same =
         let note : a.shown.note ≡ Refused e = ap (λ (d : Did). d.note) same in
         inr (e, some, (ap is_accepted note, ap (λ (d : Did). d.state) same, λ d array. ap (λ (n : Note). array_if n d a.command array) note))
 
+-- a core that hasn't failed, and at which a command waits, isn't settled
+works : (s : State) (x : Submission) (rest : List Submission) → s.failure ≡ None → s.queue ≡ x ∷ rest → IsSettled s → ⊥
+works s x rest alive queue settled = at s.failure s.queue s.lost alive queue settled
+  where
+    at : (f : Option Reason) (q : List Submission) (l : Bool) → f ≡ None → q ≡ x ∷ rest → is_settled_by (status_by f q l) ≡ true → ⊥
+    at (Some e) q l a b h = absurd cc
+    at None [] l a b h = absurd cc
+    at None (y ∷ q) true a b h = let no : false ≡ true = h in cc
+    at None (y ∷ q) false a b h = let no : false ≡ true = h in cc
+
+one_more : (xs : List Submission) (y : Submission) → (x : Submission) × (rest : List Submission) × (xs ++ y ∷ [] ≡ x ∷ rest)
+one_more [] y = (y, [], refl)
+one_more (x ∷ xs) y = (x, xs ++ y ∷ [], refl)
+
 module _ (v : Scheme) (words : ℕ → ℕ → List ℕ) (session : ℕ) where
+  -- once a command waits, the core isn't settled, whatever is submitted
+  works_on : (asked : List Asked) (s t : State) → AreAsked v words session s asked t → s.failure ≡ None → (x : Submission) (rest : List Submission) → s.queue ≡ x ∷ rest → IsSettled t → ⊥
+  works_on [] s t same alive x rest queue settled = works s x rest alive queue (subst IsSettled (sym same) settled)
+  works_on (a ∷ asked) s t all alive x rest queue settled =
+      let mid : State = all.0 in
+      elim (stepped v s mid a all.1.2) [
+        | inl joins ↦
+            let more : mid.queue ≡ x ∷ (rest ++ joins.1.1 ∷ []) = joins.1.3 ∙ ap (λ (q : List Submission). q ++ joins.1.1 ∷ []) queue in
+            works_on asked mid t all.2 (joins.1.5 ∙ alive) x (rest ++ joins.1.1 ∷ []) more settled
+        | inr stays ↦ works_on asked mid t all.2 (ap (λ (c : State). c.failure) stays.2.1 ∙ alive) x rest (ap (λ (c : State). c.queue) stays.2.1 ∙ queue) settled
+      ]
+
+  -- where the core is settled afterwards, none was accepted
+  pub none_submitted : (asked : List Asked) (s t : State) → AreAsked v words session s asked t → s.failure ≡ None → IsSettled t → (array : ℕ → List ℕ) → array_with v.device asked array ≡ array
+  none_submitted [] s t same alive settled array = refl
+  none_submitted (a ∷ asked) s t all alive settled array =
+      let mid : State = all.0 in
+      elim (stepped v s mid a all.1.2) [
+        | inl joins ↦
+            let some = one_more s.queue joins.1.1 in
+            absurd (works_on asked mid t all.2 (joins.1.5 ∙ alive) some.0 some.1 (joins.1.3 ∙ some.2) settled)
+        | inr stays ↦
+            ap (array_with v.device asked) (stays.2.2 v.device array)
+            ∙ none_submitted asked mid t all.2 (ap (λ (c : State). c.failure) stays.2.1 ∙ alive) settled array
+      ]
+
   abbrev pub AllFit : List Asked → Type 0
   AllFit asked = All (FitsDevice v.device) (map (λ (a : Asked). a.command) asked)
 
