@@ -3,7 +3,7 @@ use Rattle.std.proofs.Common.{◌≡◌, ◌⊎◌, Bool, List, [], ◌∷◌, �
 use Rattle.std.proofs.lemmas.Grind.{flat_map-append}
 use Rattle.std.proofs.lemmas.List.{append-nil}
 use Rattle.std.specs.List.{FoldsTo, flat_map}
-use Rattle.oram_nbd.specs.Beside.{GoesOn, HadWithin, KeepsOn}
+use Rattle.oram_nbd.specs.Beside.{GoesOn, HadWithin}
 
 -- Two lists of steps, one after the other. The same stands in oram_link_laws, which a connection has nothing to do with.
 module _ {P A : Type 0} (R : P → A → P → Type 0) where
@@ -70,84 +70,6 @@ module _ {D W E X : Type 0} {had : D → List E → D → Type 0} {hears : Bool 
         leads may_lie world later (subst (λ (es : List E). FoldsTo {P = W} {A = E} (hears may_lie) world es later) (append-nil events) run) array h;
   }
 
--- The same for what is kept of a device.
-module _ {D W E X : Type 0} {had : D → List E → D → Type 0} {hears : Bool → W → E → W → Type 0} {holds kept : Bool → D → W → X → Type 0} where
-  -- a device that isn't called
-  pub kept_at_rest : {d : D} {sure : Type 0} {step : Bool → X → X → Type 0} → (sure → ⊥) → ((may_lie : Bool) (world : W) (array : X) → holds may_lie d world array → step may_lie array array)
-      → KeepsOn had hears holds kept d sure step d
-  kept_at_rest {d = d} none stays = record {
-    calls = [];
-    made = refl;
-    leads = λ may_lie world later run array h. (
-      array,
-      stays may_lie world array h,
-      subst (λ (w : W). holds may_lie d w array) run h,
-      λ was. elim was [ inl must ↦ absurd (none must) | inr k ↦ subst (λ (w : W). kept may_lie d w array) run k ],
-    );
-  }
-
-  -- A weaker step may be stated of the same calls.
-  pub weaker_kept : {old new : D} {sure sure' : Type 0} {step step' : Bool → X → X → Type 0} → KeepsOn had hears holds kept old sure step new → (sure' → sure)
-      → ((may_lie : Bool) (world : W) (array later : X) → holds may_lie old world array → step may_lie array later → step' may_lie array later) → KeepsOn had hears holds kept old sure' step' new
-  weaker_kept k less stepped = record {
-    calls = k.calls;
-    made = k.made;
-    leads = λ may_lie world later run array h.
-        let j = k.leads may_lie world later run array h in
-        (j.0, stepped may_lie world array j.0 h j.1, j.2, λ was. elim was [ inl must ↦ j.3 (inl (less must)) | inr before ↦ j.3 (inr before) ]);
-  }
-
-  -- calls, and then others
-  pub joined_kept : {old mid new : D} {sure one two : Type 0} {first second both : Bool → X → X → Type 0} → KeepsOn had hears holds kept old one first mid → KeepsOn had hears holds kept mid two second new
-      → (sure → one ⊎ two)
-      → ((may_lie : Bool) (world : W) (array between later : X) → holds may_lie old world array → first may_lie array between → second may_lie between later → both may_lie array later)
-      → KeepsOn had hears holds kept old sure both new
-  joined_kept {old = old} {mid = mid} {new = new} a b which joined = record {
-    calls = a.calls ++ b.calls;
-    made = folds_join {P = D} {A = List E} had a.calls b.calls old mid new a.made b.made;
-    leads = λ may_lie world later run array h.
-        let whole : FoldsTo {P = W} {A = E} (hears may_lie) world (flat_map (λ (l : List E). l) a.calls ++ flat_map (λ (l : List E). l) b.calls) later =
-        subst (λ (es : List E). FoldsTo {P = W} {A = E} (hears may_lie) world es later) (flat_map-append (λ (l : List E). l) a.calls b.calls) run in
-        let parts = folds_split {P = W} {A = E} (hears may_lie) (flat_map (λ (l : List E). l) a.calls) (flat_map (λ (l : List E). l) b.calls) world later whole in
-        let x = a.leads may_lie world parts.0 parts.1 array h in
-        let y = b.leads may_lie parts.0 later parts.2 x.0 x.2 in (
-          y.0,
-          joined may_lie world array x.0 y.0 h x.1 y.1,
-          y.2,
-          λ was. elim was [
-            | inl must ↦ elim (which must) [ inl first_sure ↦ y.3 (inr (x.3 (inl first_sure))) | inr second_sure ↦ y.3 (inl second_sure) ]
-            | inr before ↦ y.3 (inr (x.3 (inr before)))
-          ],
-        );
-  }
-
-  -- calls, and then others that keep what the device holds
-  pub kept_behind : {old mid new : D} {sure two : Type 0} {first second both : Bool → X → X → Type 0} → GoesOn had hears holds old first mid → KeepsOn had hears holds kept mid two second new → two
-      → ((may_lie : Bool) (world : W) (array between later : X) → holds may_lie old world array → first may_lie array between → second may_lie between later → both may_lie array later)
-      → KeepsOn had hears holds kept old sure both new
-  kept_behind {old = old} {mid = mid} {new = new} a b must joined = record {
-    calls = a.calls ++ b.calls;
-    made = folds_join {P = D} {A = List E} had a.calls b.calls old mid new a.made b.made;
-    leads = λ may_lie world later run array h.
-        let whole : FoldsTo {P = W} {A = E} (hears may_lie) world (flat_map (λ (l : List E). l) a.calls ++ flat_map (λ (l : List E). l) b.calls) later =
-        subst (λ (es : List E). FoldsTo {P = W} {A = E} (hears may_lie) world es later) (flat_map-append (λ (l : List E). l) a.calls b.calls) run in
-        let parts = folds_split {P = W} {A = E} (hears may_lie) (flat_map (λ (l : List E). l) a.calls) (flat_map (λ (l : List E). l) b.calls) world later whole in
-        let x = a.leads may_lie world parts.0 parts.1 array h in
-        let y = b.leads may_lie parts.0 later parts.2 x.0 x.2 in
-        (y.0, joined may_lie world array x.0 y.0 h x.1 y.1, y.2, λ was. y.3 (inl must));
-  }
-
-  -- one call, as the device says of it
-  pub one_kept : {old new : D} {sure : Type 0} {step : Bool → X → X → Type 0} (events : List E) → had old events new
-      → ((may_lie : Bool) (world later : W) → FoldsTo {P = W} {A = E} (hears may_lie) world events later → (array : X) → holds may_lie old world array
-      → (next : X) × step may_lie array next × holds may_lie new later next × (sure ⊎ kept may_lie old world array → kept may_lie new later next)) → KeepsOn had hears holds kept old sure step new
-  one_kept {new = new} events was leads = record {
-    calls = events ∷ [];
-    made = (new, was, refl);
-    leads = λ may_lie world later run array h.
-        leads may_lie world later (subst (λ (es : List E). FoldsTo {P = W} {A = E} (hears may_lie) world es later) (append-nil events) run) array h;
-  }
-
 -- What several calls did to the inner device, one call did to the outer one.
 module _ {O D W E X : Type 0} {had : D → List E → D → Type 0} {hears : Bool → W → E → W → Type 0} {holds : Bool → D → W → X → Type 0} (inner : O → D) where
   pub call_within : {old new : O} {after : D} {step : Bool → X → X → Type 0} → inner new ≡ after → GoesOn had hears holds (inner old) step after
@@ -157,13 +79,3 @@ module _ {O D W E X : Type 0} {had : D → List E → D → Type 0} {hears : Boo
       one_call {D = O} {W = W} {E = E} {X = X} {had = λ (o : O) (events : List E) (n : O). HadWithin had (inner o) events (inner n)}
       {holds = λ (may_lie : Bool) (o : O) (world : W) (array : X). holds may_lie (inner o) world array} {old = old} {new = new} {step = step}
       (flat_map (λ (l : List E). l) goes.calls) (goes.calls, refl, goes.made) goes.leads
-
-  pub keeps_within : {kept : Bool → D → W → X → Type 0} {old new : O} {after : D} {sure : Type 0} {step : Bool → X → X → Type 0} → inner new ≡ after → KeepsOn had hears holds kept (inner old) sure step after
-      → KeepsOn (λ (o : O) (events : List E) (n : O). HadWithin had (inner o) events (inner n)) hears (λ (may_lie : Bool) (o : O) (world : W) (array : X). holds may_lie (inner o) world array)
-      (λ (may_lie : Bool) (o : O) (world : W) (array : X). kept may_lie (inner o) world array) old sure step new
-  keeps_within {kept = kept} {old = old} {new = new} {sure = sure} {step = step} same k =
-      let keeps : KeepsOn had hears holds kept (inner old) sure step (inner new) = subst (λ (d : D). KeepsOn had hears holds kept (inner old) sure step d) (sym same) k in
-      one_kept {D = O} {W = W} {E = E} {X = X} {had = λ (o : O) (events : List E) (n : O). HadWithin had (inner o) events (inner n)}
-      {holds = λ (may_lie : Bool) (o : O) (world : W) (array : X). holds may_lie (inner o) world array} {kept = λ (may_lie : Bool) (o : O) (world : W) (array : X). kept may_lie (inner o) world array}
-      {old = old} {new = new} {sure = sure} {step = step}
-      (flat_map (λ (l : List E). l) keeps.calls) (keeps.calls, refl, keeps.made) keeps.leads

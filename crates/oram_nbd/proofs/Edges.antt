@@ -6,12 +6,14 @@ use Rattle.std.proofs.lemmas.Bool.{cases_lt}
 use Rattle.std.proofs.lemmas.List.Elements.{All-cons, All-nil}
 use Rattle.std.proofs.lemmas.Result.{on_err_weaker, on_ok_weaker}
 use Rattle.oram_nbd.specs.Bytes.{bytes_at, written, zeroes, IsBegun}
-use Rattle.oram_nbd.specs.Calls.{Writes}
+use Rattle.oram_nbd.specs.Beside.{Held}
+use Rattle.oram_nbd.specs.Calls.{KeepsAll, Writes}
 use Rattle.oram_nbd.specs.Operations.{AreBegun, IsWhole, IsWithin, TouchSomeByte, all_done, len_of, place_of}
 use Rattle.oram_nbd.specs.declared.faults.DiskFault.{DiskFault}
 use Rattle.oram_nbd.specs.declared.operations.Operation.{Operation}
 use Rattle.oram_nbd.specs.declared.operations.Operation.TheVariants.{Write, Zero}
-use Rattle.oram_nbd.proofs.Splices.{begun_front, begun_more, begun_whole, covered_begun, covered_wrote, written_twice}
+use Rattle.oram_nbd.proofs.Keeping.{keeps_behind}
+use Rattle.oram_nbd.proofs.Splices.{begun_front, begun_none, begun_more, begun_whole, covered_begun, covered_wrote, written_twice}
 
 -- ---- Numbers of bytes and of blocks
 
@@ -236,13 +238,15 @@ module _ (b first count : ℕ) (before after : List ℕ) (len a z : ℕ) (positi
       (All-cons (IsWithin size) two (last_one ∷ []) (omega (arith, within, edges.fits))
       (All-cons (IsWithin size) last_one [] (omega (arith, within, edges.fits, behind_long)) (All-nil (IsWithin size))))
 
-  -- if the range has a byte, one of them touches one
-  pub zeroing_touches : 0 < len → TouchSomeByte (zeroing b first count a z front behind)
-  zeroing_touches more = elim (cases_lt 0 (length front)) [
+  -- they are all blocks of the range, so one of them touches a byte
+  pub zeroing_touches : TouchSomeByte (zeroing b first count a z front behind)
+  zeroing_touches = elim (cases_lt 0 (length front)) [
     | inl touched ↦ inl touched
     | inr none ↦ elim (cases_lt 0 between) [
       | inl touched ↦ inr (inl touched)
-      | inr none' ↦ inr (inr (inl (let touched : 0 < length behind = omega (arith, more, none, none', edges.all, edges.fits, edges.last, front_long, behind_long) in touched)))
+      | inr none' ↦
+          let least : b ≤ b * count = block_least b count some in
+          inr (inr (inl (let touched : 0 < length behind = omega (arith, least, positive, none, none', edges.fits, front_long, behind_long) in touched)))
     ]
   ]
 
@@ -274,15 +278,23 @@ module _ (bytes before after whole part : List ℕ) (p p' n s at : ℕ) (within 
   put_in : whole ≡ written (bytes_at bytes p n) s part
   put_in = put ∙ ap (λ (l : List ℕ). (l ++ part) ++ after) front ∙ ap (λ (l : List ℕ). (take s (bytes_at bytes p n) ++ part) ++ l) back
 
-  pub around_wrote : (mid later : List ℕ) → mid ≡ bytes → later ≡ written mid p' whole → later ≡ written bytes at part
+  around_wrote : (mid later : List ℕ) → mid ≡ bytes → later ≡ written mid p' whole → later ≡ written bytes at part
   around_wrote mid later same wrote =
       wrote ∙ ap (λ (l : List ℕ). written l p' whole) same
       ∙ covered_wrote bytes (bytes_at bytes p n) whole part p p' n s within fits place refl put_in ∙ ap (λ (k : ℕ). written bytes k part) here
 
-  pub around_writes : {T : Type 0} (result : Result T DiskFault) (may_lie : Bool) (mid later : List ℕ) → mid ≡ bytes → Writes p' whole result may_lie mid later → Writes at part result may_lie bytes later
-  around_writes result may_lie mid later same w = (
-    on_ok_weaker result (λ wrote. around_wrote mid later same wrote) w.0,
-    on_err_weaker result (λ begun. subst (λ (k : ℕ). IsBegun bytes k part later) here
-        (covered_begun bytes (bytes_at bytes p n) whole part p p' n s within fits place refl put_in later (subst (λ (l : List ℕ). IsBegun l p' whole later) same begun))) w.1,
-    w.2,
-  )
+  around_begun : (mid later : List ℕ) → mid ≡ bytes → IsBegun mid p' whole later → IsBegun bytes at part later
+  around_begun mid later same begun = subst (λ (k : ℕ). IsBegun bytes k part later) here
+      (covered_begun bytes (bytes_at bytes p n) whole part p p' n s within fits place refl put_in later (subst (λ (l : List ℕ). IsBegun l p' whole later) same begun))
+
+  -- the blocks around it were read before, and left the array as it was
+  pub around_writes : {T touched : Type 0} (result : Result T DiskFault) (may_lie : Bool) (old mid later : Held (List ℕ)) → old.now ≡ bytes → mid.now ≡ old.now → KeepsAll touched old mid → 0 < length whole
+      → Writes p' whole result may_lie mid later → Writes at part result may_lie old later
+  around_writes result may_lie old mid later is same all some w =
+      let back = sym is in (
+        on_ok_weaker result (λ wrote. around_wrote mid.now later.now (same ∙ is) wrote ∙ ap (λ (l : List ℕ). written l at part) back) w.0,
+        on_err_weaker result (λ begun. subst (λ (l : List ℕ). IsBegun l at part later.now) back (around_begun mid.now later.now (same ∙ is) begun)) w.1,
+        w.2,
+        keeps_behind (0 < length part) (λ one x. IsBegun one p' whole x) (λ one x. IsBegun one at part x) later result all (subst (λ (l : List ℕ). IsBegun old.now at part l) (sym same) (begun_none old.now at part)) w.3 some
+            (λ x begun. subst (λ (l : List ℕ). IsBegun l at part x) back (around_begun mid.now x (same ∙ is) begun)),
+      )

@@ -8,11 +8,12 @@ use Rattle.std.specs.Io.KnownBytes.{Appends, Consumes}
 use Rattle.std.proofs.KnownBytes.{Appends-nil, Appends-trans, Consumes-nil, Consumes-trans}
 use Rattle.std.proofs.lemmas.List.Elements.{All-append, All-cons, All-head, All-nil, All-tail}
 use Rattle.oram_nbd.specs.Batches.{answers_text, asked_part, refusals_text, reply_if, reply_of, AreCollected, AreServedBy, EndsBy, HasRepliedToAll, HasBegun, HasGathered, IsWithoutMemory, LeftBy, DoesRequest, DoesIfAccepted}
-use Rattle.oram_nbd.specs.Beside.{GoesOn, KeepsOn}
+use Rattle.oram_nbd.specs.Beside.{GoesOn, Held, IsHeld}
 use Rattle.oram_nbd.specs.Bytes.{bytes_at}
+use Rattle.oram_nbd.specs.Calls.{KeepsAll, KeepsPart}
 use Rattle.oram_nbd.specs.DeviceKind.{DeviceKind}
 use Rattle.oram_nbd.specs.Streams.{ComesShort, IsBegunText}
-use Rattle.oram_nbd.specs.Transmission.{IsBehind, IsCutOff}
+use Rattle.oram_nbd.specs.Transmission.{HasServed, IsBehind, IsCutOff, ServesBatch}
 use Rattle.oram_nbd.specs.declared.batches.Close.{Close}
 use Rattle.oram_nbd.specs.declared.batches.Close.TheVariants.{Waits, NoRoom, Leaves, Breaks}
 use Rattle.oram_nbd.specs.declared.faults.NbdFault.{NbdFault}
@@ -22,14 +23,15 @@ use Rattle.oram_nbd.specs.declared.requests.Command.TheVariants as command
 use Rattle.oram_nbd.specs.Messages.{payload_len, reply_text, request_text, IsRequest, SimpleReply}
 use Rattle.oram_nbd.specs.Messages.SimpleReply.{Done, Refused}
 use Rattle.oram_nbd.specs.Operations.{all_done, all_given, done_by, given_by, read_len, AreBegun, IsPartOf, IsWithin, ReadsWhole, TouchSomeByte}
-use Rattle.oram_nbd.specs.Service.{after, asked_in, given, given_len, refusal_of, touched_len, whole_requests_text, replies_text, AreRequestsBegun, WholeRequest, FailsForGood, IsAnswer, IsWholeRequest, IsLeftIf, IsPartly, IsRefusal, IsReplied, IsReply, IsService, IsAnsweredBy, NeverFails, SaysFailed, SaysFault, AnsweredRequest}
+use Rattle.oram_nbd.specs.Service.{after, array_after_requests, asked_in, given, given_len, refusal_of, touched_len, whole_requests_text, replies_text, AreRequestsBegun, RequestsTouchSomeByte, WholeRequest, FailsForGood, IsAnswer, IsWholeRequest, IsLeftIf, IsPartly, IsRefusal, IsReplied, IsReply, IsService, IsAnsweredBy, NeverFails, SaysFailed, SaysFault, AnsweredRequest}
 use Rattle.oram_nbd.specs.declared.faults.NbdError.{NbdError}
 use Rattle.oram_nbd.specs.declared.faults.NbdError.TheVariants.{Io, NoMemory}
 use Rattle.oram_nbd.specs.declared.operations.Operation.{Operation}
 use Rattle.oram_nbd.specs.declared.operations.Operation.TheVariants.{Read}
 use Rattle.oram_nbd.specs.declared.requests.Request.{Request}
 use Rattle.oram_nbd.proofs.Beside.{at_rest, weaker}
-use Rattle.oram_nbd.proofs.KeptBatches.{done_as_asked, keeps_batch, one_batch, served_one}
+use Rattle.oram_nbd.proofs.Keeping.{all_weaker, part_weaker}
+use Rattle.oram_nbd.proofs.KeptBatches.{all_done_as_asked, done_as_asked, served_one, some_touches}
 use Rattle.oram_nbd.proofs.ListSteps.{length_done, length_part, part_whole}
 use Rattle.oram_nbd.proofs.Served.{partly_none, refusal_is_other}
 use Rattle.oram_nbd.proofs.Splices.{part_of_block}
@@ -348,58 +350,74 @@ module _ (block size : ℕ) (requests : List Request) (operations : List Operati
 
 -- ---- What the replies to a batch come to
 
+-- one batch
+pub one_batch : {D W E : Type 0} {kind : DeviceKind D W E} {size : ℕ} {old new : D} {batch : List AnsweredRequest} → All (λ (t : AnsweredRequest). IsReplied size t) batch → FailsForGood (kind.failed old) batch → ServesBatch kind size old batch new
+    → HasServed kind size old new batch
+one_batch {new = new} {batch = batch} fits refused serves = record { fits = fits; refused = refused; batches = batch ∷ []; all = append-nil batch; served = (new, serves, refl) }
+
+-- operations were begun, and so much of them is kept
+abbrev pub Begun : List Operation → Held (List ℕ) → Held (List ℕ) → Type 0
+Begun ops from to = AreBegun ops from.now to.now × KeepsPart (AreBegun ops) from to
+
 module _ {D W E : Type 0} {kind : DeviceKind D W E} (block size : ℕ) (old new : D) (asked : List WholeRequest)
     (sized : (may_lie : Bool) (world : W) (bytes : List ℕ) → kind.holds may_lie old world bytes → length bytes ≡ size) where
   -- all operations were done
   pub all_answered : (requests : List Request) (ops : List Operation) (given : List (List ℕ)) → AreCollected block size asked requests ops → map length given ≡ map read_len ops → (kind.failed old → ⊥)
-      → GoesOn kind.had kind.hears kind.holds old (λ may_lie bytes later. ((given ≡ all_given ops bytes) × (later ≡ all_done ops bytes))) new
-      → KeepsOn kind.had kind.hears kind.holds kind.kept old (TouchSomeByte ops) (λ may_lie bytes later. later ≡ all_done ops bytes) new
+      → GoesOn kind.had kind.hears (IsHeld kind.holds kind.kept) old
+      (λ may_lie before later. (given ≡ all_given ops before.now) × (later.now ≡ all_done ops before.now) × KeepsAll (TouchSomeByte ops) before later) new
       → HasRepliedToAll kind size old new asked (answered_requests block size asked given)
-  all_answered requests ops given collected lens alive goes keeps =
+  all_answered requests ops given collected lens alive goes =
       let many : length given ≡ length asked = sym (length-map given length) ∙ ap length lens ∙ length-map ops read_len ∙ as_many block size asked ops collected.served in
+      let same = answered_same block size asked given many in
       record {
-        same = answered_same block size asked given many;
-        served = record {
-          fits = answered_fit block size asked ops given collected.all collected.served lens;
-          refused = answered_refuse block size (kind.failed old) asked given alive;
-          service = weaker goes (λ may_lie world bytes later h step. (
-            subst (λ (l : List ℕ). IsService bytes (answered_requests block size asked given) l) (sym step.1)
-                (subst (λ (gs : List (List ℕ)). IsService bytes (answered_requests block size asked gs) (all_done ops bytes)) (sym step.0)
-                (answered_service block size asked ops bytes collected.all collected.served (sized may_lie world bytes h))),
-            λ honest. answered_never_fail block size asked given,
-          ));
-          kept = one_batch kind size old new (answered_requests block size asked given)
-              (keeps_batch kind block size old new asked ops (answered_requests block size asked given) sized collected.served (answered_same block size asked given many) keeps);
-        };
+        same = same;
+        served = one_batch (answered_fit block size asked ops given collected.all collected.served lens) (answered_refuse block size (kind.failed old) asked given alive)
+            (weaker goes (λ may_lie world before later h step.
+            let long = sized may_lie world before.now h.0 in (
+              subst (λ (l : List ℕ). IsService before.now (answered_requests block size asked given) l) (sym step.1)
+                  (subst (λ (gs : List (List ℕ)). IsService before.now (answered_requests block size asked gs) (all_done ops before.now)) (sym step.0)
+                  (answered_service block size asked ops before.now collected.all collected.served long)),
+              λ honest. answered_never_fail block size asked given,
+              inl (subst (λ (l : List WholeRequest). (later.now ≡ array_after_requests l before.now) × KeepsAll (RequestsTouchSomeByte size l) before later) (sym same)
+                  (step.1 ∙ all_done_as_asked block size asked ops before.now collected.served long, all_weaker step.2 (some_touches block size asked ops collected.served))),
+            )));
         reported = λ says. absurd (answered_tell_none block size asked given says);
       }
 
   -- the operations were begun, and all requests are refused
   pub all_refused : (requests : List Request) (ops : List Operation) (e : NbdError) → AreCollected block size asked requests ops → (e ≡ Io) ⊎ (e ≡ NoMemory) → (e ≡ Io → kind.failed new)
       → (before after : List Request) (r : Request) → requests ≡ before ++ r ∷ after → refusal_of size r ≡ None
-      → GoesOn kind.had kind.hears kind.holds old (λ may_lie bytes later. AreBegun ops bytes later × (e ≡ Io → may_lie ≡ true)) new
+      → GoesOn kind.had kind.hears (IsHeld kind.holds kind.kept) old (λ may_lie before later. Begun ops before later × (e ≡ Io → may_lie ≡ true)) new
       → HasRepliedToAll kind size old new asked (refused_requests size asked e)
   all_refused requests ops e collected why fails before after r split none goes = record {
     same = refused_same size asked e;
-    served = record {
-      fits = refused_fit size asked e why collected.all;
-      refused = refused_refuse size (kind.failed old) asked e;
-      service = weaker goes (λ may_lie world bytes later h step. (
-        refused_service block size asked ops e bytes later why collected.all collected.served (sized may_lie world bytes h) step.0,
-        λ honest. refused_never_fail size asked e (λ io. let lies : may_lie ≡ true = step.1 io in cc),
-      ));
-      kept = one_batch kind size old new (refused_requests size asked e)
-          (inr (all_refusals size asked e, inr (refused_says_fault size asked e why (accepted_in size asked before after r (collected.same ∙ split) none))));
-    };
+    served = one_batch (refused_fit size asked e why collected.all) (refused_refuse size (kind.failed old) asked e)
+        (weaker goes (λ may_lie world from to h step.
+        let long = sized may_lie world from.now h.0 in (
+          refused_service block size asked ops e from.now to.now why collected.all collected.served long step.0.0,
+          λ honest. refused_never_fail size asked e (λ io. let lies : may_lie ≡ true = step.1 io in cc),
+          inr (
+            all_refusals size asked e,
+            inr (
+              refused_says_fault size asked e why (accepted_in size asked before after r (collected.same ∙ split) none),
+              subst (λ (l : List WholeRequest). KeepsPart (AreRequestsBegun l) from to) (sym (refused_same size asked e))
+                  (part_weaker step.0.1 (λ x begun. requests_begun block size asked ops from.now x collected.served long begun)),
+            ),
+          ),
+        )));
     reported = λ says. fails (refused_tell size asked e says);
   }
 
   -- the device stopped
   pub all_begun : (requests : List Request) (ops : List Operation) → AreCollected block size asked requests ops → (before after : List Request) (r : Request) → requests ≡ before ++ r ∷ after → refusal_of size r ≡ None
-      → GoesOn kind.had kind.hears kind.holds old (λ may_lie bytes later. AreBegun ops bytes later) new → HasBegun kind size old new asked
+      → GoesOn kind.had kind.hears (IsHeld kind.holds kind.kept) old (λ may_lie before later. Begun ops before later) new → HasBegun kind size old new asked
   all_begun requests ops collected before after r split none goes = record {
     accepted = accepted_in size asked before after r (collected.same ∙ split) none;
-    begun = weaker goes (λ may_lie world bytes later h step. requests_begun block size asked ops bytes later collected.served (sized may_lie world bytes h) step);
+    begun = weaker goes (λ may_lie world from to h step.
+        let long = sized may_lie world from.now h.0 in (
+          requests_begun block size asked ops from.now to.now collected.served long step.0,
+          part_weaker step.1 (λ x begun. requests_begun block size asked ops from.now x collected.served long begun),
+        ));
   }
 
 -- a device that isn't called, where all requests are refused for want of memory
@@ -408,12 +426,12 @@ pub refused_at_rest : {D W E : Type 0} {kind : DeviceKind D W E} (size : ℕ) (d
     → HasRepliedToAll kind size d d asked (refused_requests size asked NoMemory)
 refused_at_rest {kind = kind} size d asked sized are = record {
   same = refused_same size asked NoMemory;
-  served = record {
-    fits = refused_fit size asked NoMemory (inr refl) are;
-    refused = refused_refuse size (kind.failed d) asked NoMemory;
-    service = at_rest (λ may_lie world bytes h. (refused_idle size asked NoMemory bytes (inr refl) are (sized may_lie world bytes h), λ honest. refused_never_fail size asked NoMemory (λ io. cc)));
-    kept = one_batch kind size d d (refused_requests size asked NoMemory) (inr (all_refusals size asked NoMemory, inl refl));
-  };
+  served = one_batch (refused_fit size asked NoMemory (inr refl) are) (refused_refuse size (kind.failed d) asked NoMemory)
+      (at_rest (λ may_lie world before h. (
+        refused_idle size asked NoMemory before.now (inr refl) are (sized may_lie world before.now h.0),
+        λ honest. refused_never_fail size asked NoMemory (λ io. cc),
+        inr (all_refusals size asked NoMemory, inl (refl, refl)),
+      )));
   reported = λ says. absurd (let none : NoMemory ≡ Io = refused_tell size asked NoMemory says in cc);
 }
 

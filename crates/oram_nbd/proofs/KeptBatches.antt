@@ -1,17 +1,10 @@
 -- What the batches of a connection keep.
 use Rattle.std.proofs.Common.{◌≡◌, ◌+◌, ◌<◌, ◌≤◌, inl, inr, Bool, ℕ, List, [], ◌∷◌, ◌++◌, length, map, Option, Some, None, refl, sym, ap, ◌∙◌, subst, arith}
-use Rattle.std.proofs.lemmas.List.{append-nil}
-use Rattle.std.proofs.lemmas.Grind.{flat_map-append}
-use Rattle.std.specs.List.{flat_map}
 use Rattle.oram_nbd.specs.Batches.{AreServedBy, DoesIfAccepted}
-use Rattle.oram_nbd.specs.Beside.{KeepsOn}
-use Rattle.oram_nbd.specs.DeviceKind.{DeviceKind}
 use Rattle.oram_nbd.specs.Operations.{all_done, done_by, len_of, IsWithin, ReadsWhole, TouchSomeByte}
-use Rattle.oram_nbd.specs.Service.{after, array_after_request, array_after_requests, asked_in, left_if, refusal_of, touched_if, touched_len, AnsweredRequest, RequestsTouchSomeByte, WholeRequest}
-use Rattle.oram_nbd.specs.Transmission.{KeepsBatch, KeepsBatches}
+use Rattle.oram_nbd.specs.Service.{after, array_after_request, array_after_requests, left_if, refusal_of, touched_if, touched_len, RequestsTouchSomeByte, WholeRequest}
 use Rattle.oram_nbd.specs.declared.faults.NbdError.{NbdError}
 use Rattle.oram_nbd.specs.declared.operations.Operation.{Operation}
-use Rattle.oram_nbd.proofs.Beside.{folds_join, weaker_kept}
 use Rattle.oram_nbd.proofs.ListSteps.{length_done}
 
 pub served_one : (block size : ℕ) (o : Option NbdError) (a : WholeRequest) (op : Operation) → DoesIfAccepted o block size a op → IsWithin size op × ReadsWhole block op
@@ -30,7 +23,7 @@ done_as_asked block size a op bytes served long =
     left_done block size a op (refusal_of size a.request) bytes served
     ∙ ap (λ (n : ℕ). left_if (refusal_of n a.request) bytes (after a.request.command bytes a.request.offset a.request.length a.payload)) (sym long)
 
-all_done_as_asked : (block size : ℕ) (asked : List WholeRequest) (ops : List Operation) (bytes : List ℕ) → AreServedBy block size asked ops → length bytes ≡ size → all_done ops bytes ≡ array_after_requests asked bytes
+pub all_done_as_asked : (block size : ℕ) (asked : List WholeRequest) (ops : List Operation) (bytes : List ℕ) → AreServedBy block size asked ops → length bytes ≡ size → all_done ops bytes ≡ array_after_requests asked bytes
 all_done_as_asked block size [] [] bytes served long = refl
 all_done_as_asked block size [] (op ∷ ops) bytes served long = absurd served
 all_done_as_asked block size (a ∷ asked) [] bytes served long = absurd served
@@ -44,32 +37,8 @@ touches : (block size : ℕ) (o : Option NbdError) (a : WholeRequest) (op : Oper
 touches block size (Some e) a op s none = let never : 0 < 0 = none in absurd (omega (arith, never))
 touches block size None a op s some = let asked : 0 < touched_len a.request.command a.request.length = some in omega (arith, asked, s.touches)
 
-some_touches : (block size : ℕ) (asked : List WholeRequest) (ops : List Operation) → AreServedBy block size asked ops → RequestsTouchSomeByte size asked → TouchSomeByte ops
+pub some_touches : (block size : ℕ) (asked : List WholeRequest) (ops : List Operation) → AreServedBy block size asked ops → RequestsTouchSomeByte size asked → TouchSomeByte ops
 some_touches block size [] ops served none = absurd none
 some_touches block size (a ∷ asked) [] served some = absurd served
 some_touches block size (a ∷ asked) (op ∷ ops) served (inl first) = inl (touches block size (refusal_of size a.request) a op served.0 first)
 some_touches block size (a ∷ asked) (op ∷ ops) served (inr rest) = inr (some_touches block size asked ops served.1 rest)
-
-module _ {D W E : Type 0} (kind : DeviceKind D W E) where
-  -- a batch whose operations were all done
-  pub keeps_batch : (block size : ℕ) (old new : D) (asked : List WholeRequest) (ops : List Operation) (batch : List AnsweredRequest)
-      → ((may_lie : Bool) (world : W) (bytes : List ℕ) → kind.holds may_lie old world bytes → length bytes ≡ size) → AreServedBy block size asked ops → map asked_in batch ≡ asked
-      → KeepsOn kind.had kind.hears kind.holds kind.kept old (TouchSomeByte ops) (λ may_lie bytes later. later ≡ all_done ops bytes) new → KeepsBatch kind size old batch new
-  keeps_batch block size old new asked ops batch sized served same k =
-      inl (subst (λ (l : List WholeRequest). KeepsOn kind.had kind.hears kind.holds kind.kept old (RequestsTouchSomeByte size l) (λ _ bytes later. later ≡ array_after_requests l bytes) new) (sym same)
-      (weaker_kept k (some_touches block size asked ops served)
-      (λ may_lie world bytes later h step. step ∙ all_done_as_asked block size asked ops bytes served (sized may_lie world bytes h))))
-
-  -- no batch, one, and those of two lists
-  pub no_batch : (size : ℕ) (d : D) → KeepsBatches kind size d [] d
-  no_batch size d = record { batches = []; all = refl; each = refl }
-
-  pub one_batch : (size : ℕ) (old new : D) (batch : List AnsweredRequest) → KeepsBatch kind size old batch new → KeepsBatches kind size old batch new
-  one_batch size old new batch keeps = record { batches = batch ∷ []; all = append-nil batch; each = (new, keeps, refl) }
-
-  pub join_batches : (size : ℕ) (old mid new : D) (first more : List AnsweredRequest) → KeepsBatches kind size old first mid → KeepsBatches kind size mid more new → KeepsBatches kind size old (first ++ more) new
-  join_batches size old mid new first more a b = record {
-    batches = a.batches ++ b.batches;
-    all = flat_map-append (λ (l : List AnsweredRequest). l) a.batches b.batches ∙ ap (λ (l : List AnsweredRequest). l ++ flat_map (λ (batch : List AnsweredRequest). batch) b.batches) a.all ∙ ap (λ (l : List AnsweredRequest). first ++ l) b.all;
-    each = folds_join {P = D} {A = List AnsweredRequest} (KeepsBatch kind size) a.batches b.batches old mid new a.each b.each;
-  }

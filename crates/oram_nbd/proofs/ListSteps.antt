@@ -1,14 +1,18 @@
 -- Lists of operations, part by part.
-use Rattle.std.proofs.Common.{◌≡◌, ◌⊎◌, inl, inr, ℕ, ◌+◌, ◌*◌, ◌/◌, ◌<◌, add-zero, ◌≤◌, List, [], ◌∷◌, ◌++◌, All, length, map, take, drop, refl, sym, ap, ◌∙◌, subst, arith, append_assoc, length-take-le, get_or, suc, Bool, true, false, ◌-◌, length-drop, drop-cons, Result, Ok, Err, IfOk, MatchResult, OnOk, length-append}
+use Rattle.std.proofs.Common.{◌≡◌, ◌⊎◌, inl, inr, ℕ, ◌+◌, ◌*◌, ◌/◌, ◌<◌, add-zero, ◌≤◌, List, [], ◌∷◌, ◌++◌, All, length, map, take, drop, refl, sym, ap, ◌∙◌, subst, arith, append_assoc, length-take-le, get_or, suc, Bool, true, false, ◌-◌, length-drop, drop-cons, Result, Ok, Err, IfOk, MatchResult, length-append}
 use Rattle.std.proofs.lemmas.Nat.{div-mul-add}
 use Rattle.std.proofs.Math.Nat.{mul_comm}
 use Rattle.std.proofs.lemmas.List.Elements.{All-head, All-tail}
 use Rattle.std.proofs.lemmas.List.{append-nil, drop-drop, drop_all, length-map, length-replicate, map-append, take-append-drop, take_all}
 use Rattle.std.proofs.Math.Seq.{take-add}
+use Rattle.oram_nbd.specs.Beside.{Held}
 use Rattle.oram_nbd.specs.Bytes.{bytes_at, zeroes, IsBegun}
+use Rattle.oram_nbd.specs.Calls.{Keeps, KeepsAll, KeepsPart, Reads}
 use Rattle.oram_nbd.specs.Operations.{AreBegun, IsPartOf, IsWhole, IsWithin, ReadsWhole, TouchSomeByte, all_done, all_given, done_by, given_by, read_len}
+use Rattle.oram_nbd.specs.declared.faults.DiskFault.{DiskFault}
 use Rattle.oram_nbd.specs.declared.operations.Operation.{Operation}
 use Rattle.oram_nbd.specs.declared.operations.Operation.TheVariants.{Read, Write, Zero}
+use Rattle.oram_nbd.proofs.Keeping.{all_weaker, part_weaker}
 use Rattle.oram_nbd.proofs.Splices.{begun_none, begun_whole, length-written}
 
 pub given_append : (xs ys : List Operation) (bytes : List ℕ) → all_given (xs ++ ys) bytes ≡ all_given xs bytes ++ all_given ys (all_done xs bytes)
@@ -167,13 +171,18 @@ lies_if true not = refl
 lies_if false not = absurd (not refl)
 
 -- the first n operations were carried out, and were all, or they were begun
-pub front_outcome : {T E : Type 0} (result : Result T E) (items : T → List (List ℕ)) (ops : List Operation) (n : ℕ) (bytes later : List ℕ) → n ≤ length ops
-    → MatchResult result (λ g. (items g ≡ all_given (take n ops) bytes) × (later ≡ all_done (take n ops) bytes)) (λ _. AreBegun (take n ops) bytes later)
-    → MatchResult result (λ g. (items g ≡ all_given (take (length (items g)) ops) bytes) × (later ≡ all_done (take (length (items g)) ops) bytes)) (λ _. AreBegun ops bytes later)
-front_outcome (Ok g) items ops n bytes later few h =
-    let many : length (items g) ≡ n = ap length h.0 ∙ length_given (take n ops) bytes ∙ length-take-le n ops few in
-    (h.0 ∙ ap (λ (k : ℕ). all_given (take k ops) bytes) (sym many), h.1 ∙ ap (λ (k : ℕ). all_done (take k ops) bytes) (sym many))
-front_outcome (Err e) items ops n bytes later few h = subst (λ (l : List Operation). AreBegun l bytes later) (take-append-drop n ops) (begun_first (take n ops) (drop n ops) bytes later h)
+pub front_outcome : {T : Type 0} (result : Result T DiskFault) (items : T → List (List ℕ)) (ops : List Operation) (n : ℕ) (old new : Held (List ℕ)) → n ≤ length ops
+    → MatchResult result (λ g. (items g ≡ all_given (take n ops) old.now) × (new.now ≡ all_done (take n ops) old.now)) (λ _. AreBegun (take n ops) old.now new.now)
+    → Keeps result (TouchSomeByte (take n ops)) (AreBegun (take n ops)) old new
+    → MatchResult result
+    (λ g. let front = take (length (items g)) ops in (items g ≡ all_given front old.now) × (new.now ≡ all_done front old.now) × KeepsAll (TouchSomeByte front) old new)
+    (λ _. AreBegun ops old.now new.now × KeepsPart (AreBegun ops) old new)
+front_outcome (Ok g) items ops n old new few h k =
+    let many : n ≡ length (items g) = sym (ap length h.0 ∙ length_given (take n ops) old.now ∙ length-take-le n ops few) in
+    subst (λ (i : ℕ). (items g ≡ all_given (take i ops) old.now) × (new.now ≡ all_done (take i ops) old.now) × KeepsAll (TouchSomeByte (take i ops)) old new) many (h.0, h.1, k)
+front_outcome (Err e) items ops n old new few h k =
+    let all = λ (later : List ℕ) (begun : AreBegun (take n ops) old.now later). subst (λ (l : List Operation). AreBegun l old.now later) (take-append-drop n ops) (begun_first (take n ops) (drop n ops) old.now later begun) in
+    (all new.now h, part_weaker k all)
 
 -- The first `k` operations have their results, which are `given`. These lemmas are about the operations behind them.
 module _ (ops : List Operation) (given more : List (List ℕ)) (k : ℕ) (here : k ≡ length given) (most : length more ≤ length (take (length ops - k) (drop k ops))) where
@@ -219,10 +228,25 @@ slice_split ops given more k here most =
     ap (λ (n : ℕ). take n ops) (length-append given more) ∙ take-add (length given) (length more) ops
     ∙ ap (λ (l : List Operation). take (length given) ops ++ l) (sym (slice_is ops given more k here most))
 
--- what is kept after the first n operations, by the number of those that have a result
-pub front_kept : {T E : Type 0} (result : Result T E) (items : T → List (List ℕ)) (ops : List Operation) (n : ℕ) (P : ℕ → Type 0) → n ≤ length ops → IfOk result (λ g. map length (items g) ≡ map read_len (take n ops))
-    → OnOk result (P n) → IfOk result (λ g. P (length (items g)))
-front_kept (Ok g) items ops n P few lens kept =
-    let many : length (items g) ≡ n = sym (length-map (items g) length) ∙ ap length lens ∙ length-map (take n ops) read_len ∙ length-take-le n ops few in
-    subst P (sym many) kept
-front_kept (Err e) items ops n P few lens kept = tt
+-- one write
+pub one_write_begun : (at at' : ℕ) (payload : List ℕ) → at ≡ at' → (bytes later : List ℕ) → AreBegun (Write at payload ∷ []) bytes later → IsBegun bytes at' payload later
+one_write_begun at at' payload same bytes later (inl part) = subst (λ (n : ℕ). IsBegun bytes n payload later) same part
+one_write_begun at at' payload same bytes later (inr whole) =
+    subst (λ (n : ℕ). IsBegun bytes n payload later) same (subst (λ (l : List ℕ). IsBegun bytes at payload l) (sym whole) (begun_whole bytes at payload))
+
+-- a read leaves the array as it is, however far it came
+pub same_once : (bytes later : List ℕ) → (later ≡ bytes) ⊎ (later ≡ bytes) → later ≡ bytes
+same_once bytes later (inl same) = same
+same_once bytes later (inr same) = same
+
+-- and so do two
+pub reads_two : {T : Type 0} (r : Result T DiskFault) (items : T → List (List ℕ)) (a n b m : ℕ) (old new : Held (List ℕ))
+    → MatchResult r (λ g. (items g ≡ all_given (Read a n ∷ Read b m ∷ []) old.now) × (new.now ≡ all_done (Read a n ∷ Read b m ∷ []) old.now)) (λ _. AreBegun (Read a n ∷ Read b m ∷ []) old.now new.now)
+    → Keeps r (TouchSomeByte (Read a n ∷ Read b m ∷ [])) (AreBegun (Read a n ∷ Read b m ∷ [])) old new
+    → Reads ⊥ r old new × IfOk r (λ g. items g ≡ bytes_at old.now a n ∷ bytes_at old.now b m ∷ [])
+reads_two (Ok g) items a n b m old new h k = ((h.1, all_weaker k (λ none. absurd none)), h.0)
+reads_two (Err e) items a n b m old new h k = ((same new.now h, part_weaker k same), tt)
+  where
+    same : (later : List ℕ) → AreBegun (Read a n ∷ Read b m ∷ []) old.now later → later ≡ old.now
+    same later (inl is) = is
+    same later (inr rest) = same_once old.now later rest

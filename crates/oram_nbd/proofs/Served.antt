@@ -3,14 +3,15 @@ use Rattle.std.proofs.Common.{◌≡◌, ◌⊎◌, inl, inr, Bool, true, false,
 use Rattle.std.proofs.lemmas.List.{append-nil}
 use Rattle.std.proofs.lemmas.List.Elements.{All-append, All-nil}
 use Rattle.std.proofs.lemmas.Grind.{flat_map-append}
+use Rattle.std.specs.List.{FoldsTo, flat_map}
 use Rattle.std.specs.Io.KnownBytes.{Appends, Consumes}
 use Rattle.std.proofs.KnownBytes.{Appends-nil, Appends-trans, Consumes-nil, Consumes-trans}
 use Rattle.oram_nbd.specs.Batches.{HasRepliedToAll, HasBegun}
 use Rattle.oram_nbd.specs.DeviceKind.{DeviceKind}
-use Rattle.oram_nbd.specs.Service.{asked_in, whole_requests_text, asking, greatest_flags, misfit, refusal_of, replying, requests_text, replies_text, WholeRequest, IsWholeRequest, IsPartly, IsReplied, IsService, NeverFails, FailsForGood, SaysFailed, AnsweredRequest}
+use Rattle.oram_nbd.specs.Service.{asked_in, whole_requests_text, asking, greatest_flags, misfit, refusal_of, replying, requests_text, replies_text, WholeRequest, IsWholeRequest, IsPartly, IsReplied, FailsForGood, SaysFailed, AnsweredRequest}
 use Rattle.oram_nbd.specs.Messages.SimpleReply.{Refused}
 use Rattle.oram_nbd.specs.Streams.{streams, Streams}
-use Rattle.oram_nbd.specs.Transmission.{HasExchanged, HasServed, IsBehind, StopsServing}
+use Rattle.oram_nbd.specs.Transmission.{HasExchanged, HasServed, IsBehind, ServesBatch, StopsServing}
 use Rattle.oram_nbd.specs.declared.TheConstants.{LONGEST_PAYLOAD}
 use Rattle.oram_nbd.specs.declared.faults.NbdError.{NbdError}
 use Rattle.oram_nbd.specs.declared.faults.NbdError.TheVariants.{Io, Invalid, NoSpace}
@@ -18,8 +19,7 @@ use Rattle.oram_nbd.specs.declared.faults.NbdFault.TheVariants as fault
 use Rattle.oram_nbd.specs.declared.requests.Command.{Command}
 use Rattle.oram_nbd.specs.declared.requests.Command.TheVariants.{Read, Write, Disconnect, Flush, Trim, WriteZeroes, Other}
 use Rattle.oram_nbd.specs.declared.requests.Request.{Request}
-use Rattle.oram_nbd.proofs.Beside.{at_rest, joined_calls}
-use Rattle.oram_nbd.proofs.KeptBatches.{join_batches, no_batch}
+use Rattle.oram_nbd.proofs.Beside.{folds_join}
 use Rattle.oram_nbd.proofs.Splices.{written_none}
 
 -- nothing of a command was done
@@ -64,14 +64,6 @@ refusal_is_other size r = other_if (nat_lt (greatest_flags r.command) r.flags) _
 
 -- ---- Requests that were answered, and then others
 
-service_join : (old mid : List ℕ) (xs ys : List AnsweredRequest) (new : List ℕ) → IsService old xs mid → IsService mid ys new → IsService old (xs ++ ys) new
-service_join old mid [] ys new is more = subst (λ (l : List ℕ). IsService l ys new) is more
-service_join old mid (t ∷ xs) ys new (next, first, rest) more = (next, first, service_join next mid xs ys new rest more)
-
-never_join : (xs ys : List AnsweredRequest) → NeverFails xs → NeverFails ys → NeverFails (xs ++ ys)
-never_join [] ys h more = more
-never_join (t ∷ xs) ys (first, rest) more = (first, never_join xs ys rest more)
-
 pub says_either : (xs ys : List AnsweredRequest) → SaysFailed (xs ++ ys) → SaysFailed xs ⊎ SaysFailed ys
 says_either [] ys more = inr more
 says_either (t ∷ xs) ys (inl io) = inl (inl io)
@@ -98,12 +90,7 @@ asked_of_answered (t ∷ answered) = ap (λ (l : List ℕ). asking t ++ l) (aske
 -- for a device of this kind, from this state on
 module _ {D W E : Type 0} (kind : DeviceKind D W E) (old : D) where
   pub served_none : HasServed kind (kind.size old) old old []
-  served_none = record {
-    fits = All-nil (λ a. IsReplied (kind.size old) a);
-    refused = tt;
-    service = at_rest (λ may_lie world bytes h. (refl, λ honest. tt));
-    kept = no_batch kind (kind.size old) old;
-  }
+  served_none = record { fits = All-nil (λ a. IsReplied (kind.size old) a); refused = tt; batches = []; all = refl; served = refl }
 
   -- more requests
   pub served_join : (mid new : D) (answered more : List AnsweredRequest) → HasServed kind (kind.size old) old mid answered → (kind.failed old ⊎ SaysFailed answered → kind.failed mid)
@@ -111,9 +98,10 @@ module _ {D W E : Type 0} (kind : DeviceKind D W E) (old : D) where
   served_join mid new answered more s tells m = record {
     fits = All-append (λ (a : AnsweredRequest). IsReplied (kind.size old) a) answered more s.fits m.fits;
     refused = refuses_join (kind.failed old) (kind.failed mid) answered more s.refused tells m.refused;
-    service = joined_calls s.service m.service (λ may_lie world before between after h first second.
-        (service_join before between answered more after first.0 second.0, λ honest. never_join answered more (first.1 honest) (second.1 honest)));
-    kept = join_batches kind (kind.size old) old mid new answered more s.kept m.kept;
+    batches = s.batches ++ m.batches;
+    all = flat_map-append (λ (l : List AnsweredRequest). l) s.batches m.batches
+        ∙ ap (λ (l : List AnsweredRequest). l ++ flat_map (λ (batch : List AnsweredRequest). batch) m.batches) s.all ∙ ap (λ (l : List AnsweredRequest). answered ++ l) m.all;
+    served = folds_join {P = D} {A = List AnsweredRequest} (ServesBatch kind (kind.size old)) s.batches m.batches old mid new s.served m.served;
   }
 
   -- As far as the loop has come: some requests were answered, and then some bytes were read that aren't served yet.
@@ -203,13 +191,11 @@ module _ {D W E : Type 0} (kind : DeviceKind D W E) (old : D) where
       asked,
       rest,
       record {
-        fits = s.served.fits;
-        refused = s.served.refused;
-        asked_for = are;
-        accepted = h.accepted;
-        service = joined_calls s.served.service h.begun (λ may_lie world before between after k first second. (between, first.0, first.1, second));
         mid = mid;
-        kept = s.served.kept;
+        served = s.served;
+        whole = are;
+        accepted = h.accepted;
+        begun = h.begun;
       },
       behind,
       record { read = subst (Consumes from.unread now.unread) (ap (λ (l : List ℕ). requests_text s.answered ++ l) split) s.read; wrote = exchanged.wrote },

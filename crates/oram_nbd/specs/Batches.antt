@@ -2,7 +2,8 @@
 use Rattle.std.specs.Prelude.{◌≡◌, ◌⊎◌, ℕ, ◌*◌, ◌%◌, ◌<◌, ◌≤◌, ◌^◌, List, [], ◌∷◌, ◌++◌, All, Option, Some, None, length, map, take, drop}
 use Rattle.std.specs.List.{flat_map}
 use Rattle.std.specs.Io.KnownBytes.{Appends, Consumes}
-use Rattle.oram_nbd.specs.Beside.{GoesOn}
+use Rattle.oram_nbd.specs.Beside.{GoesOn, IsHeld}
+use Rattle.oram_nbd.specs.Calls.{KeepsPart}
 use Rattle.oram_nbd.specs.DeviceKind.{DeviceKind}
 use Rattle.oram_nbd.specs.Streams.{IsBegunText}
 use Rattle.oram_nbd.specs.Messages.{request_text, reply_text, SimpleReply}
@@ -118,7 +119,8 @@ module _ {D W E : Type 0} (kind : DeviceKind D W E) (size : ℕ) (old new : D) (
   -- The device stopped. Some request isn't refused.
   pub record HasBegun : Type 0 where
     pub accepted : (before after : List WholeRequest) × (a : WholeRequest) × (asked ≡ before ++ a ∷ after) × (refusal_of size a.request ≡ None)
-    pub begun : GoesOn kind.had kind.hears kind.holds old (λ may_lie bytes later. AreRequestsBegun asked bytes later) new
+    pub begun : GoesOn kind.had kind.hears (IsHeld kind.holds kind.kept) old
+        (λ may_lie before later. AreRequestsBegun asked before.now later.now × KeepsPart (AreRequestsBegun asked) before later) new
 
   -- All replies were written, or a beginning of them; or the device stopped, and nothing was written.
   abbrev pub EndsBatch : Option (List ℕ) → Option (List ℕ) → Type 0

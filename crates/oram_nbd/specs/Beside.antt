@@ -1,6 +1,6 @@
 -- A device and the world beside it, which is a host for a disk over a network. Neither is a function of the other: the calls
 -- of the device have events, and the world goes from one state to the next through them.
-use Rattle.std.specs.Prelude.{◌≡◌, ◌⊎◌, Bool, List}
+use Rattle.std.specs.Prelude.{◌≡◌, Bool, IfSome, List, Option}
 use Rattle.std.specs.List.{FoldsTo, flat_map}
 
 -- `had` gives the events that a call may have. `hears` gives the next state of the world after an event. `holds` gives the
@@ -18,13 +18,16 @@ module _ {D W E A : Type 0} (had : D → List E → D → Type 0) (hears : Bool 
     pub leads : (may_lie : Bool) (world later : W) → GoesThrough may_lie world calls later → (array : A) → holds may_lie old world array
         → (next : A) × step may_lie array next × holds may_lie new later next
 
-  -- The same, and what outlasts the process. `kept` gives the arrays that the next process would hold, in a world. If `sure`
-  -- holds, it gives the array that the device holds now. Otherwise it still does so if it gave the array before.
-  pub record KeepsOn (kept : Bool → D → W → A → Type 0) (old : D) (sure : Type 0) (step : Bool → A → A → Type 0) (new : D) : Type 0 where
-    pub calls : List (List E)
-    pub made : FoldsTo {P = D} {A = List E} had old calls new
-    pub leads : (may_lie : Bool) (world later : W) → GoesThrough may_lie world calls later → (array : A) → holds may_lie old world array
-        → (next : A) × step may_lie array next × holds may_lie new later next × (sure ⊎ kept may_lie old world array → kept may_lie new later next)
+-- What is known of a device beside a world. It holds the array `now`. If `saved` has an array, the next process would hold that one or
+-- `now`. Otherwise nothing is known of the next process.
+pub record Held (A : Type 0) : Type 0 where
+  pub now : A
+  pub saved : Option A
+
+-- That is so, where `holds` gives the arrays that a device holds in a world, and `kept` what the next process would hold there: its first
+-- array, or its second one, which is the one that the device holds.
+abbrev pub IsHeld : {D W A : Type 0} → (Bool → D → W → A → Type 0) → (Bool → D → W → A → A → Type 0) → Bool → D → W → Held A → Type 0
+IsHeld holds kept may_lie d w h = holds may_lie d w h.now × IfSome h.saved (λ array. kept may_lie d w array h.now)
 
 -- a call has met what stops the device, and has left it in this state
 abbrev pub IsStopped : {D : Type 0} → (D → D → Type 0) → D → Type 0

@@ -10,9 +10,9 @@ pub record DeviceKind (D W E : Type 0) : Type 1 where
   pub had : D → List E → D → Type 0
   pub hears : Bool → W → E → W → Type 0
   pub holds : Bool → D → W → List ℕ → Type 0
-  pub kept : Bool → D → W → List ℕ → Type 0
+  pub kept : Bool → D → W → List ℕ → List ℕ → Type 0
 
 abbrev pub device_kind : {D W E : Type 0} → (D → ℕ) → (D → ℕ) → (D → Type 0) → (D → List E → D → Type 0) → (Bool → W → E → W → Type 0) → (Bool → D → W → List ℕ → Type 0)
-    → (Bool → D → W → List ℕ → Type 0) → DeviceKind D W E
+    → (Bool → D → W → List ℕ → List ℕ → Type 0) → DeviceKind D W E
 device_kind block_len size failed had hears holds kept =
     record { block_len = block_len; size = size; failed = failed; had = had; hears = hears; holds = holds; kept = kept }

@@ -2,7 +2,8 @@
 use Rattle.std.specs.Prelude.{◌≡◌, ◌⊎◌, ℕ, ◌<◌, false, List, [], ◌∷◌, ◌++◌, length, map, take, Option, None, All}
 use Rattle.std.specs.List.{FoldsTo, flat_map}
 use Rattle.std.specs.Io.KnownBytes.{Appends, Consumes, IsAtEnd}
-use Rattle.oram_nbd.specs.Beside.{GoesOn, KeepsOn}
+use Rattle.oram_nbd.specs.Beside.{GoesOn, Held, IsHeld}
+use Rattle.oram_nbd.specs.Calls.{KeepsAll, KeepsPart}
 use Rattle.oram_nbd.specs.DeviceKind.{DeviceKind}
 use Rattle.oram_nbd.specs.Messages.{payload_len, request_text, IsRequest}
 use Rattle.oram_nbd.specs.Service.{array_after_requests, asked_in, whole_requests_text, refusal_of, requests_text, replies_text, AnsweredRequest, AreRequestsBegun, FailsForGood, IsRefusal, IsReplied, IsService, IsWholeRequest, NeverFails, RequestsTouchSomeByte, SaysFault, WholeRequest}
@@ -50,39 +51,39 @@ pub record HasExchanged (answered : List AnsweredRequest) (part more : List ℕ)
 
 -- For a device of this kind and of `size` bytes, which goes from one state to another beside a world.
 module _ {D W E : Type 0} (kind : DeviceKind D W E) (size : ℕ) where
-  -- What the requests of a batch did is kept: the next process would hold the array after them. If they touch no byte, it would
-  -- do so if it would have held the array before them. Or all of them are refused, and the device wasn't called, or a reply
-  -- says that it has failed or that memory ran out; then nobody knows how much of the batch is kept.
-  abbrev pub KeepsBatch : D → List AnsweredRequest → D → Type 0
-  KeepsBatch old batch new =
-      KeepsOn kind.had kind.hears kind.holds kind.kept old (RequestsTouchSomeByte size (map asked_in batch)) (λ _ bytes later. later ≡ array_after_requests (map asked_in batch) bytes) new
-      ⊎ (All (λ a. IsRefusal a.reply) batch × ((new ≡ old) ⊎ SaysFault batch))
+  -- What is kept of a batch, by what is known of the device before it and after it. What its requests did is kept. Or all of them are
+  -- refused: the device wasn't called, or a reply says that it has failed or that memory ran out. Then the next process would hold what
+  -- it would have held before, or what some beginning of these requests leaves.
+  abbrev pub KeepsBatch : D → List AnsweredRequest → D → Held (List ℕ) → Held (List ℕ) → Type 0
+  KeepsBatch old batch new before later =
+      ((later.now ≡ array_after_requests (map asked_in batch) before.now) × KeepsAll (RequestsTouchSomeByte size (map asked_in batch)) before later)
+      ⊎ (All (λ a. IsRefusal a.reply) batch
+      × (((new ≡ old) × (later ≡ before)) ⊎ (SaysFault batch × KeepsPart (AreRequestsBegun (map asked_in batch)) before later)))
 
-  -- The server answered these requests in batches, one after the other. KeepsBatch says what is kept of each.
-  pub record KeepsBatches (old : D) (answered : List AnsweredRequest) (new : D) : Type 0 where
-    pub batches : List (List AnsweredRequest)
-    pub all : flat_map (λ batch. batch) batches ≡ answered
-    pub each : FoldsTo {P = D} {A = List AnsweredRequest} KeepsBatch old batches new
+  -- A batch of requests was served. From each array that was held, they lead to one that is held. Where the world doesn't lie, no
+  -- reply says that the device failed.
+  abbrev pub ServesBatch : D → List AnsweredRequest → D → Type 0
+  ServesBatch old batch new = GoesOn kind.had kind.hears (IsHeld kind.holds kind.kept) old
+      (λ may_lie before later. IsService before.now batch later.now × (may_lie ≡ false → NeverFails batch) × KeepsBatch old batch new before later) new
 
-  -- These requests were served. From each array that was held, they lead to one that is held. Where the world doesn't lie, no
-  -- reply says that the device failed. What each batch of them did is kept.
+  -- These requests were served, in batches, one after the other.
   pub record HasServed (old new : D) (answered : List AnsweredRequest) : Type 0 where
     pub fits : All (λ a. IsReplied size a) answered
     pub refused : FailsForGood (kind.failed old) answered
-    pub service : GoesOn kind.had kind.hears kind.holds old (λ may_lie bytes later. IsService bytes answered later × (may_lie ≡ false → NeverFails answered)) new
-    pub kept : KeepsBatches old answered new
+    pub batches : List (List AnsweredRequest)
+    pub all : flat_map (λ batch. batch) batches ≡ answered
+    pub served : FoldsTo {P = D} {A = List AnsweredRequest} ServesBatch old batches new
 
   -- These requests were served. Then the device stopped while it carried out a batch, in which at least one request isn't refused.
-  -- It was in the state `mid` before that batch.
-  pub record HasStopped (old new : D) (answered : List AnsweredRequest) (asked : List WholeRequest) : Type 0 where
-    pub fits : All (λ a. IsReplied size a) answered
-    pub refused : FailsForGood (kind.failed old) answered
-    pub asked_for : All IsWholeRequest asked
-    pub accepted : (before after : List WholeRequest) × (a : WholeRequest) × (asked ≡ before ++ a ∷ after) × (refusal_of size a.request ≡ None)
-    pub service : GoesOn kind.had kind.hears kind.holds old (λ may_lie bytes later. (mid : List ℕ) × IsService bytes answered mid × (may_lie ≡ false → NeverFails answered)
-        × AreRequestsBegun asked mid later) new
+  -- It was in the state `mid` before that batch. Some beginning of the batch is done, and the next process would hold what it would
+  -- have held before, or what some beginning of the batch leaves.
+  pub record HasStopped (old new : D) (answered : List AnsweredRequest) (requests : List WholeRequest) : Type 0 where
     pub mid : D
-    pub kept : KeepsBatches old answered mid
+    pub served : HasServed old mid answered
+    pub whole : All IsWholeRequest requests
+    pub accepted : (before after : List WholeRequest) × (a : WholeRequest) × (requests ≡ before ++ a ∷ after) × (refusal_of size a.request ≡ None)
+    pub begun : GoesOn kind.had kind.hears (IsHeld kind.holds kind.kept) mid
+        (λ may_lie before later. AreRequestsBegun requests before.now later.now × KeepsPart (AreRequestsBegun requests) before later) new
 
 -- For a device of this kind, which goes from one state to another beside a world.
 module _ {D W E : Type 0} (kind : DeviceKind D W E) (old new : D) where

@@ -1,8 +1,8 @@
 //! A device of whole blocks.
 
 ghost use Rattle.std.specs.Prelude.{◌≡◌, ℕ, Bool, false, List, ◌*◌, ◌<◌, ◌^◌, ◌↔◌, All, length, map, IfOk, OnOk, IsTrue, MatchResult};
-ghost use Rattle.oram_nbd.specs.Beside.{GoesOn, KeepsOn};
-ghost use Rattle.oram_nbd.specs.Calls.{FailsByLies, IsCall};
+ghost use Rattle.oram_nbd.specs.Beside.{GoesOn, IsHeld};
+ghost use Rattle.oram_nbd.specs.Calls.{FailsByLies, IsCall, Keeps};
 ghost use Rattle.oram_nbd.specs.Operations.{AreBegun, IsWhole, IsWithin, TouchSomeByte, all_done, all_given, read_len};
 
 use crate::faults::DiskFault;
@@ -36,8 +36,9 @@ pub trait BlockDevice {
     /// The device holds these bytes, block after block, beside this world. The `Bool` says whether the world may lie.
     ghost holds: { Bool → Self → World → List ℕ → Type 0 };
 
-    /// Beside this world, the next process would hold these bytes: it would begin with what outlasts this one.
-    ghost kept: { Bool → Self → World → List ℕ → Type 0 };
+    /// Beside this world, the device holds the second array. The next process would hold it too, or the first one: it would
+    /// begin with what outlasts this process.
+    ghost kept: { Bool → Self → World → List ℕ → List ℕ → Type 0 };
 
     /// The device has failed, for good: it acknowledges nothing.
     ghost failed: { Self → Type 0 };
@@ -63,7 +64,8 @@ pub trait BlockDevice {
     /// that reads nothing. After an `Err` the first ones are done, one may be done in part, and the others aren't begun.
     ///
     /// An `Ok` says that what was done is kept: the next process would hold it too. A list that touches no byte asks for
-    /// nothing; then what was kept before still is.
+    /// nothing; then what was kept before still is. After an `Err` the next process would hold what it would have held before,
+    /// or what some beginning of the operations leaves, perhaps not the one that the device itself holds.
     fn carry_out(
         &mut self,
         alloc: Global,
@@ -72,11 +74,10 @@ pub trait BlockDevice {
         requires whole { All (IsWhole (block_len self.old)) operations.now }
         requires within { All (IsWithin (size self.old)) operations.now }
         ensures len { IfOk result (λ given. map length given.items ≡ map read_len operations.now) }
-        ensures goes { GoesOn had hears holds self.old (λ may_lie bytes later. MatchResult result
-            (λ given. (given.items ≡ all_given operations.now bytes) × (later ≡ all_done operations.now bytes))
-            (λ _. AreBegun operations.now bytes later) × FailsByLies result may_lie) self.new }
-        ensures keeps { OnOk result (KeepsOn had hears holds kept self.old (TouchSomeByte operations.now)
-            (λ may_lie bytes later. later ≡ all_done operations.now bytes) self.new) }
+        ensures goes { GoesOn had hears (IsHeld holds kept) self.old (λ may_lie old new. MatchResult result
+            (λ given. (given.items ≡ all_given operations.now old.now) × (new.now ≡ all_done operations.now old.now))
+            (λ _. AreBegun operations.now old.now new.now) × FailsByLies result may_lie
+            × Keeps result (TouchSomeByte operations.now) (AreBegun operations.now) old new) self.new }
         ensures refused { OnOk result (failed self.old → ⊥) }
         ensures call { IsCall block_len size failed (stops self.old self.new) self.old result self.new };
 }

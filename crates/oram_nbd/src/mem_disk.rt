@@ -95,7 +95,7 @@ impl BlockDevice for MemDisk {
     ghost holds = { λ _ d _ bytes. bytes ≡ d.bytes };
 
     // The memory goes with its process, so no next process begins with it: what is kept is what the device holds.
-    ghost kept = { λ _ d _ bytes. bytes ≡ d.bytes };
+    ghost kept = { λ _ d _ saved bytes. (saved ≡ d.bytes) × (bytes ≡ d.bytes) };
 
     ghost failed = { λ _. ⊥ };
 

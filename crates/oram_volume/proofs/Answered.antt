@@ -1,5 +1,5 @@
 -- The replies to commands that were all accepted: those of the array, where the host doesn't lie.
-use Rattle.std.proofs.Common.{◌≡◌, ◌≢◌, ◌⊎◌, ℕ, Bool, true, List, [], ◌∷◌, ◌++◌, length, map, All, None, refl, sym, ap, ◌∙◌, subst, arith, inl, inr}
+use Rattle.std.proofs.Common.{◌≡◌, ◌≢◌, ◌⊎◌, ℕ, Bool, true, List, [], ◌∷◌, ◌++◌, length, map, All, None, Some, refl, sym, ap, ◌∙◌, subst, arith, inl, inr}
 use Rattle.std.proofs.lemmas.List.{append-nil}
 use Rattle.std.proofs.lemmas.List.Elements.{All-cons, All-head, All-nil, All-tail}
 use Rattle.std.specs.List.{FoldsTo, flat_map}
@@ -22,6 +22,7 @@ use Rattle.oram_nbd.proofs.Beside.{one_call}
 use Rattle.oram_rounds.specs.Batches.{BatchOutcome}
 use Rattle.oram_rounds.specs.CatchUp.{PlainRun}
 use Rattle.oram_rounds.specs.Law.{AreBatches}
+use Rattle.oram_rounds.specs.Process.Act.{Keeps}
 use Rattle.oram_rounds.specs.Process.{Act, DoesAll, IsGoingOn, Process, exchanges_of, process, replies_of}
 use Rattle.oram_rounds.specs.Rounds.{Round}
 use Rattle.oram_rounds.specs.Service.{AreReplied, ArrayAndQueue, IsServed, after_all}
@@ -30,7 +31,7 @@ use Rattle.oram_rounds.proofs.Replies.{replies_are_the_arrays}
 use Rattle.oram_rounds.proofs.Start.{resting, served_submitted}
 use Rattle.oram_volume.specs.CarriedOut.{bodies_from}
 use Rattle.oram_volume.specs.HeldArrays.{HostBeside, HostHears}
-use Rattle.oram_volume.proofs.HeldArrays.{Goes, Holds, acts_hold, asked_hold, had, heard}
+use Rattle.oram_volume.proofs.HeldArrays.{Goes, Holds, acts_hold, asked_hold, had, heard, keeps_on}
 
 -- no command's reply of an array is that the device failed
 never_failed : (bytes : List ℕ) (c : Command) → body_from bytes c ≢ Failed
@@ -125,13 +126,19 @@ module _ {B K : Type 0} (batches : B → List (List ℕ) → BatchOutcome → Li
             let whole : replies ≡ gave ++ map failed_reply (y ∷ xs) = all ∙ ap (λ (zs : List Submission). gave ++ map failed_reply zs) some in
             inr (lies, λ ok. failed_shows gave y xs (subst NoneFailed whole ok))
 
-    -- Submissions, and then acts that bring a reply to each command that waits.
-    pub replies_go_on : (ys : List Submission) → t.queue ≡ ys
-        → Goes batches reads_back are v words (process s l k) (λ may_lie array later. (later ≡ array_with v.device asked array) × AreRight may_lie ys replies array) q
-    replies_go_on ys queue = one_call (flat_map exchanges_of acts) (had batches reads_back are v words asked acts session s t l k q chain does)
-        (λ may_lie w later run array h. (
-          array_with v.device asked array,
-          (refl, right_by may_lie ys queue w later array run h),
-          acts_hold batches reads_back are v words may_lie acts (process t l k) q w later (array_with v.device asked array) does run
-              (asked_hold batches reads_back are v words may_lie asked session s t l k w array chain h),
+    -- Submissions, and then acts that begin with a keeping, and bring a reply to each command that waits. What the process holds then is
+    -- kept.
+    pub replies_go_on : (ys : List Submission) → t.queue ≡ ys → (rest : List Act) → acts ≡ Keeps true ∷ rest
+        → Goes batches reads_back are v words (process s l k)
+        (λ may_lie old new. (new.now ≡ array_with v.device asked old.now) × AreRight may_lie ys replies old.now × (new.saved ≡ Some new.now)) q
+    replies_go_on ys queue rest begin = one_call (flat_map exchanges_of acts) (had batches reads_back are v words asked acts session s t l k q chain does)
+        (λ may_lie w later run old h.
+        let now : ℕ → List ℕ = array_with v.device asked old.now in
+        let there = asked_hold batches reads_back are v words may_lie asked session s t l k w old.now chain h.0 in
+        let so : DoesAll v batches reads_back (process t l k) (Keeps true ∷ rest) q = subst (λ (done : List Act). DoesAll v batches reads_back (process t l k) done q) begin does in
+        let ran : FoldsTo {P = HostBeside} {A = Exchange} (HostHears may_lie) w (flat_map exchanges_of (Keeps true ∷ rest)) later =
+        subst (λ (done : List Act). FoldsTo {P = HostBeside} {A = Exchange} (HostHears may_lie) w (flat_map exchanges_of done) later) begin run in (
+          record { now = now; saved = Some now },
+          (refl, right_by may_lie ys queue w later old.now run h.0, refl),
+          (acts_hold batches reads_back are v words may_lie acts (process t l k) q w later now does run there, keeps_on batches reads_back are v words may_lie rest (process t l k) q w later now so ran there),
         ))

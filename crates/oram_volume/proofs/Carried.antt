@@ -1,12 +1,11 @@
 -- A round of commands behind what waited: what it leaves, by what each of its parts says.
-use Rattle.std.proofs.Common.{◌≡◌, ◌≢◌, ◌⊎◌, ℕ, ◌<◌, ◌≤◌, Bool, true, false, List, [], ◌∷◌, ◌++◌, length, map, take, count_by, All, None, Option, Some, Result, Ok, Err, IfErr, IfOk, IsErrOf, MatchResult, OnOk, refl, sym, ap, ◌∙◌, subst, append_assoc, arith, inl, inr}
-use Rattle.std.proofs.lemmas.List.{length-map, map-append, take-append-le, append-nil, nil_from_length}
-use Rattle.std.proofs.Math.Seq.{take-nil}
+use Rattle.std.proofs.Common.{◌≡◌, ◌≢◌, ◌⊎◌, ℕ, ◌<◌, ◌≤◌, Bool, true, false, List, [], ◌∷◌, ◌++◌, length, map, take, drop, count_by, All, None, Option, Some, Result, Ok, Err, IfErr, IfOk, IsErrOf, MatchResult, OnOk, refl, sym, ap, ◌∙◌, subst, append_assoc, arith, inl, inr}
+use Rattle.std.proofs.lemmas.List.{length-map, map-append, take-append-drop, take-append-le, append-nil, nil_from_length}
 use Rattle.std.proofs.lemmas.List.Elements.{All-cons, All-head, All-nil, All-tail}
 use Rattle.std.specs.List.{FoldsTo, flat_map}
 use Rattle.oram_bucket.specs.Cipher.{Cipher}
 use Rattle.oram_geometry.specs.declared.Sizes.{Sizes}
-use Rattle.oram_nbd.specs.Calls.{FailsByLies}
+use Rattle.oram_nbd.specs.Calls.{FailsByLies, Keeps, KeepsAll, KeepsPart}
 use Rattle.oram_nbd.specs.declared.faults.DiskFault.{DiskFault}
 use Rattle.oram_nbd.specs.declared.faults.DiskFault.TheVariants.{Failed, Stopped}
 use Rattle.oram_semantics.specs.declared.events.Reason.{Reason}
@@ -24,15 +23,16 @@ use Rattle.oram_session.proofs.CoreSteps.{same_scheme, same_trans}
 use Rattle.oram_session.specs.CoreWork.{HasNoWork}
 use Rattle.oram_link_laws.specs.Runs.{Exchange}
 use Rattle.oram_link_laws.proofs.Exchanged.{folds_join}
-use Rattle.oram_nbd.specs.Beside.{GoesOn, KeepsOn}
-use Rattle.oram_nbd.proofs.Beside.{joined_calls, kept_behind, weaker}
+use Rattle.oram_nbd.specs.Beside.{GoesOn, Held, IsHeld}
+use Rattle.oram_nbd.proofs.Beside.{joined_calls, weaker}
+use Rattle.oram_nbd.proofs.Keeping.{part_joined, part_weaker}
 use Rattle.oram_rounds.specs.Batches.{BatchOutcome}
 use Rattle.oram_rounds.specs.Law.{AreBatches}
 use Rattle.oram_rounds.specs.Process.Act.{Keeps}
 use Rattle.oram_rounds.specs.Process.{Act, DoesAll, Process, process, replies_of}
 use Rattle.oram_rounds.specs.Start.{AreSubmitted, SubmittedCommand, array_with}
 use Rattle.oram_rounds.specs.ProcessSteps.{ProcessStep}
-use Rattle.oram_volume.specs.CarriedOut.{Had, Stops, TakesStep, TakesSteps, after_commands, bodies_from}
+use Rattle.oram_volume.specs.CarriedOut.{Had, IsAfterFirst, Stops, TakesStep, TakesSteps, after_commands, bodies_from}
 use Rattle.oram_rounds.specs.ProcessSteps.ProcessStep.{Acts, Takes}
 use Rattle.oram_volume.specs.HeldArrays.{HostHears, HoldsArray, KeepsArray, Running, running}
 use Rattle.oram_volume.specs.RangeCommands.{FitsDevice}
@@ -40,8 +40,8 @@ use Rattle.oram_volume.specs.declared.volume.Volume.{Volume}
 use Rattle.oram_rounds.specs.Rounds.{Round}
 use Rattle.oram_rounds.proofs.Start.{resting}
 use Rattle.oram_volume.proofs.Answered.{NoneFailed, bodies, none_failed, replies_go_on}
-use Rattle.oram_volume.proofs.HeldArrays.{acts_taken, asked_go_on, asked_taken, kept_go_on}
-use Rattle.oram_volume.proofs.Submitted.{AllFit, accepted_in, all_accepted, first_accepted, one_refused}
+use Rattle.oram_volume.proofs.HeldArrays.{NoWorkIsKept, acts_taken, asked_go_on, asked_taken}
+use Rattle.oram_volume.proofs.Submitted.{AllFit, accepted_in, all_accepted, first_accepted, none_submitted, one_refused}
 
 pub lies_if : (may_lie : Bool) → (may_lie ≡ false → ⊥) → may_lie ≡ true
 lies_if true honest = refl
@@ -66,10 +66,42 @@ same_running {S} {B} {K} cipher words old new kept tape =
     ap (λ (v : Scheme). let r : Running B K = record { scheme = v; words = words new.tape; process = process new.core.state new.link new.keeper } in r) (same_scheme cipher old.core new.core kept)
     ∙ ap (λ (ws : ℕ → ℕ → List ℕ). let r : Running B K = record { scheme = scheme_of cipher old.core; words = ws; process = process new.core.state new.link new.keeper } in r) tape
 
+-- the same array is held, and what was kept still is, or this array
+abbrev pub Rests : Bool → Held (ℕ → List ℕ) → Held (ℕ → List ℕ) → Type 0
+Rests may_lie old new = (new.now ≡ old.now) × KeepsPart (λ array part. part ≡ array) old new
+
+-- the array after the first of the commands is held, and what was kept still is, or an array after the first of them
+abbrev pub FirstOnes : Sizes → List Command → Held (ℕ → List ℕ) → Held (ℕ → List ℕ) → Type 0
+FirstOnes d commands old new = IsAfterFirst d commands old.now new.now × KeepsPart (IsAfterFirst d commands) old new
+
+-- none of them yet
+pub first_none : (d : Sizes) (commands : List Command) (array part : ℕ → List ℕ) → part ≡ array → IsAfterFirst d commands array part
+first_none d commands array part same = ([], commands, refl, same)
+
+-- of no commands, the first ones are none
+nothing_first : (d : Sizes) (commands : List Command) → commands ≡ [] → (array later : ℕ → List ℕ) → IsAfterFirst d commands array later → later ≡ array
+nothing_first d commands none array later (done, rest, split, is) =
+    is ∙ ap (λ (cs : List Command). after_commands d cs array) (no_front done rest (sym split ∙ none))
+  where
+    no_front : (xs ys : List Command) → xs ++ ys ≡ [] → xs ≡ []
+    no_front [] ys none' = refl
+    no_front (x ∷ xs) ys none' = absurd cc
+
+-- The same array is held. Then what was kept is, or this array is kept.
+pub unchanged : {touched : Type 0} (old new : Held (ℕ → List ℕ)) → new.now ≡ old.now → KeepsPart (λ array part. part ≡ array) old new → (touched → ⊥) → KeepsAll touched old new
+unchanged old new same k none = elim k.kept [
+  | inl saved ↦ record { kept = inr (none, both new.now old.now new.saved old.saved same saved) }
+  | inr part ↦ record { kept = inl (part.2 ∙ ap (λ (a : ℕ → List ℕ). Some a) (part.1 ∙ sym same)) }
+]
+  where
+    both : (a b : ℕ → List ℕ) (x y : Option (ℕ → List ℕ)) → a ≡ b → x ≡ y → (let h : Held (ℕ → List ℕ) = record { now = a; saved = x } in h) ≡ (let h : Held (ℕ → List ℕ) = record { now = b; saved = y } in h)
+    both a b x y e f =
+        ap (λ (z : ℕ → List ℕ). let h : Held (ℕ → List ℕ) = record { now = z; saved = x } in h) e ∙ ap (λ (z : Option (ℕ → List ℕ)). let h : Held (ℕ → List ℕ) = record { now = b; saved = z } in h) f
+
 -- a volume, and what it is once it has carried out what waited
 module _ {S B K T : Type 0} (cipher : S → Cipher) (words : T → ℕ → ℕ → List ℕ) (batches : B → List (List ℕ) → BatchOutcome → List Exchange → B → Type 0) (reads_back : K → List ℕ → Type 0) (are : AreBatches batches)
     (old mid : Volume S B K T) (kept : IsSameDevice old.core mid.core) (tape : words mid.tape ≡ words old.tape)
-    (goes : GoesOn (Had batches reads_back) HostHears HoldsArray (running cipher words old) (λ _ array later. later ≡ array) (running cipher words mid)) where
+    (goes : GoesOn (Had batches reads_back) HostHears (IsHeld HoldsArray (KeepsArray reads_back)) (running cipher words old) Rests (running cipher words mid)) where
   abbrev v : Scheme
   v = scheme_of cipher old.core
 
@@ -82,11 +114,11 @@ module _ {S B K T : Type 0} (cipher : S → Cipher) (words : T → ℕ → ℕ �
   abbrev here : Process B K
   here = process mid.core.state mid.link mid.keeper
 
-  abbrev Goes : (Bool → (ℕ → List ℕ) → (ℕ → List ℕ) → Type 0) → Volume S B K T → Type 0
-  Goes step new = GoesOn (Had batches reads_back) HostHears HoldsArray (running cipher words old) step (running cipher words new)
+  abbrev Goes : (Bool → Held (ℕ → List ℕ) → Held (ℕ → List ℕ) → Type 0) → Volume S B K T → Type 0
+  Goes step new = GoesOn (Had batches reads_back) HostHears (IsHeld HoldsArray (KeepsArray reads_back)) (running cipher words old) step (running cipher words new)
 
-  resumed : GoesOn (Had batches reads_back) HostHears HoldsArray (running cipher words old) (λ _ array later. later ≡ array) (at here)
-  resumed = subst (λ (r : Running B K). GoesOn (Had batches reads_back) HostHears HoldsArray (running cipher words old) (λ _ array later. later ≡ array) r) (same_running cipher words old mid kept tape) goes
+  resumed : GoesOn (Had batches reads_back) HostHears (IsHeld HoldsArray (KeepsArray reads_back)) (running cipher words old) Rests (at here)
+  resumed = subst (λ (r : Running B K). GoesOn (Had batches reads_back) HostHears (IsHeld HoldsArray (KeepsArray reads_back)) (running cipher words old) Rests r) (same_running cipher words old mid kept tape) goes
 
   -- the chain of submissions, as that of the old volume
   pub chain_under : (asked : List SubmittedCommand) (t : State) → AreSubmitted (scheme_of cipher mid.core) (words mid.tape) 0 mid.core.state asked t → AreSubmitted v tape_words 0 mid.core.state asked t
@@ -100,43 +132,50 @@ module _ {S B K T : Type 0} (cipher : S → Cipher) (words : T → ℕ → ℕ �
     all_fit : AllFit v tape_words 0 asked
     all_fit = front_all (FitsDevice old.core.device) (map (λ (a : SubmittedCommand). a.command) asked) rest (subst (λ (cs : List Command). All (FitsDevice old.core.device) cs) (sym in_order) fits)
 
-    abbrev pub FirstOnes : Bool → (ℕ → List ℕ) → (ℕ → List ℕ) → Type 0
-    FirstOnes may_lie array later = (n : ℕ) × (later ≡ after_commands old.core.device (take n commands) array)
-
-    first_ones : (array : ℕ → List ℕ) → (n : ℕ) × (array_with old.core.device asked array ≡ after_commands old.core.device (take n commands) array)
+    first_ones : (array : ℕ → List ℕ) → IsAfterFirst old.core.device commands array (array_with old.core.device asked array)
     first_ones array =
         let k = first_accepted v tape_words 0 asked mid.core.state t chain all_fit in
         let few : k.0 ≤ length (map (λ (a : SubmittedCommand). a.command) asked) = subst (λ (n : ℕ). k.0 ≤ n) (sym (length-map asked (λ (a : SubmittedCommand). a.command))) k.1 in
         let same : take k.0 commands ≡ take k.0 (map (λ (a : SubmittedCommand). a.command) asked) =
         ap (take k.0) (sym in_order) ∙ take-append-le k.0 (map (λ (a : SubmittedCommand). a.command) asked) rest few in
-        (k.0, k.2 array ∙ ap (λ (cs : List Command). after_commands old.core.device cs array) (sym same))
+        (take k.0 commands, drop k.0 commands, sym (take-append-drop k.0 commands), k.2 array ∙ ap (λ (cs : List Command). after_commands old.core.device cs array) (sym same))
 
     module _ (new : Volume S B K T) (kept_new : IsSameDevice old.core new.core) (tape_new : words new.tape ≡ words old.tape) (acts : List Act)
         (does : DoesAll v batches reads_back (process t mid.link mid.keeper) acts (process new.core.state new.link new.keeper)) where
       abbrev there : Process B K
       there = process new.core.state new.link new.keeper
 
-      as_new : {step : Bool → (ℕ → List ℕ) → (ℕ → List ℕ) → Type 0} → GoesOn (Had batches reads_back) HostHears HoldsArray (running cipher words old) step (at there) → Goes step new
-      as_new {step} = subst (λ (r : Running B K). GoesOn (Had batches reads_back) HostHears HoldsArray (running cipher words old) step r) (sym (same_running cipher words old new kept_new tape_new))
+      as_new : {step : Bool → Held (ℕ → List ℕ) → Held (ℕ → List ℕ) → Type 0} → GoesOn (Had batches reads_back) HostHears (IsHeld HoldsArray (KeepsArray reads_back)) (running cipher words old) step (at there) → Goes step new
+      as_new {step} = subst (λ (r : Running B K). GoesOn (Had batches reads_back) HostHears (IsHeld HoldsArray (KeepsArray reads_back)) (running cipher words old) step r) (sym (same_running cipher words old new kept_new tape_new))
 
-      -- the array is the one after the first of them
-      pub some_done : Goes FirstOnes new
-      some_done = as_new (joined_calls resumed (asked_go_on batches reads_back are v tape_words asked acts 0 mid.core.state t mid.link mid.keeper there chain does)
-          (λ may_lie world array between later h first second. let k = first_ones array in (k.0, second ∙ ap (array_with old.core.device asked) first ∙ k.1)))
+      -- the array is the one after the first of them, and so is what is kept
+      pub some_done : HasNoWork mid.core.state → mid.core.state.failure ≡ None → NoWorkIsKept t acts new.core.state → Goes (λ may_lie from to. FirstOnes old.core.device commands from to) new
+      some_done idle alive kept_work = as_new (joined_calls resumed
+          (asked_go_on batches reads_back are v tape_words asked acts 0 mid.core.state t mid.link mid.keeper there chain idle
+          (λ rests array. none_submitted v tape_words 0 asked mid.core.state t chain alive rests array) does kept_work)
+          (λ may_lie world from between to h first second. (
+            subst (λ (a : ℕ → List ℕ). IsAfterFirst old.core.device commands from.now a) (sym (second.0 ∙ ap (array_with old.core.device asked) first.0)) (first_ones from.now),
+            part_joined first.1 second.1 (first_none old.core.device commands from.now) (λ part either. elim either [
+              | inl same ↦ first_none old.core.device commands from.now part (same ∙ first.0)
+              | inr done ↦ subst (λ (a : ℕ → List ℕ). IsAfterFirst old.core.device commands from.now a) (sym (done ∙ ap (array_with old.core.device asked) first.0)) (first_ones from.now)
+            ]),
+          )))
 
       -- all were accepted, and each has a reply
       module _ (no_work : HasNoWork mid.core.state) (alive : mid.core.state.failure ≡ None) (replies : List Reply) (given : flat_map replies_of acts ≡ replies) (many : length replies ≡ length t.queue) where
-        abbrev pub Right : List Submission → Bool → (ℕ → List ℕ) → (ℕ → List ℕ) → Type 0
-        Right ys may_lie array later = ((n : ℕ) × (later ≡ after_commands old.core.device (take n commands) array)) × (later ≡ array_with old.core.device asked array)
-            × ((bodies replies ≡ bodies_from old.core.device (map (λ (y : Submission). y.command) ys) array) ⊎ ((may_lie ≡ true) × (NoneFailed replies → ⊥)))
+        abbrev pub Right : List Submission → Bool → Held (ℕ → List ℕ) → Held (ℕ → List ℕ) → Type 0
+        Right ys may_lie from to = IsAfterFirst old.core.device commands from.now to.now × (to.now ≡ array_with old.core.device asked from.now)
+            × ((bodies replies ≡ bodies_from old.core.device (map (λ (y : Submission). y.command) ys) from.now) ⊎ ((may_lie ≡ true) × (NoneFailed replies → ⊥))) × (to.saved ≡ Some to.now)
 
-        pub all_replied : (ys : List Submission) → t.queue ≡ ys → Goes (Right ys) new
-        all_replied ys queue = as_new (joined_calls resumed (replies_go_on batches reads_back are v tape_words asked acts 0 mid.core.state t mid.link mid.keeper there replies no_work alive chain does given many ys queue)
-            (λ may_lie world array between later h first second.
-            let k = first_ones array in (
-              (k.0, second.0 ∙ ap (array_with old.core.device asked) first ∙ k.1),
-              second.0 ∙ ap (array_with old.core.device asked) first,
-              subst (λ (a : ℕ → List ℕ). (bodies replies ≡ bodies_from old.core.device (map (λ (y : Submission). y.command) ys) a) ⊎ ((may_lie ≡ true) × (NoneFailed replies → ⊥))) first second.1,
+        pub all_replied : (ys : List Submission) → t.queue ≡ ys → (begin : List Act) → acts ≡ Keeps true ∷ begin → Goes (Right ys) new
+        all_replied ys queue begin is = as_new (joined_calls resumed
+            (replies_go_on batches reads_back are v tape_words asked acts 0 mid.core.state t mid.link mid.keeper there replies no_work alive chain does given many ys queue begin is)
+            (λ may_lie world from between to h first second.
+            let now : to.now ≡ array_with old.core.device asked from.now = second.0 ∙ ap (array_with old.core.device asked) first.0 in (
+              subst (λ (a : ℕ → List ℕ). IsAfterFirst old.core.device commands from.now a) (sym now) (first_ones from.now),
+              now,
+              subst (λ (a : ℕ → List ℕ). (bodies replies ≡ bodies_from old.core.device (map (λ (y : Submission). y.command) ys) a) ⊎ ((may_lie ≡ true) × (NoneFailed replies → ⊥))) first.0 second.1,
+              second.2,
             )))
 
     -- a command wasn't accepted
@@ -163,10 +202,13 @@ module _ {S B K T : Type 0} (cipher : S → Cipher) (words : T → ℕ → ℕ �
 -- the same, from what the calls say: those of the core were submitted, and then `perform` was called
 module _ {S B K T : Type 0} (cipher : S → Cipher) (words : T → ℕ → ℕ → List ℕ) (batches : B → List (List ℕ) → BatchOutcome → List Exchange → B → Type 0) (reads_back : K → List ℕ → Type 0) (are : AreBatches batches)
     (old mid : Volume S B K T) (kept : IsSameDevice old.core mid.core) (tape : words mid.tape ≡ words old.tape)
-    (goes : GoesOn (Had batches reads_back) HostHears HoldsArray (running cipher words old) (λ _ array later. later ≡ array) (running cipher words mid))
+    (goes : GoesOn (Had batches reads_back) HostHears (IsHeld HoldsArray (KeepsArray reads_back)) (running cipher words old) Rests (running cipher words mid))
     (commands : List Command) (fits : All (FitsDevice old.core.device) commands) (core : CoreValue S) (drawn : T) (kept_on : IsSameDevice mid.core core) (same_tape : words drawn ≡ words mid.tape) where
-  abbrev pub SomeDone : Bool → (ℕ → List ℕ) → (ℕ → List ℕ) → Type 0
-  SomeDone may_lie array later = (n : ℕ) × (later ≡ after_commands old.core.device (take n commands) array)
+  abbrev pub SomeDone : Bool → Held (ℕ → List ℕ) → Held (ℕ → List ℕ) → Type 0
+  SomeDone may_lie from to = FirstOnes old.core.device commands from to
+
+  abbrev GoesTo : (Bool → Held (ℕ → List ℕ) → Held (ℕ → List ℕ) → Type 0) → Volume S B K T → Type 0
+  GoesTo step new = GoesOn (Had batches reads_back) HostHears (IsHeld HoldsArray (KeepsArray reads_back)) (running cipher words old) step (running cipher words new)
 
   -- those of the first commands that were submitted
   abbrev pub FrontAsked : Type 0
@@ -184,10 +226,10 @@ module _ {S B K T : Type 0} (cipher : S → Cipher) (words : T → ℕ → ℕ �
   kept_core : IsSameDevice old.core core
   kept_core = same_trans old.core mid.core core kept kept_on
 
-  pub submitted_done : FrontAsked → GoesOn (Had batches reads_back) HostHears HoldsArray (running cipher words old) SomeDone (running cipher words (record { core = core; link = mid.link; keeper = mid.keeper; tape = drawn }))
-  submitted_done k =
+  pub submitted_done : FrontAsked → HasNoWork mid.core.state → mid.core.state.failure ≡ None → GoesTo SomeDone (record { core = core; link = mid.link; keeper = mid.keeper; tape = drawn })
+  submitted_done k idle alive =
       some_done cipher words batches reads_back are old mid kept tape goes commands fits k.0 k.1 k.2 core.state (chain_under cipher words batches reads_back are old mid kept tape goes k.0 core.state k.3)
-      (record { core = core; link = mid.link; keeper = mid.keeper; tape = drawn }) kept_core (same_tape ∙ tape) [] refl
+      (record { core = core; link = mid.link; keeper = mid.keeper; tape = drawn }) kept_core (same_tape ∙ tape) [] refl idle alive (λ rests. inl rests)
 
   module _ (after : CoreValue S) (link : Round B) (keeper : K) (kept_then : IsSameDevice core after) (acts : List Act)
       (does : DoesAll (scheme_of cipher core) batches reads_back (process core.state mid.link mid.keeper) acts (process after.state link keeper)) where
@@ -197,10 +239,10 @@ module _ {S B K T : Type 0} (cipher : S → Cipher) (words : T → ℕ → ℕ �
     does_under : DoesAll (scheme_of cipher old.core) batches reads_back (process core.state mid.link mid.keeper) acts (process after.state link keeper)
     does_under = subst (λ (u : Scheme). DoesAll u batches reads_back (process core.state mid.link mid.keeper) acts (process after.state link keeper)) (same_scheme cipher old.core core kept_core) does
 
-    pub performed_done : FrontAsked → GoesOn (Had batches reads_back) HostHears HoldsArray (running cipher words old) SomeDone (running cipher words new)
-    performed_done k =
+    pub performed_done : FrontAsked → HasNoWork mid.core.state → mid.core.state.failure ≡ None → NoWorkIsKept core.state acts after.state → GoesTo SomeDone new
+    performed_done k idle alive kept_work =
         some_done cipher words batches reads_back are old mid kept tape goes commands fits k.0 k.1 k.2 core.state (chain_under cipher words batches reads_back are old mid kept tape goes k.0 core.state k.3)
-        new (same_trans old.core core after kept_core kept_then) (same_tape ∙ tape) acts does_under
+        new (same_trans old.core core after kept_core kept_then) (same_tape ∙ tape) acts does_under idle alive kept_work
 
     -- fewer were accepted than there are
     pub performed_stops : (notes : List Note) → AllAsked notes → count_by is_accepted notes < length commands → Stops batches reads_back (running cipher words old) (running cipher words new)
@@ -242,77 +284,59 @@ module _ {S B K T : Type 0} (cipher : S → Cipher) (words : T → ℕ → ℕ �
 
     module _ (notes : List Note) (k : AllAsked notes) (no_work : HasNoWork mid.core.state) (alive : mid.core.state.failure ≡ None) (replies : List Reply) (given : flat_map replies_of acts ≡ replies)
         (many : length replies ≡ length core.state.queue) where
-      right : (ys : List Submission) → core.state.queue ≡ ys
-          → GoesOn (Had batches reads_back) HostHears HoldsArray (running cipher words old)
-          (λ may_lie array later. SomeDone may_lie array later × (later ≡ array_with old.core.device k.0 array)
-          × ((bodies replies ≡ bodies_from old.core.device (map (λ (y : Submission). y.command) ys) array) ⊎ ((may_lie ≡ true) × (NoneFailed replies → ⊥)))) (running cipher words new)
-      right ys queue =
-          let f = front_of notes k in
-          all_replied cipher words batches reads_back are old mid kept tape goes commands fits k.0 f.1 f.2 core.state (chain_under cipher words batches reads_back are old mid kept tape goes k.0 core.state k.3)
-          new (same_trans old.core core after kept_core kept_then) (same_tape ∙ tape) acts does_under no_work alive replies given many ys queue
+      module _ (rest : List Act) (begin : acts ≡ Keeps true ∷ rest) where
+        right : (ys : List Submission) → core.state.queue ≡ ys
+            → GoesTo
+            (λ may_lie from to. IsAfterFirst old.core.device commands from.now to.now × (to.now ≡ array_with old.core.device k.0 from.now)
+            × ((bodies replies ≡ bodies_from old.core.device (map (λ (y : Submission). y.command) ys) from.now) ⊎ ((may_lie ≡ true) × (NoneFailed replies → ⊥))) × (to.saved ≡ Some to.now)) new
+        right ys queue =
+            let f = front_of notes k in
+            all_replied cipher words batches reads_back are old mid kept tape goes commands fits k.0 f.1 f.2 core.state (chain_under cipher words batches reads_back are old mid kept tape goes k.0 core.state k.3)
+            new (same_trans old.core core after kept_core kept_then) (same_tape ∙ tape) acts does_under no_work alive replies given many ys queue rest begin
 
-      -- a reply says that the device failed: that was a lie
-      pub lied : (NoneFailed replies → ⊥) → GoesOn (Had batches reads_back) HostHears HoldsArray (running cipher words old) (λ may_lie array later. SomeDone may_lie array later × (may_lie ≡ true)) (running cipher words new)
-      lied some = weaker (right core.state.queue refl) (λ may_lie world array later h step.
-          (step.0, elim step.2 [ inl as_told ↦ absurd (some (none_failed old.core.device (map (λ (y : Submission). y.command) core.state.queue) array replies as_told)) | inr lie ↦ lie.0 ]))
+        -- a reply says that the device failed: that was a lie
+        pub lied : (NoneFailed replies → ⊥) → GoesTo (λ may_lie from to. SomeDone may_lie from to × (may_lie ≡ true)) new
+        lied some = weaker (right core.state.queue refl) (λ may_lie world from to h step. (
+          (step.0, record { kept = inr (to.now, step.0, step.3) }),
+          elim step.2 [ inl as_told ↦ absurd (some (none_failed old.core.device (map (λ (y : Submission). y.command) core.state.queue) from.now replies as_told)) | inr lie ↦ lie.0 ],
+        ))
 
-      -- no reply says so, and each command has one
-      pub all_done : NoneFailed replies → length commands ≤ length replies → (count : length core.state.queue ≡ count_by is_accepted notes)
-          → GoesOn (Had batches reads_back) HostHears HoldsArray (running cipher words old)
-          (λ may_lie array later. (bodies replies ≡ bodies_from old.core.device commands array) × (later ≡ after_commands old.core.device commands array)) (running cipher words new)
-      all_done none enough count =
-          let here = chain_under cipher words batches reads_back are old mid kept tape goes k.0 core.state k.3 in
-          let counted : accepted_in (scheme_of cipher old.core) (words old.tape) 0 k.0 ≡ count_by is_accepted notes = ap (λ (ns : List Note). count_by is_accepted ns) k.2 in
-          let size : length k.0 ≡ length commands = sym (length-map k.0 (λ (a : SubmittedCommand). a.command)) ∙ ap length k.1 in
-          let whole = all_accepted (scheme_of cipher old.core) (words old.tape) 0 k.0 mid.core.state core.state here (omega (arith, counted, size, enough, many, count)) in
-          let queue : core.state.queue ≡ whole.0.waiting = whole.0.queue ∙ ap (λ (q : List Submission). q ++ whole.0.waiting) (resting mid.core.state no_work alive) in
-          weaker (right whole.0.waiting queue) (λ may_lie world array later h step. (
-            elim step.2 [
-              | inl as_told ↦ as_told ∙ ap (λ (cs : List Command). bodies_from old.core.device cs array) (whole.0.commands ∙ k.1)
-              | inr lie ↦ absurd (lie.1 none)
-            ],
-            step.1 ∙ whole.1 array ∙ ap (λ (cs : List Command). after_commands old.core.device cs array) k.1,
-          ))
-
-      -- The acts began with a keeping. Then what the volume holds is kept.
-      pub all_kept : (rest : List Act) → acts ≡ Keeps true ∷ rest → length commands ≤ length replies → length core.state.queue ≡ count_by is_accepted notes
-          → KeepsOn (Had batches reads_back) HostHears HoldsArray (KeepsArray reads_back) (running cipher words old) (Unit {0})
-          (λ may_lie array later. later ≡ after_commands old.core.device commands array) (running cipher words new)
-      all_kept rest begin enough count =
-          let v = scheme_of cipher old.core in
-          let chain = chain_under cipher words batches reads_back are old mid kept tape goes k.0 core.state k.3 in
-          let counted : accepted_in v (words old.tape) 0 k.0 ≡ count_by is_accepted notes = ap (λ (ns : List Note). count_by is_accepted ns) k.2 in
-          let size : length k.0 ≡ length commands = sym (length-map k.0 (λ (a : SubmittedCommand). a.command)) ∙ ap length k.1 in
-          let whole = all_accepted v (words old.tape) 0 k.0 mid.core.state core.state chain (omega (arith, counted, size, enough, many, count)) in
-          let there : Process B K = process after.state link keeper in
-          let does_so : DoesAll v batches reads_back (process core.state mid.link mid.keeper) (Keeps true ∷ rest) there =
-          subst (λ (done : List Act). DoesAll v batches reads_back (process core.state mid.link mid.keeper) done there) begin does_under in
-          subst (λ (r : Running B K). KeepsOn (Had batches reads_back) HostHears HoldsArray (KeepsArray reads_back) (running cipher words old) (Unit {0})
-          (λ may_lie array later. later ≡ after_commands old.core.device commands array) r)
-          (sym (same_running cipher words old new (same_trans old.core core after kept_core kept_then) (same_tape ∙ tape)))
-          (kept_behind (resumed cipher words batches reads_back are old mid kept tape goes)
-          (kept_go_on batches reads_back are v (words old.tape) k.0 rest 0 mid.core.state core.state mid.link mid.keeper there chain does_so) tt
-          (λ may_lie world array between later h first second.
-          second ∙ ap (array_with old.core.device k.0) first ∙ whole.1 array ∙ ap (λ (cs : List Command). after_commands old.core.device cs array) k.1))
+        -- no reply says so, and each command has one
+        pub all_done : NoneFailed replies → length commands ≤ length replies → (count : length core.state.queue ≡ count_by is_accepted notes)
+            → GoesTo
+            (λ may_lie from to. (bodies replies ≡ bodies_from old.core.device commands from.now) × (to.now ≡ after_commands old.core.device commands from.now) × (to.saved ≡ Some to.now)) new
+        all_done none enough count =
+            let here = chain_under cipher words batches reads_back are old mid kept tape goes k.0 core.state k.3 in
+            let counted : accepted_in (scheme_of cipher old.core) (words old.tape) 0 k.0 ≡ count_by is_accepted notes = ap (λ (ns : List Note). count_by is_accepted ns) k.2 in
+            let size : length k.0 ≡ length commands = sym (length-map k.0 (λ (a : SubmittedCommand). a.command)) ∙ ap length k.1 in
+            let whole = all_accepted (scheme_of cipher old.core) (words old.tape) 0 k.0 mid.core.state core.state here (omega (arith, counted, size, enough, many, count)) in
+            let queue : core.state.queue ≡ whole.0.waiting = whole.0.queue ∙ ap (λ (q : List Submission). q ++ whole.0.waiting) (resting mid.core.state no_work alive) in
+            weaker (right whole.0.waiting queue) (λ may_lie world from to h step. (
+              elim step.2 [
+                | inl as_told ↦ as_told ∙ ap (λ (cs : List Command). bodies_from old.core.device cs from.now) (whole.0.commands ∙ k.1)
+                | inr lie ↦ absurd (lie.1 none)
+              ],
+              step.1 ∙ whole.1 from.now ∙ ap (λ (cs : List Command). after_commands old.core.device cs from.now) k.1,
+              step.3,
+            ))
 
 -- what becomes of no commands, and of commands that were all refused
 pub none_begun : {R : Type 0} (items : R → List Reply) (r : Result R DiskFault) (d : Sizes) (count : ℕ) (commands : List Command) → count ≡ length commands
-    → IfOk r (λ x. (items x ≡ []) × (count ≡ 0)) → IfErr r (λ e. (e ≡ Stopped) × (0 < count)) → (may_lie : Bool) (array later : ℕ → List ℕ) → (n : ℕ) × (later ≡ after_commands d (take n commands) array)
-    → MatchResult r (λ x. (bodies (items x) ≡ bodies_from d commands array) × (later ≡ after_commands d commands array)) (λ _. (n : ℕ) × (later ≡ after_commands d (take n commands) array)) × FailsByLies r may_lie
-none_begun items (Ok x) d count commands size ok err may_lie array later some =
-    let none : commands ≡ [] = nil_from_length commands (sym size ∙ ok.1) in (
+    → IfOk r (λ x. (items x ≡ []) × (count ≡ 0)) → IfErr r (λ e. (e ≡ Stopped) × (0 < count)) → (may_lie : Bool) (from to : Held (ℕ → List ℕ)) → FirstOnes d commands from to
+    → MatchResult r (λ x. (bodies (items x) ≡ bodies_from d commands from.now) × (to.now ≡ after_commands d commands from.now)) (λ _. IsAfterFirst d commands from.now to.now) × FailsByLies r may_lie
+    × Keeps r (commands ≢ []) (IsAfterFirst d commands) from to
+none_begun items (Ok x) d count commands size ok err may_lie from to some =
+    let none : commands ≡ [] = nil_from_length commands (sym size ∙ ok.1) in
+    let front = λ (array later : ℕ → List ℕ) (is : IsAfterFirst d commands array later). nothing_first d commands none array later is in (
       (
-        ap bodies ok.0 ∙ ap (λ (cs : List Command). bodies_from d cs array) (sym none),
-        some.1 ∙ ap (λ (cs : List Command). after_commands d cs array) (ap (take some.0) none ∙ take-nil some.0 ∙ sym none),
+        ap bodies ok.0 ∙ ap (λ (cs : List Command). bodies_from d cs from.now) (sym none),
+        front from.now to.now some.0 ∙ ap (λ (cs : List Command). after_commands d cs from.now) (sym none),
       ),
       λ e. cc,
+      unchanged from to (front from.now to.now some.0) (part_weaker some.1 (λ part is. front from.now part is)) (λ more. more none),
     )
-none_begun items (Err e) d count commands size ok err may_lie array later some = (some, λ f. let is : e ≡ Failed = cc in absurd (let both : Stopped ≡ Failed = sym err.0 ∙ is in cc))
-
--- Where no command is accepted, only an empty list of them has replies.
-pub none_accepted : {R : Type 0} (P : Type 0) (items : R → List Reply) (r : Result R DiskFault) (count many : ℕ) → count ≡ many → IfOk r (λ x. (items x ≡ []) × (count ≡ 0)) → OnOk r (0 < many → P)
-none_accepted P items (Ok x) count many size ok = λ some. absurd (omega (arith, some, size, ok.1))
-none_accepted P items (Err e) count many size ok = tt
+none_begun items (Err e) d count commands size ok err may_lie from to some =
+    (some.0, λ f. let is : e ≡ Failed = cc in absurd (let both : Stopped ≡ Failed = sym err.0 ∙ is in cc), some.1)
 
 pub some_left : {R : Type 0} (r : Result R DiskFault) (count : ℕ) → IsErrOf r Stopped → IfErr r (λ e. (e ≡ Stopped) × (0 < count)) → 0 < count
 some_left (Ok x) count is err = absurd cc

@@ -11,7 +11,13 @@ next_process_example =
       new_process_example.0,
       device,
       record { long = λ a within. refl; all = refl },
-      λ may_lie words. record { array = zero_array; keeps = record { same = refl; device = device; safe = safe may_lie }; laid = record { long = λ a within. refl; all = refl } },
+      λ may_lie words. record {
+        before = zero_array;
+        array = zero_array;
+        keeps = record { same = refl; device = device; safe = safe may_lie; no_work = λ none. refl };
+        laid_before = record { long = λ a within. refl; all = refl };
+        laid = record { long = λ a within. refl; all = refl };
+      },
       λ file is. (inr is, refl),
       λ may_lie file is. (safe may_lie).kept file is,
       λ may_lie. refl,

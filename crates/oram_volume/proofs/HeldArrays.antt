@@ -1,5 +1,5 @@
 -- What a process goes on holding beside a host, whatever it does.
-use Rattle.std.proofs.Common.{◌≡◌, ◌⊎◌, ℕ, Bool, true, false, List, [], ◌∷◌, ◌++◌, map, None, refl, sym, ap, ◌∙◌, subst, inl, inr}
+use Rattle.std.proofs.Common.{◌≡◌, ◌⊎◌, ℕ, Bool, true, false, List, [], ◌∷◌, ◌++◌, map, IfSome, Option, None, Some, refl, sym, ap, ◌∙◌, subst, inl, inr}
 use Rattle.std.proofs.lemmas.Grind.{flat_map-append}
 use Rattle.std.proofs.lemmas.List.{append-nil, map-append}
 use Rattle.std.specs.List.{AllByRecursion, FoldsTo, flat_map}
@@ -7,11 +7,13 @@ use Rattle.oram_geometry.specs.Sizes.{IsDevice}
 use Rattle.oram_semantics.specs.Scheme.{Scheme}
 use Rattle.oram_semantics.specs.Progress.Status.{Stalling}
 use Rattle.oram_semantics.specs.State.{State, status_in}
+use Rattle.oram_session.specs.CoreWork.{HasNoWork}
 use Rattle.oram_link_laws.specs.Repair.{IsAmong}
 use Rattle.oram_link_laws.specs.Runs.{Exchange}
 use Rattle.oram_link_laws.proofs.Exchanged.{folds_join}
-use Rattle.oram_nbd.specs.Beside.{GoesOn, KeepsOn}
-use Rattle.oram_nbd.proofs.Beside.{one_call, one_kept}
+use Rattle.oram_nbd.specs.Beside.{GoesOn, Held, IsHeld}
+use Rattle.oram_nbd.specs.Calls.{KeepsPart}
+use Rattle.oram_nbd.proofs.Beside.{one_call}
 use Rattle.oram_rounds.specs.Batches.{BatchOutcome}
 use Rattle.oram_rounds.specs.CatchUp.{PlainRun}
 use Rattle.oram_rounds.specs.Law.{AreBatches, IsFetchNow}
@@ -49,6 +51,27 @@ earlier_same (Misses o exchanges ∷ acts) array = earlier_same acts array
 earlier_same (GoesAhead exchanges ∷ acts) array = earlier_same acts array
 earlier_same (Keeps true ∷ acts) array = earlier_same acts array
 earlier_same (Keeps false ∷ acts) array = earlier_same acts array
+
+-- where acts have another array read back than the one before them, it is the present one
+earlier_either : (acts : List Act) (before array : ℕ → List ℕ) → (earlier acts before array ≡ before) ⊎ (earlier acts before array ≡ array)
+earlier_either [] before array = inl refl
+earlier_either (Hears event x ∷ acts) before array = earlier_either acts before array
+earlier_either (Calls o exchanges x ∷ acts) before array = earlier_either acts before array
+earlier_either (Misses o exchanges ∷ acts) before array = earlier_either acts before array
+earlier_either (GoesAhead exchanges ∷ acts) before array = earlier_either acts before array
+earlier_either (Keeps true ∷ acts) before array = inr (earlier_same acts array)
+earlier_either (Keeps false ∷ acts) before array = earlier_either acts before array
+
+-- the process has kept itself in these acts
+abbrev pub HaveKept : List Act → Type 0
+HaveKept acts = (before array : ℕ → List ℕ) → earlier acts before array ≡ array
+
+pub kept_first : (acts : List Act) → HaveKept (Keeps true ∷ acts)
+kept_first acts before array = earlier_same acts array
+
+-- These acts leave no command waiting that isn't kept, unless none waited before.
+abbrev pub NoWorkIsKept : State → List Act → State → Type 0
+NoWorkIsKept s acts t = HasNoWork t → HasNoWork s ⊎ HaveKept acts
 
 -- of a device with this scheme, and a tape with these words
 module _ {B K : Type 0} (batches : B → List (List ℕ) → BatchOutcome → List Exchange → B → Type 0) (reads_back : K → List ℕ → Type 0) (are : AreBatches batches) (v : Scheme) (words : ℕ → ℕ → List ℕ) where
@@ -143,8 +166,8 @@ module _ {B K : Type 0} (batches : B → List (List ℕ) → BatchOutcome → Li
         }
 
     -- and it goes on so, whatever it does then
-    keeps_on : (acts : List Act) (p q : Process B K) (w later : HostBeside) (array : ℕ → List ℕ) → DoesAll v batches reads_back p (Keeps true ∷ acts) q
-        → FoldsTo {P = HostBeside} {A = Exchange} (HostHears may_lie) w (flat_map exchanges_of acts) later → Holds p w array → KeepsArray reads_back may_lie (at q) later array
+    pub keeps_on : (acts : List Act) (p q : Process B K) (w later : HostBeside) (array : ℕ → List ℕ) → DoesAll v batches reads_back p (Keeps true ∷ acts) q
+        → FoldsTo {P = HostBeside} {A = Exchange} (HostHears may_lie) w (flat_map exchanges_of acts) later → Holds p w array → KeepsArray reads_back may_lie (at q) later array array
     keeps_on acts p q w later array does run h =
         let went = heard may_lie (flat_map exchanges_of acts) w later run in
         let ran : PlainRun may_lie v w.host (flat_map exchanges_of acts) later.host = subst (λ (u : Scheme). PlainRun may_lie u w.host (flat_map exchanges_of acts) later.host) h.same went.1 in
@@ -153,6 +176,21 @@ module _ {B K : Type 0} (batches : B → List (List ℕ) → BatchOutcome → Li
           same = went.0 ∙ h.same;
           device = h.device;
           safe = subst (λ (b : ℕ → List ℕ). IsSafe may_lie v reads_back q later.host b array) (earlier_same acts array) safe;
+          no_work = λ none. refl;
+        }
+
+    -- what a process has kept stays so, or the present array is kept
+    acts_keep : (acts : List Act) (p q : Process B K) (w later : HostBeside) (before array : ℕ → List ℕ) → DoesAll v batches reads_back p acts q
+        → FoldsTo {P = HostBeside} {A = Exchange} (HostHears may_lie) w (flat_map exchanges_of acts) later → w.scheme ≡ v → IsDevice v.device → IsSafe may_lie v reads_back p w.host before array
+        → (HasNoWork q.core → earlier acts before array ≡ array) → KeepsArray reads_back may_lie (at q) later (earlier acts before array) array
+    acts_keep acts p q w later before array does run same device safe no_work =
+        let went = heard may_lie (flat_map exchanges_of acts) w later run in
+        let ran : PlainRun may_lie v w.host (flat_map exchanges_of acts) later.host = subst (λ (u : Scheme). PlainRun may_lie u w.host (flat_map exchanges_of acts) later.host) same went.1 in
+        record {
+          same = went.0 ∙ same;
+          device = device;
+          safe = acts_are_safe batches reads_back are may_lie v acts p q w.host later.host before array device safe does ran;
+          no_work = no_work;
         }
 
     -- once commands were submitted it holds the array after those that were accepted
@@ -163,36 +201,66 @@ module _ {B K : Type 0} (batches : B → List (List ℕ) → BatchOutcome → Li
         (submitted_is_safe B Nothing may_lie v asked (process s l k) (process t l k) w.host array h.device (safe_by (process s l k) w array h)
         (submitted_to_processes B K v words session asked s t l k chain))
 
-  abbrev pub Goes : Process B K → (Bool → (ℕ → List ℕ) → (ℕ → List ℕ) → Type 0) → Process B K → Type 0
-  Goes p step q = GoesOn (Had batches reads_back) HostHears HoldsArray (at p) step (at q)
+  -- what is known of a process beside a host
+  abbrev pub Knows : Bool → Process B K → HostBeside → Held (ℕ → List ℕ) → Type 0
+  Knows may_lie p w h = IsHeld HoldsArray (KeepsArray reads_back) may_lie (at p) w h
+
+  abbrev pub Goes : Process B K → (Bool → Held (ℕ → List ℕ) → Held (ℕ → List ℕ) → Type 0) → Process B K → Type 0
+  Goes p step q = GoesOn (Had batches reads_back) HostHears (IsHeld HoldsArray (KeepsArray reads_back)) (at p) step (at q)
 
   -- acts leave the array as it is
-  pub acts_go_on : (acts : List Act) (p q : Process B K) → DoesAll v batches reads_back p acts q → Goes p (λ _ array later. later ≡ array) q
-  acts_go_on acts p q does = one_call (flat_map exchanges_of acts) (had [] acts 0 p.core p.core p.link p.keeper q refl does)
-      (λ may_lie w later run array h. (array, refl, acts_hold may_lie acts p q w later array does run h))
+  pub acts_go_on : (acts : List Act) (p q : Process B K) → DoesAll v batches reads_back p acts q → NoWorkIsKept p.core acts q.core
+      → Goes p (λ _ old new. (new.now ≡ old.now) × KeepsPart (λ array part. part ≡ array) old new) q
+  acts_go_on acts p q does kept_work = one_call (flat_map exchanges_of acts) (had [] acts 0 p.core p.core p.link p.keeper q refl does)
+      (λ may_lie w later run old h. by may_lie w later run old.now old.saved h.0 h.1)
+    where
+      by : (may_lie : Bool) (w later : HostBeside) → FoldsTo {P = HostBeside} {A = Exchange} (HostHears may_lie) w (flat_map exchanges_of acts) later → (array : ℕ → List ℕ) (saved : Option (ℕ → List ℕ)) → Holds may_lie p w array
+          → IfSome saved (λ before. KeepsArray reads_back may_lie (at p) w before array)
+          → (next : Held (ℕ → List ℕ)) × ((next.now ≡ array) × KeepsPart (λ one part. part ≡ one) (record { now = array; saved = saved }) next) × Knows may_lie q later next
+      by may_lie w later run array None h k = (record { now = array; saved = None }, (refl, record { kept = inl refl }), (acts_hold may_lie acts p q w later array does run h, tt))
+      by may_lie w later run array (Some before) h k = (
+        record { now = array; saved = Some (earlier acts before array) },
+        (refl, record { kept = elim (earlier_either acts before array) [ inl same ↦ inl (ap (λ (a : ℕ → List ℕ). Some a) same) | inr now ↦ inr (earlier acts before array, now, refl) ] }),
+        (
+          acts_hold may_lie acts p q w later array does run h,
+          acts_keep may_lie acts p q w later before array does run k.same k.device k.safe (λ none. elim (kept_work none) [
+            | inl idle ↦ subst (λ (b : ℕ → List ℕ). earlier acts b array ≡ array) (sym (k.no_work idle)) (earlier_same acts array)
+            | inr have ↦ have before array
+          ]),
+        ),
+      )
 
-  -- submissions, and then acts
-  pub asked_go_on : (asked : List SubmittedCommand) (acts : List Act) (session : ℕ) (s t : State) (l : Round B) (k : K) (q : Process B K) → AreSubmitted v words session s asked t
-      → DoesAll v batches reads_back (process t l k) acts q → Goes (process s l k) (λ _ array later. later ≡ array_with v.device asked array) q
-  asked_go_on asked acts session s t l k q chain does = one_call (flat_map exchanges_of acts) (had asked acts session s t l k q chain does)
-      (λ may_lie w later run array h. (
-        array_with v.device asked array,
-        refl,
-        acts_hold may_lie acts (process t l k) q w later (array_with v.device asked array) does run (asked_hold may_lie asked session s t l k w array chain h),
-      ))
-
-  -- Submissions, and then acts that begin with a keeping: what the process holds then is kept.
-  pub kept_go_on : (asked : List SubmittedCommand) (acts : List Act) (session : ℕ) (s t : State) (l : Round B) (k : K) (q : Process B K) → AreSubmitted v words session s asked t
-      → DoesAll v batches reads_back (process t l k) (Keeps true ∷ acts) q
-      → KeepsOn (Had batches reads_back) HostHears HoldsArray (KeepsArray reads_back) (at (process s l k)) (Unit {0}) (λ _ array later. later ≡ array_with v.device asked array) (at q)
-  kept_go_on asked acts session s t l k q chain does = one_kept (flat_map exchanges_of acts) (had asked (Keeps true ∷ acts) session s t l k q chain does)
-      (λ may_lie w later run array h.
-      let now = asked_hold may_lie asked session s t l k w array chain h in (
-        array_with v.device asked array,
-        refl,
-        acts_hold may_lie (Keeps true ∷ acts) (process t l k) q w later (array_with v.device asked array) does run now,
-        λ was. keeps_on may_lie acts (process t l k) q w later (array_with v.device asked array) does run now,
-      ))
+  -- submissions to a core at which none waits, and then acts
+  pub asked_go_on : (asked : List SubmittedCommand) (acts : List Act) (session : ℕ) (s t : State) (l : Round B) (k : K) (q : Process B K) → AreSubmitted v words session s asked t → HasNoWork s
+      → (HasNoWork t → (array : ℕ → List ℕ) → array_with v.device asked array ≡ array) → DoesAll v batches reads_back (process t l k) acts q → NoWorkIsKept t acts q.core
+      → Goes (process s l k) (λ _ old new. (new.now ≡ array_with v.device asked old.now) × KeepsPart (λ array part. (part ≡ array) ⊎ (part ≡ array_with v.device asked array)) old new) q
+  asked_go_on asked acts session s t l k q chain idle none_asked does kept_work = one_call (flat_map exchanges_of acts) (had asked acts session s t l k q chain does)
+      (λ may_lie w later run old h. by may_lie w later run old.now old.saved h.0 h.1)
+    where
+      by : (may_lie : Bool) (w later : HostBeside) → FoldsTo {P = HostBeside} {A = Exchange} (HostHears may_lie) w (flat_map exchanges_of acts) later → (array : ℕ → List ℕ) (saved : Option (ℕ → List ℕ))
+          → Holds may_lie (process s l k) w array → IfSome saved (λ before. KeepsArray reads_back may_lie (at (process s l k)) w before array)
+          → (next : Held (ℕ → List ℕ))
+          × ((next.now ≡ array_with v.device asked array) × KeepsPart (λ one part. (part ≡ one) ⊎ (part ≡ array_with v.device asked one)) (record { now = array; saved = saved }) next) × Knows may_lie q later next
+      by may_lie w later run array None h k' =
+          let held = acts_hold may_lie acts (process t l k) q w later (array_with v.device asked array) does run (asked_hold may_lie asked session s t l k w array chain h) in
+          (record { now = array_with v.device asked array; saved = None }, (refl, record { kept = inl refl }), (held, tt))
+      by may_lie w later run array (Some before) h k' =
+          let held = acts_hold may_lie acts (process t l k) q w later (array_with v.device asked array) does run (asked_hold may_lie asked session s t l k w array chain h) in
+          let same : before ≡ array = k'.no_work idle in
+          let safe : IsSafe may_lie v reads_back (process t l k) w.host array (array_with v.device asked array) =
+          submitted_is_safe B reads_back may_lie v asked (process s l k) (process t l k) w.host array k'.device
+          (subst (λ (b : ℕ → List ℕ). IsSafe may_lie v reads_back (process s l k) w.host b array) same k'.safe) (submitted_to_processes B K v words session asked s t l k chain) in
+          let now : ℕ → List ℕ = array_with v.device asked array in (
+            record { now = now; saved = Some (earlier acts array now) },
+            (refl, record { kept = inr (earlier acts array now, earlier_either acts array now, refl) }),
+            (
+              held,
+              acts_keep may_lie acts (process t l k) q w later array now does run k'.same k'.device safe (λ none. elim (kept_work none) [
+                | inl rests ↦ subst (λ (b : ℕ → List ℕ). earlier acts b now ≡ now) (none_asked rests array) (earlier_same acts now)
+                | inr have ↦ have array now
+              ]),
+            ),
+          )
 
   -- where acts stop, the process does
   pub acts_stop : (acts : List Act) (p q : Process B K) → DoesAll v batches reads_back p acts q → (status_in q.core ≡ Stalling) ⊎ ((before : List Act) × (acts ≡ before ++ Keeps false ∷ []))

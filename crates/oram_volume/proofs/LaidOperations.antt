@@ -21,7 +21,7 @@ use Rattle.oram_semantics.specs.declared.events.Command.{Command}
 use Rattle.oram_semantics.specs.declared.events.Reply.{Reply}
 use Rattle.oram_semantics.specs.declared.events.ReplyBody.{ReplyBody}
 use Rattle.oram_volume.specs.Blocks.{IsLaidOut}
-use Rattle.oram_volume.specs.CarriedOut.{after_commands, bodies_from}
+use Rattle.oram_volume.specs.CarriedOut.{IsAfterFirst, after_commands, bodies_from}
 use Rattle.oram_volume.specs.DiskCalls.{data_of}
 use Rattle.oram_volume.specs.RangeCommands.{FitsDevice, all_commands, commands_of, discard_commands, read_commands, write_commands}
 use Rattle.oram_volume.proofs.RangeCommands.{length_commands}
@@ -251,15 +251,18 @@ module _ (b blocks : ℕ) (some : 0 < b) (few : blocks ≤ 2 ^ 24) (bound : b * 
       All-cons (λ (op : Operation). place_of op / b + len_of op / b < 2 ^ 32) op ops (omega (arith, k.at, k.many, k.within, few))
       (all_numbers ops (All-tail (IsWhole b) op ops whole) (All-tail (IsWithin (b * blocks)) op ops within))
 
--- the first ones of some commands behind others
-pub front_split : (all done commands rest : List Command) (n : ℕ) → all ≡ done ++ (commands ++ rest) → all ≡ (done ++ take n commands) ++ (drop n commands ++ rest)
-front_split all done commands rest n split =
-    split ∙ ap (λ (l : List Command). done ++ (l ++ rest)) (sym (take-append-drop n commands)) ∙ ap (λ (l : List Command). done ++ l) (append_assoc (take n commands) (drop n commands) rest)
-    ∙ sym (append_assoc done (take n commands) (drop n commands ++ rest))
-
 -- on another device that is the same
 pub on_device : (d e : Sizes) → e ≡ d → (commands : List Command) (array : ℕ → List ℕ) → after_commands e commands array ≡ after_commands d commands array
 on_device d e same commands array = ap (λ (x : Sizes). after_commands x commands array) same
 
 pub bodies_on_device : (d e : Sizes) → e ≡ d → (commands : List Command) (array : ℕ → List ℕ) → bodies_from e commands array ≡ bodies_from d commands array
 bodies_on_device d e same commands array = ap (λ (x : Sizes). bodies_from x commands array) same
+
+-- commands were carried out, and then the first of the next ones
+pub behind_first : (d e : Sizes) → e ≡ d → (all done commands rest : List Command) → all ≡ done ++ (commands ++ rest) → (array mid later : ℕ → List ℕ) → mid ≡ after_commands d done array → IsAfterFirst e commands mid later → IsAfterFirst d all array later
+behind_first d e same all done commands rest split array mid later led (front, back, cut, is) = (
+  done ++ front,
+  back ++ rest,
+  split ∙ ap (λ (l : List Command). done ++ (l ++ rest)) cut ∙ ap (λ (l : List Command). done ++ l) (append_assoc front back rest) ∙ sym (append_assoc done front (back ++ rest)),
+  is ∙ on_device d e same front mid ∙ ap (after_commands d front) led ∙ sym (after_append d done front array),
+)

@@ -3,6 +3,7 @@ pub mod RangeCommands
 pub mod LaidRanges
 pub mod LaidOperations
 pub mod HeldArrays
+pub mod KeptWork
 pub mod NextProcess
 pub mod Example
 pub mod Submitted

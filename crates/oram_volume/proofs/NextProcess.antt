@@ -31,9 +31,6 @@ begun_devices_hold B K may_lie v file host before array bytes_before bytes devic
     }
 
 pub kept_bytes_outlast : {B K : Type 0} (batches : B → List (List ℕ) → BatchOutcome → List Exchange → B → Type 0) (reads_back : K → List ℕ → Type 0) → KeptBytesOutlast batches reads_back
-kept_bytes_outlast {B} {K} batches reads_back are may_lie p w bytes h act file exchanges after ends run stores core is words inner keeper =
-    let k = ends_are_safe batches reads_back are may_lie p.scheme p.process act file exchanges w.host after h.array h.array h.keeps.device h.keeps.safe ends run in
-    elim (begun_devices_hold B K may_lie p.scheme file after h.array h.array bytes bytes h.keeps.device k h.laid h.laid stores core is words inner keeper) [
-      | inl held ↦ held
-      | inr held ↦ held
-    ]
+kept_bytes_outlast {B} {K} batches reads_back are may_lie p w saved bytes h act file exchanges after ends run stores core is words inner keeper =
+    let k = ends_are_safe batches reads_back are may_lie p.scheme p.process act file exchanges w.host after h.before h.array h.keeps.device h.keeps.safe ends run in
+    begun_devices_hold B K may_lie p.scheme file after h.before h.array saved bytes h.keeps.device k h.laid_before h.laid stores core is words inner keeper

@@ -29,8 +29,8 @@ use Rattle.oram_volume.specs.CarriedOut.{after_commands}
 use Rattle.oram_volume.specs.RangeCommands.{FitsDevice}
 
 -- in a failed core nothing waits
-pub failed_settles : (s : State) → HasFailed s → HasNoWork s
-failed_settles s failed = ap (λ (f : Option Reason). has_no_work_in (status_by f s.queue s.lost)) failed.1
+pub failed_has_no_work : (s : State) → HasFailed s → HasNoWork s
+failed_has_no_work s failed = ap (λ (f : Option Reason). has_no_work_in (status_by f s.queue s.lost)) failed.1
 
 pub not_failed : (s : State) → is_some s.failure ≡ false → HasFailed s → ⊥
 not_failed s is failed = let yes : true ≡ false = sym (ap (λ (f : Option Reason). is_some f) failed.1) ∙ is in cc
@@ -67,7 +67,7 @@ refusal_fits d false waiting taken c words fits = rw (fit_address d c fits) (rw 
 -- the command is accepted, and stands at the end of the queue; or it is refused, and nothing changes
 abbrev Joins : State → SubmittedCommand → State → Type 0
 Joins s a t = (is_accepted a.shown.note ≡ true) × (y : Submission) × (y.command ≡ a.command) × (t.queue ≡ s.queue ++ y ∷ [])
-    × ((d : Sizes) (array : ℕ → List ℕ) → array_if a.shown.note d a.command array ≡ array_after d a.command array)
+    × ((d : Sizes) (array : ℕ → List ℕ) → array_if a.shown.note d a.command array ≡ array_after d a.command array) × (t.failure ≡ s.failure)
 
 abbrev Stays : State → SubmittedCommand → State → Type 0
 Stays s a t = (is_accepted a.shown.note ≡ false) × (t ≡ s) × ((d : Sizes) (array : ℕ → List ℕ) → array_if a.shown.note d a.command array ≡ array)
@@ -85,12 +85,52 @@ stepped v s t a step =
         ⊎ ((e : Refusal) × (refusal_of v.device (is_over (status_in s)) (length s.queue) s.next a.command a.words ≡ Some e) × Stays s a t)
     by y None is none same =
         let note : a.shown.note ≡ Accepted y.ticket = ap (λ (d : Did). d.note) same in
-        inl (none, (ap is_accepted note, y, is, ap (λ (d : Did). d.state.queue) same, λ d array. ap (λ (n : Note). array_if n d a.command array) note))
+        inl (none, (ap is_accepted note, y, is, ap (λ (d : Did). d.state.queue) same, λ d array. ap (λ (n : Note). array_if n d a.command array) note, ap (λ (d : Did). d.state.failure) same))
     by y (Some e) is some same =
         let note : a.shown.note ≡ Refused e = ap (λ (d : Did). d.note) same in
         inr (e, some, (ap is_accepted note, ap (λ (d : Did). d.state) same, λ d array. ap (λ (n : Note). array_if n d a.command array) note))
 
+-- a core that hasn't failed, and at which a command waits, has work
+works : (s : State) (x : Submission) (rest : List Submission) → s.failure ≡ None → s.queue ≡ x ∷ rest → HasNoWork s → ⊥
+works s x rest alive queue no_work = at s.failure s.queue s.lost alive queue no_work
+  where
+    at : (f : Option Reason) (q : List Submission) (l : Bool) → f ≡ None → q ≡ x ∷ rest → has_no_work_in (status_by f q l) ≡ true → ⊥
+    at (Some e) q l a b h = absurd cc
+    at None [] l a b h = absurd cc
+    at None (y ∷ q) true a b h = let no : false ≡ true = h in cc
+    at None (y ∷ q) false a b h = let no : false ≡ true = h in cc
+
+one_more : (xs : List Submission) (y : Submission) → (x : Submission) × (rest : List Submission) × (xs ++ y ∷ [] ≡ x ∷ rest)
+one_more [] y = (y, [], refl)
+one_more (x ∷ xs) y = (x, xs ++ y ∷ [], refl)
+
 module _ (v : Scheme) (words : ℕ → ℕ → List ℕ) (session : ℕ) where
+  -- once a command waits, the core has work, whatever is submitted
+  works_on : (asked : List SubmittedCommand) (s t : State) → AreSubmitted v words session s asked t → s.failure ≡ None → (x : Submission) (rest : List Submission) → s.queue ≡ x ∷ rest → HasNoWork t → ⊥
+  works_on [] s t same alive x rest queue no_work = works s x rest alive queue (subst HasNoWork (sym same) no_work)
+  works_on (a ∷ asked) s t all alive x rest queue no_work =
+      let mid : State = all.0 in
+      elim (stepped v s mid a all.1.2) [
+        | inl joins ↦
+            let more : mid.queue ≡ x ∷ (rest ++ joins.1.1 ∷ []) = joins.1.3 ∙ ap (λ (q : List Submission). q ++ joins.1.1 ∷ []) queue in
+            works_on asked mid t all.2 (joins.1.5 ∙ alive) x (rest ++ joins.1.1 ∷ []) more no_work
+        | inr stays ↦ works_on asked mid t all.2 (ap (λ (c : State). c.failure) stays.2.1 ∙ alive) x rest (ap (λ (c : State). c.queue) stays.2.1 ∙ queue) no_work
+      ]
+
+  -- where the core has no work afterwards, none was accepted
+  pub none_submitted : (asked : List SubmittedCommand) (s t : State) → AreSubmitted v words session s asked t → s.failure ≡ None → HasNoWork t → (array : ℕ → List ℕ) → array_with v.device asked array ≡ array
+  none_submitted [] s t same alive no_work array = refl
+  none_submitted (a ∷ asked) s t all alive no_work array =
+      let mid : State = all.0 in
+      elim (stepped v s mid a all.1.2) [
+        | inl joins ↦
+            let some = one_more s.queue joins.1.1 in
+            absurd (works_on asked mid t all.2 (joins.1.5 ∙ alive) some.0 some.1 (joins.1.3 ∙ some.2) no_work)
+        | inr stays ↦
+            ap (array_with v.device asked) (stays.2.2 v.device array)
+            ∙ none_submitted asked mid t all.2 (ap (λ (c : State). c.failure) stays.2.1 ∙ alive) no_work array
+      ]
+
   abbrev pub AllFit : List SubmittedCommand → Type 0
   AllFit asked = All (FitsDevice v.device) (map (λ (a : SubmittedCommand). a.command) asked)
 

@@ -29,6 +29,10 @@ abbrev pub after_commands : Sizes → List Command → (ℕ → List ℕ) → �
 after_commands d [] array = array
 after_commands d (c ∷ commands) array = after_commands d commands (array_after d c array)
 
+-- the array after the first ones of these commands: some, all or none
+abbrev pub IsAfterFirst : Sizes → List Command → (ℕ → List ℕ) → (ℕ → List ℕ) → Type 0
+IsAfterFirst d commands array later = (done rest : List Command) × (commands ≡ done ++ rest) × (later ≡ after_commands d done array)
+
 -- of a process with this relation of batches, and this read-back of its keeper
 module _ {B K : Type 0} (batches : B → List (List ℕ) → BatchOutcome → List Exchange → B → Type 0) (reads_back : K → List ℕ → Type 0) where
   -- The process does a step. A command is submitted with the tape's words of the next ticket.

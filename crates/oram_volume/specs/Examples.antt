@@ -20,7 +20,7 @@ new_running words = record { scheme = one_block; words = words; process = new_pr
 -- It has kept the zeros of its block. Where it ends, a file of its core is read back, which is kept for these zeros.
 abbrev pub NextProcessExample : Type 0
 NextProcessExample = AreBatches DirectBatches × IsDevice one_block.device × IsLaidOut one_block.device zero_array (replicate 16 0)
-    × ((may_lie : Bool) (words : ℕ → ℕ → List ℕ) → KeepsBytes is_new_file may_lie (new_running words) (host_of one_block new_host) (replicate 16 0))
+    × ((may_lie : Bool) (words : ℕ → ℕ → List ℕ) → KeepsBytes is_new_file may_lie (new_running words) (host_of one_block new_host) (replicate 16 0) (replicate 16 0))
     × ((file : List ℕ) → IsFile one_block file [] new_core → EndsIn one_block DirectBatches is_new_file new_process (Keeps true) file [])
     × ((may_lie : Bool) (file : List ℕ) → IsFile one_block file [] new_core → IsKept may_lie one_block [] file new_host zero_array zero_array)
     × ((may_lie : Bool) → PlainRun may_lie one_block new_host [] new_host)

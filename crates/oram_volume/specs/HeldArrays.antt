@@ -6,6 +6,7 @@ use Rattle.oram_geometry.specs.Sizes.{IsDevice}
 use Rattle.oram_host.specs.Host.{Host}
 use Rattle.oram_semantics.specs.Scheme.{Scheme, record_len}
 use Rattle.oram_semantics.specs.State.{State}
+use Rattle.oram_session.specs.CoreWork.{HasNoWork}
 use Rattle.oram_link_laws.specs.Runs.{Exchange, IsHeldBy}
 use Rattle.oram_rounds.specs.CatchUp.{IsPlainCall}
 use Rattle.oram_rounds.specs.Law.{AreAhead}
@@ -50,16 +51,20 @@ pub record HoldsBytes {B K : Type 0} (may_lie : Bool) (p : Running B K) (w : Hos
   pub holds : HoldsArray may_lie p w array
   pub laid : IsLaidOut p.scheme.device array bytes
 
--- Beside this host the process holds the array, and so will the next process, whatever is read back of the keeper.
-pub record KeepsArray {B K : Type 0} (reads_back : K → List ℕ → Type 0) (may_lie : Bool) (p : Running B K) (w : HostBeside) (array : ℕ → List ℕ) : Type 0 where
+-- Beside this host the process holds the array. The next process will hold it too, or the one before, whatever is read back of the
+-- keeper. While no command waits, the two are one array.
+pub record KeepsArray {B K : Type 0} (reads_back : K → List ℕ → Type 0) (may_lie : Bool) (p : Running B K) (w : HostBeside) (before array : ℕ → List ℕ) : Type 0 where
   pub same : w.scheme ≡ p.scheme
   pub device : IsDevice p.scheme.device
-  pub safe : IsSafe may_lie p.scheme reads_back p.process w.host array array
+  pub safe : IsSafe may_lie p.scheme reads_back p.process w.host before array
+  pub no_work : HasNoWork p.process.core → before ≡ array
 
--- the array that has these bytes
-pub record KeepsBytes {B K : Type 0} (reads_back : K → List ℕ → Type 0) (may_lie : Bool) (p : Running B K) (w : HostBeside) (bytes : List ℕ) : Type 0 where
+-- the arrays that have these bytes
+pub record KeepsBytes {B K : Type 0} (reads_back : K → List ℕ → Type 0) (may_lie : Bool) (p : Running B K) (w : HostBeside) (saved bytes : List ℕ) : Type 0 where
+  pub before : ℕ → List ℕ
   pub array : ℕ → List ℕ
-  pub keeps : KeepsArray reads_back may_lie p w array
+  pub keeps : KeepsArray reads_back may_lie p w before array
+  pub laid_before : IsLaidOut p.scheme.device before saved
   pub laid : IsLaidOut p.scheme.device array bytes
 
 -- A process that begins with a device as a host keeps it between two requests holds the bytes of its array beside that host,

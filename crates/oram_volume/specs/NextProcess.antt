@@ -31,10 +31,12 @@ BegunDevicesHold B K = (may_lie : Bool) (v : Scheme) (file : List ℕ) (host : H
     ⊎ HoldsBytes may_lie (next_process v words inner stores core keeper) (host_of v host) bytes
 
 -- What a process keeps outlasts it. Wherever it ends, and whatever is read back then, the process that begins with that holds
--- the bytes that were kept.
+-- the bytes that were kept: those of the one array or the other.
 abbrev pub KeptBytesOutlast : {B K : Type 0} → (B → List (List ℕ) → BatchOutcome → List Exchange → B → Type 0) → (K → List ℕ → Type 0) → Type 0
 KeptBytesOutlast {B} {K} batches reads_back = AreBatches batches
-    → (may_lie : Bool) (p : Running B K) (w : HostBeside) (bytes : List ℕ) → KeepsBytes reads_back may_lie p w bytes
+    → (may_lie : Bool) (p : Running B K) (w : HostBeside) (saved bytes : List ℕ) → KeepsBytes reads_back may_lie p w saved bytes
     → (act : Act) (file : List ℕ) (exchanges : List Exchange) (after : Host) → EndsIn p.scheme batches reads_back p.process act file exchanges → PlainRun may_lie p.scheme w.host exchanges after
     → (stores : List (List ℕ)) (core : State) → IsFile p.scheme file stores core
-    → (words : ℕ → ℕ → List ℕ) (inner : B) (keeper : K) → HoldsBytes may_lie (next_process p.scheme words inner stores core keeper) (host_of p.scheme after) bytes
+    → (words : ℕ → ℕ → List ℕ) (inner : B) (keeper : K)
+    → HoldsBytes may_lie (next_process p.scheme words inner stores core keeper) (host_of p.scheme after) saved
+    ⊎ HoldsBytes may_lie (next_process p.scheme words inner stores core keeper) (host_of p.scheme after) bytes

@@ -1,14 +1,14 @@
 //! A volume as a disk of bytes.
 
-ghost use Rattle.std.specs.Prelude.{◌≡◌, ◌⊎◌, ◌+◌, ◌*◌, ◌<◌, ◌≤◌, ◌^◌, ℕ, List, [], ◌++◌, All, length, map, IfErr, IfOk, IsErrOf, MatchResult, OnOk};
+ghost use Rattle.std.specs.Prelude.{◌≡◌, ◌≢◌, ◌*◌, ◌<◌, ◌≤◌, ◌^◌, [], ◌++◌, All, map, IfErr, IfOk, IsErrOf, MatchResult};
 ghost use Rattle.std.specs.List.{flat_map};
 ghost use Rattle.oram_core.specs.Core.{IsSameDevice};
 ghost use Rattle.oram_session.specs.Honesty.{HasFailed};
-ghost use Rattle.oram_nbd.specs.Beside.{GoesOn, KeepsOn};
-ghost use Rattle.oram_nbd.specs.Calls.{FailsByLies};
+ghost use Rattle.oram_nbd.specs.Beside.{GoesOn, IsHeld};
+ghost use Rattle.oram_nbd.specs.Calls.{FailsByLies, Keeps};
 ghost use Rattle.oram_nbd.specs.Operations.{IsWhole, IsWithin, read_len};
 ghost use Rattle.oram_semantics.specs.declared.events.Command.{Command};
-ghost use Rattle.oram_volume.specs.CarriedOut.{Had, Stops, after_commands, bodies_from};
+ghost use Rattle.oram_volume.specs.CarriedOut.{Had, IsAfterFirst, Stops, after_commands, bodies_from};
 ghost use Rattle.oram_volume.specs.DiskCalls.{data_of};
 ghost use Rattle.oram_volume.specs.HeldArrays.{HostHears, HoldsArray, KeepsArray, running};
 ghost use Rattle.oram_volume.specs.RangeCommands.{all_commands};
@@ -76,15 +76,11 @@ impl<S: Sealer, B: BatchLink, K: Keeper, T: Tape> Volume<S, B, K, T> {
         requires within { All (IsWithin (self.old.core.device.block_bytes * self.old.core.device.blocks)) operations.now }
         ensures kept { IsSameDevice self.old.core self.new.core }
         ensures goes { let d = self.old.core.device in let all = all_commands d.block_bytes operations.now in
-            GoesOn (Had B.batches K.reads_back) HostHears HoldsArray (running S.cipher T.words self.old)
-            (λ may_lie array later. MatchResult result
-            (λ found. (found.items ≡ flat_map data_of (bodies_from d all array)) × (later ≡ after_commands d all array))
-            (λ _. (done rest : List Command) × (all ≡ done ++ rest) × (later ≡ after_commands d done array)) × FailsByLies result may_lie)
+            GoesOn (Had B.batches K.reads_back) HostHears (IsHeld HoldsArray (KeepsArray K.reads_back)) (running S.cipher T.words self.old)
+            (λ may_lie old new. MatchResult result
+            (λ found. (found.items ≡ flat_map data_of (bodies_from d all old.now)) × (new.now ≡ after_commands d all old.now))
+            (λ _. IsAfterFirst d all old.now new.now) × FailsByLies result may_lie × Keeps result (all ≢ []) (IsAfterFirst d all) old new)
             (running S.cipher T.words self.new) }
-        // What was done is kept, or nothing was asked for.
-        ensures keeps { let d = self.old.core.device in let all = all_commands d.block_bytes operations.now in
-            OnOk result (((all ≡ []) × (self.new ≡ self.old)) ⊎ KeepsOn (Had B.batches K.reads_back) HostHears HoldsArray (KeepsArray K.reads_back)
-            (running S.cipher T.words self.old) (Unit {0}) (λ may_lie array later. later ≡ after_commands d all array) (running S.cipher T.words self.new)) }
         ensures failing { IsErrOf result DiskFault.Failed → HasFailed self.new.core.state }
         ensures still { HasFailed self.old.core.state → HasFailed self.new.core.state }
         ensures stopped { IsErrOf result DiskFault.Stopped → Stops B.batches K.reads_back (running S.cipher T.words self.old) (running S.cipher T.words self.new) }
@@ -140,7 +136,7 @@ impl<S: Sealer, B: BatchLink, K: Keeper, T: Tape> BlockDevice for Volume<S, B, K
 
     ghost holds = { λ may_lie d w bytes. HoldsBytes may_lie (running S.cipher T.words d) w bytes };
 
-    ghost kept = { λ may_lie d w bytes. KeepsBytes K.reads_back may_lie (running S.cipher T.words d) w bytes };
+    ghost kept = { λ may_lie d w saved bytes. KeepsBytes K.reads_back may_lie (running S.cipher T.words d) w saved bytes };
 
     ghost failed = { λ d. HasFailed d.core.state };
 

@@ -19,9 +19,9 @@ pub fn begun_devices_hold<B, K>()
     ensures { BegunDevicesHold B K }
 {}
 
-/// A law about definitions: what a [`Volume`](crate::Volume) keeps outlasts its process. It has kept the bytes that it holds
-/// once a call returns `Ok` (`keeps` in [`BlockDevice`](oram_nbd::BlockDevice)). From then on, wherever the process ends and
-/// whatever is read back, the next process holds these bytes.
+/// A law about definitions: what a [`Volume`](crate::Volume) keeps outlasts its process. Once a call returns `Ok` it has kept
+/// the bytes that it holds, and after an `Err` those or others (`goes` in [`BlockDevice`](oram_nbd::BlockDevice)). From then
+/// on, wherever the process ends and whatever is read back, the next process holds the kept bytes: the ones or the others.
 pub fn kept_bytes_outlast<B: BatchLink, K: Keeper>()
     ensures { KeptBytesOutlast B.batches K.reads_back }
 {}

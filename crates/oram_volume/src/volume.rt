@@ -4,9 +4,9 @@ ghost use Rattle.std.specs.Prelude.{◌≡◌, ◌≢◌, ◌⊎◌, ◌<◌, �
 ghost use Rattle.oram_core.specs.Core.{IsSameDevice};
 ghost use Rattle.oram_session.specs.Honesty.{HasFailed};
 ghost use Rattle.oram_session.specs.CoreWork.{HasNoWork};
-ghost use Rattle.oram_nbd.specs.Beside.{GoesOn, KeepsOn};
-ghost use Rattle.oram_nbd.specs.Calls.{FailsByLies};
-ghost use Rattle.oram_volume.specs.CarriedOut.{Had, Stops, after_commands, bodies_from};
+ghost use Rattle.oram_nbd.specs.Beside.{GoesOn, IsHeld};
+ghost use Rattle.oram_nbd.specs.Calls.{FailsByLies, Keeps, KeepsPart};
+ghost use Rattle.oram_volume.specs.CarriedOut.{Had, IsAfterFirst, Stops, after_commands, bodies_from};
 ghost use Rattle.oram_volume.specs.RangeCommands.{FitsDevice};
 ghost use Rattle.oram_volume.specs.HeldArrays.{HostHears, HoldsArray, KeepsArray, running};
 
@@ -78,8 +78,9 @@ impl<S: Sealer, B: BatchLink, K: Keeper, T: Tape> Volume<S, B, K, T> {
         ensures tape { T.words self.new.tape ≡ T.words self.old.tape }
         ensures no_work { OnOk result (HasNoWork self.new.core.state) }
         ensures calm { HasNoWork self.old.core.state → IsOk result × (self.new.core ≡ self.old.core) }
-        ensures goes { GoesOn (Had B.batches K.reads_back) HostHears HoldsArray (running S.cipher T.words self.old)
-            (λ _ array later. later ≡ array) (running S.cipher T.words self.new) }
+        // It holds the same array. What was kept before still is, or this array is kept now.
+        ensures goes { GoesOn (Had B.batches K.reads_back) HostHears (IsHeld HoldsArray (KeepsArray K.reads_back)) (running S.cipher T.words self.old)
+            (λ _ old new. (new.now ≡ old.now) × KeepsPart (λ array part. part ≡ array) old new) (running S.cipher T.words self.new) }
         ensures fault { IfErr result (λ e. e ≢ DiskFault.Failed) }
         // It stops where a message stalls or the process can't be kept, and nowhere else.
         ensures stopped { IsErrOf result DiskFault.Stopped → Stops B.batches K.reads_back (running S.cipher T.words self.old) (running S.cipher T.words self.new) }
@@ -91,7 +92,8 @@ impl<S: Sealer, B: BatchLink, K: Keeper, T: Tape> Volume<S, B, K, T> {
     }
 
     /// Carries out commands in one round, behind what waits, and returns their replies, in their order. After an `Err` the
-    /// first ones, some or none of them, are carried out or will be. An `Ok` of commands says that what they have done is kept.
+    /// first ones, some or none of them, are carried out or will be. An `Ok` of commands says that what they have done is kept. After
+    /// an `Err` the next process would hold what it would have held before, or what the first ones, some or none of them, leave.
     pub(crate) fn carry_out_all(
         &mut self,
         alloc: Global,
@@ -100,14 +102,12 @@ impl<S: Sealer, B: BatchLink, K: Keeper, T: Tape> Volume<S, B, K, T> {
         requires { All (FitsDevice self.old.core.device) commands.items }
         ensures kept { IsSameDevice self.old.core self.new.core }
         ensures tape { T.words self.new.tape ≡ T.words self.old.tape }
-        ensures goes { GoesOn (Had B.batches K.reads_back) HostHears HoldsArray (running S.cipher T.words self.old)
-            (λ may_lie array later. let d = self.old.core.device in MatchResult result
-            (λ replies. (map (λ reply. reply.body) replies.items ≡ bodies_from d commands.items array) × (later ≡ after_commands d commands.items array))
-            (λ _. (n : ℕ) × (later ≡ after_commands d (take n commands.items) array)) × FailsByLies result may_lie)
+        ensures goes { GoesOn (Had B.batches K.reads_back) HostHears (IsHeld HoldsArray (KeepsArray K.reads_back)) (running S.cipher T.words self.old)
+            (λ may_lie old new. let d = self.old.core.device in MatchResult result
+            (λ replies. (map (λ reply. reply.body) replies.items ≡ bodies_from d commands.items old.now) × (new.now ≡ after_commands d commands.items old.now))
+            (λ _. IsAfterFirst d commands.items old.now new.now) × FailsByLies result may_lie
+            × Keeps result (commands.items ≢ []) (IsAfterFirst d commands.items) old new)
             (running S.cipher T.words self.new) }
-        ensures keeps { OnOk result (0 < length commands.items → KeepsOn (Had B.batches K.reads_back) HostHears HoldsArray (KeepsArray K.reads_back)
-            (running S.cipher T.words self.old) (Unit {0}) (λ may_lie array later. later ≡ after_commands self.old.core.device commands.items array)
-            (running S.cipher T.words self.new)) }
         ensures refused { OnOk result (HasFailed self.old.core.state → ⊥) }
         ensures failing { IsErrOf result DiskFault.Failed → HasFailed self.new.core.state }
         ensures still { HasFailed self.old.core.state → HasFailed self.new.core.state }

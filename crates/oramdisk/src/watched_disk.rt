@@ -49,7 +49,7 @@ impl<D: BlockDevice, F: FailureKeeper<D>> BlockDevice for WatchedDisk<D, F> {
 
     ghost holds = { λ may_lie d world bytes. D.holds may_lie d.disk world bytes };
 
-    ghost kept = { λ may_lie d world bytes. D.kept may_lie d.disk world bytes };
+    ghost kept = { λ may_lie d world saved bytes. D.kept may_lie d.disk world saved bytes };
 
     ghost failed = { λ d. D.failed d.disk };
 

@@ -50,7 +50,7 @@ impl BlockDevice for StoppingDisk {
 
     ghost holds = { λ may_lie d world bytes. ⟦<MemDisk as BlockDevice>⟧.holds may_lie d.disk world bytes };
 
-    ghost kept = { λ may_lie d world bytes. ⟦<MemDisk as BlockDevice>⟧.kept may_lie d.disk world bytes };
+    ghost kept = { λ may_lie d world saved bytes. ⟦<MemDisk as BlockDevice>⟧.kept may_lie d.disk world saved bytes };
 
     ghost failed = { λ _. ⊥ };
 

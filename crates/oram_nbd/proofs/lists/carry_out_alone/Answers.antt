@@ -1,5 +1,6 @@
 use Rattle.std.proofs.Common.{◌<◌, ℕ, ap, length, sym, ◌∙◌, subst, arith}
-use Rattle.oram_nbd.proofs.Beside.{weaker, weaker_kept}
+use Rattle.oram_nbd.proofs.Beside.{weaker}
+use Rattle.oram_nbd.proofs.Keeping.{all_weaker}
 use Rattle.oram_nbd.specs.Operations.{len_of, read_len}
 use Rattle.oram_nbd.proofs.ListSteps.{read_count, read_done, read_given}
 use Rattle.oram_nbd.proofs.lists.carry_out_alone.Goals as goal
@@ -14,16 +15,13 @@ pub returns-in_ok-bytes-in-Read-clause-goes : goal.returns-in_ok-bytes-in-Read-c
 returns-in_ok-bytes-in-Read-clause-goes g c =
     let same = c.from-block.ensures ∙ c.block_bytes.ensures.value in
     let some : 0 < c.from-block.result = omega (arith, c.from-block.ensures, c.block_bytes.ensures.some) in
-    weaker c.in_ok-bytes-in-Read.ensures.goes (λ may_lie world bytes later h step. (
-      (c.from_vec.ensures ∙ step.1 ∙ read_given _ c.from-block.result _ _ c.args.operation.now c.in-Read.is c.requires.reads same some bytes, step.0 ∙ read_done _ c.from-block.result _ _ c.args.operation.now c.in-Read.is c.requires.reads same some bytes),
-      λ e. cc,
-    ))
-
-pub returns-in_ok-bytes-in-Read-clause-keeps : goal.returns-in_ok-bytes-in-Read-clause-keeps
-returns-in_ok-bytes-in-Read-clause-keeps g c =
-    let same = c.from-block.ensures ∙ c.block_bytes.ensures.value in
-    let some : 0 < c.from-block.result = omega (arith, c.from-block.ensures, c.block_bytes.ensures.some) in
     let count = read_count _ c.from-block.result _ _ c.args.operation.now c.in-Read.is c.requires.reads same some in
     let all = ap len_of c.in-Read.is ∙ sym (ap read_len c.in-Read.is) in
-    weaker_kept c.in_ok-bytes-in-Read.ensures.keeps (λ more. subst (λ (n : ℕ). 0 < n) (all ∙ sym count) more)
-    (λ may_lie world bytes later h step. step ∙ read_done _ c.from-block.result _ _ c.args.operation.now c.in-Read.is c.requires.reads same some bytes)
+    weaker c.in_ok-bytes-in-Read.ensures.goes (λ may_lie world old new h step. (
+      (
+        c.from_vec.ensures ∙ step.1 ∙ read_given _ c.from-block.result _ _ c.args.operation.now c.in-Read.is c.requires.reads same some old.now,
+        step.0.0 ∙ read_done _ c.from-block.result _ _ c.args.operation.now c.in-Read.is c.requires.reads same some old.now,
+      ),
+      λ e. cc,
+      all_weaker step.0.1 (λ more. subst (λ (n : ℕ). 0 < n) (all ∙ sym count) more),
+    ))

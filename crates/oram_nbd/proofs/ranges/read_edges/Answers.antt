@@ -1,8 +1,10 @@
 use Rattle.std.proofs.Common.{◌≡◌, ◌+◌, ◌-◌, ◌*◌, ◌≤◌, ℕ, [], take, drop, refl, sym, ap, ◌∙◌, subst, arith, rules}
+use Rattle.std.proofs.lemmas.Result.{err_from_is_err_and}
 use Rattle.oram_nbd.specs.Bytes.{bytes_at}
 use Rattle.oram_nbd.specs.declared.operations.Operation.TheVariants.{Read}
 use Rattle.oram_nbd.proofs.Beside.{weaker, at_rest as calls_none}
 use Rattle.oram_nbd.proofs.Edges.{after_at, after_none, back_whole, before_at, block_least, edge_either, front_whole, rest_of}
+use Rattle.oram_nbd.proofs.Keeping.{all_at_rest, part_after_all}
 use Rattle.oram_nbd.proofs.ranges.read_edges.Goals as goal
 
 pub returns-then-ahead-behind-eq0-clause-goes : goal.returns-then-ahead-behind-eq0-clause-goes
@@ -15,14 +17,29 @@ returns-then-ahead-behind-eq0-clause-goes g c =
     let whole : c.from-block.result * c.args.cover.count ≡ c.args.cover.start + c.args.len =
     omega (arith, c.if-ahead-behind-eq0.true, c.edge_len-behind.ensures.least, subst (λ (n : ℕ). c.args.cover.start + c.args.len ≤ n * c.args.cover.count) (sym same) c.requires.covers) in
     let long : b * c.args.cover.count ≡ c.args.cover.start + c.args.len = ap (λ (n : ℕ). n * c.args.cover.count) (sym same) ∙ whole in
-    calls_none (λ may_lie world bytes h. (
-      refl,
+    calls_none (λ may_lie world old h. (
+      (refl, all_at_rest (λ none. none)),
       (
-        none ∙ sym (ap (λ (n : ℕ). take n (bytes_at bytes (b * c.args.cover.first) (b * c.args.cover.count))) start),
-        none' ∙ after_none bytes (b * c.args.cover.first) (c.args.cover.start + c.args.len) (b * c.args.cover.count) long,
+        none ∙ sym (ap (λ (n : ℕ). take n (bytes_at old.now (b * c.args.cover.first) (b * c.args.cover.count))) start),
+        none' ∙ after_none old.now (b * c.args.cover.first) (c.args.cover.start + c.args.len) (b * c.args.cover.count) long,
       ),
       λ e. cc,
     ))
+
+pub returns-in_err-given-clause-goes : goal.returns-in_err-given-clause-goes
+returns-in_err-given-clause-goes g c =
+    let p = err_from_is_err_and c.from_residual.result c.from_residual.ensures.1 in
+    rw p.1 (weaker c.in_err-given.ensures.goes (λ may_lie world old new h step. (step.0, tt, λ e. step.2 cc)))
+
+pub returns-in_err-before-clause-goes : goal.returns-in_err-before-clause-goes
+returns-in_err-before-clause-goes g c =
+    let p = err_from_is_err_and c.from_residual-in_err-before.result c.from_residual-in_err-before.ensures.1 in
+    rw p.1 (weaker c.in_ok-given.ensures.goes (λ may_lie world old new h step. ((step.0.0, part_after_all step.0.1 step.0.0), tt, λ e. cc)))
+
+pub returns-in_err-after-clause-goes : goal.returns-in_err-after-clause-goes
+returns-in_err-after-clause-goes g c =
+    let p = err_from_is_err_and c.from_residual-in_err-after.result c.from_residual-in_err-after.ensures.1 in
+    rw p.1 (weaker c.in_ok-given.ensures.goes (λ may_lie world old new h step. ((step.0.0, part_after_all step.0.1 step.0.0), tt, λ e. cc)))
 
 pub read_two-requires-clause-whole : goal.read_two-requires-clause-whole
 read_two-requires-clause-whole g c =
@@ -56,22 +73,22 @@ returns-clause-goes g c =
     let enough : rest ≤ c.edge_len-behind.result = subst (λ (n : ℕ). n ≤ c.edge_len-behind.result) in_all c.edge_len-behind.ensures.least in
     let whole : e + rest ≡ k * count = omega (arith, covers) in
     let ends : ((k * first + k * count) - c.edge_len-behind.result) + c.edge_len-behind.result ≡ k * first + (e + rest) = omega (arith, short, whole) in
-    weaker c.in_ok-given.ensures.goes (λ may_lie world bytes later h step.
-    let front : c.as_slice.result.now ≡ bytes_at bytes (k * first) c.edge_len-ahead.result = search rules in
-    let back : c.as_slice-back.result.now ≡ bytes_at bytes ((k * first + k * count) - c.edge_len-behind.result) c.edge_len-behind.result = search rules in
+    weaker c.in_ok-given.ensures.goes (λ may_lie world old new h step.
+    let front : c.as_slice.result.now ≡ bytes_at old.now (k * first) c.edge_len-ahead.result = search rules in
+    let back : c.as_slice-back.result.now ≡ bytes_at old.now ((k * first + k * count) - c.edge_len-behind.result) c.edge_len-behind.result = search rules in
     let cut : c.in_ok-before.before ≡ take c.args.cover.start c.as_slice.result.now = search rules in
     let cut' : c.in_ok-after.after ≡ drop (c.edge_len-behind.result - ((k * first + k * count) - k * first - e)) c.as_slice-back.result.now = c.in_ok-after.ensures ∙ rest_of _ c.as_slice-back.result.now in
-    let before : c.in_ok-before.before ≡ take c.args.cover.start (bytes_at bytes (k * first) (k * count)) =
+    let before : c.in_ok-before.before ≡ take c.args.cover.start (bytes_at old.now (k * first) (k * count)) =
     cut ∙ ap (take c.args.cover.start) front
-    ∙ before_at bytes (k * first) c.args.cover.start c.edge_len-ahead.result (k * count) c.edge_len-ahead.ensures.least (let less : c.args.cover.start ≤ k * count = omega (arith, covers) in less) in
-    let after : c.in_ok-after.after ≡ drop e (bytes_at bytes (k * first) (k * count)) =
+    ∙ before_at old.now (k * first) c.args.cover.start c.edge_len-ahead.result (k * count) c.edge_len-ahead.ensures.least (let less : c.args.cover.start ≤ k * count = omega (arith, covers) in less) in
+    let after : c.in_ok-after.after ≡ drop e (bytes_at old.now (k * first) (k * count)) =
     cut' ∙ ap (λ (n : ℕ). drop (c.edge_len-behind.result - n) c.as_slice-back.result.now) in_all ∙ ap (drop (c.edge_len-behind.result - rest)) back
-    ∙ after_at bytes (k * first) ((k * first + k * count) - c.edge_len-behind.result) e rest c.edge_len-behind.result enough ends
-    ∙ ap (λ (n : ℕ). drop e (bytes_at bytes (k * first) n)) whole in (
+    ∙ after_at old.now (k * first) ((k * first + k * count) - c.edge_len-behind.result) e rest c.edge_len-behind.result enough ends
+    ∙ ap (λ (n : ℕ). drop e (bytes_at old.now (k * first) n)) whole in (
       step.0,
       (
-        subst (λ (n : ℕ). c.in_ok-before.before ≡ take c.args.cover.start (bytes_at bytes (n * first) (n * count))) same before,
-        subst (λ (n : ℕ). c.in_ok-after.after ≡ drop e (bytes_at bytes (n * first) (n * count))) same after,
+        subst (λ (n : ℕ). c.in_ok-before.before ≡ take c.args.cover.start (bytes_at old.now (n * first) (n * count))) same before,
+        subst (λ (n : ℕ). c.in_ok-after.after ≡ drop e (bytes_at old.now (n * first) (n * count))) same after,
       ),
       λ e. cc,
     ))

@@ -1,53 +1,39 @@
-use Rattle.std.proofs.Common.{◌≡◌, ◌+◌, ◌*◌, ◌<◌, ◌≤◌, ◌++◌, ℕ, [], length, sym, ap, ◌∙◌, arith, rules, subst, length-append}
+use Rattle.std.proofs.Common.{◌≡◌, ◌+◌, ◌*◌, ◌<◌, ◌≤◌, ◌++◌, ℕ, [], length, refl, sym, ap, ◌∙◌, arith, rules, subst, length-append}
 use Rattle.std.proofs.lemmas.List.{nil_from_length}
-use Rattle.std.proofs.lemmas.Result.{err_from_is_err_and, on_ok_weaker}
+use Rattle.std.proofs.lemmas.Result.{err_from_is_err_and}
 use Rattle.oram_nbd.specs.Bytes.{IsBegun, written}
-use Rattle.oram_nbd.proofs.Beside.{joined_calls, kept_at_rest, kept_behind, weaker, at_rest as calls_none}
-use Rattle.oram_nbd.proofs.Edges.{around_writes, around_wrote}
+use Rattle.oram_nbd.proofs.Beside.{joined_calls, weaker, at_rest as calls_none}
+use Rattle.oram_nbd.proofs.Edges.{around_writes}
+use Rattle.oram_nbd.proofs.Keeping.{all_at_rest, part_after_all, part_weaker}
 use Rattle.oram_nbd.proofs.Splices.{begun_none, written_none}
 use Rattle.oram_nbd.proofs.ranges.write_range.Goals as goal
 
 pub returns-in_err-edges-clause-goes : goal.returns-in_err-edges-clause-goes
 returns-in_err-edges-clause-goes g c =
     let p = err_from_is_err_and c.from_residual.result c.from_residual.ensures.1 in
-    rw p.1 (weaker c.in_err-edges.ensures.goes (λ may_lie world bytes later h step.
-    (tt, subst (IsBegun bytes c.args.offset c.args.payload.now) (sym step.0) (begun_none bytes c.args.offset c.args.payload.now), λ e. step.2 cc)))
+    rw p.1 (weaker c.in_err-edges.ensures.goes (λ may_lie world old new h step.
+    (tt, subst (IsBegun old.now c.args.offset c.args.payload.now) (sym step.0.0) (begun_none old.now c.args.offset c.args.payload.now), λ e. step.2 cc, part_weaker step.0.1 (λ x same. subst (IsBegun old.now c.args.offset c.args.payload.now) (sym same) (begun_none old.now c.args.offset c.args.payload.now)))))
 
 pub returns-in_err-whole-clause-goes : goal.returns-in_err-whole-clause-goes
 returns-in_err-whole-clause-goes g c =
     let p = err_from_is_err_and c.from_residual-in_err-whole.result c.from_residual-in_err-whole.ensures.1 in
-    rw p.1 (weaker c.in_ok-edges.ensures.goes (λ may_lie world bytes later h step.
-    (tt, subst (IsBegun bytes c.args.offset c.args.payload.now) (sym step.0) (begun_none bytes c.args.offset c.args.payload.now), λ e. cc)))
+    rw p.1 (weaker c.in_ok-edges.ensures.goes (λ may_lie world old new h step.
+    (tt, subst (IsBegun old.now c.args.offset c.args.payload.now) (sym step.0.0) (begun_none old.now c.args.offset c.args.payload.now), λ e. cc,
+    part_after_all step.0.1 (subst (IsBegun old.now c.args.offset c.args.payload.now) (sym step.0.0) (begun_none old.now c.args.offset c.args.payload.now)))))
 
 pub returns-clause-goes : goal.returns-clause-goes
-returns-clause-goes g c = joined_calls c.in_ok-edges.ensures.goes c.write_blocks.ensures.goes (λ may_lie world bytes mid later h first second.
+returns-clause-goes g c = joined_calls c.in_ok-edges.ensures.goes c.write_blocks.ensures.goes (λ may_lie world old mid new h first second.
     let b = g.D.BlockDevice.block_len c.args.disk.now in
     let cover = c.of-cover.result in
-    let within : b * cover.first + b * cover.count ≤ length bytes = subst (λ (n : ℕ). b * cover.first + b * cover.count ≤ n) (sym (c.blocks-blocks.ensures.held may_lie world bytes h)) c.of-cover.ensures.within in
+    let within : b * cover.first + b * cover.count ≤ length old.now = subst (λ (n : ℕ). b * cover.first + b * cover.count ≤ n) (sym (c.blocks-blocks.ensures.held may_lie world old.now h.0)) c.of-cover.ensures.within in
     let place = ap (λ (n : ℕ). n * cover.first) c.in_ok-edges.ensures.call.stays.same_block_len in
     let put : c.from_vec.result ≡ c.in_ok-edges.edges.before ++ c.args.payload.now ++ c.in_ok-edges.edges.after = search rules in
-    around_writes bytes c.in_ok-edges.edges.before c.in_ok-edges.edges.after c.from_vec.result c.args.payload.now (b * cover.first) _ (b * cover.count) cover.start c.args.offset within c.of-cover.ensures.covers place c.of-cover.ensures.place
-    first.1.0 first.1.1 put c.write_blocks.result may_lie mid later first.0 second)
+    let some : 0 < length c.from_vec.result =
+    omega (arith, ap length put, c.if-len-eq0.false, length-append (c.in_ok-edges.edges.before ++ c.args.payload.now) c.in_ok-edges.edges.after, length-append c.in_ok-edges.edges.before c.args.payload.now) in
+    around_writes old.now c.in_ok-edges.edges.before c.in_ok-edges.edges.after c.from_vec.result c.args.payload.now (b * cover.first) _ (b * cover.count) cover.start c.args.offset within c.of-cover.ensures.covers place c.of-cover.ensures.place
+    first.1.0 first.1.1 put c.write_blocks.result may_lie old mid new refl first.0.0 first.0.1 some second)
 
 pub returns-then-len-eq0-clause-goes : goal.returns-then-len-eq0-clause-goes
 returns-then-len-eq0-clause-goes g c =
     let none : c.args.payload.now ≡ [] = nil_from_length c.args.payload.now c.if-len-eq0.true in
-    calls_none (λ may_lie world bytes h. (sym (ap (written bytes c.args.offset) none ∙ written_none bytes c.args.offset), tt, λ e. cc))
-
-pub returns-then-len-eq0-clause-keeps : goal.returns-then-len-eq0-clause-keeps
-returns-then-len-eq0-clause-keeps g c =
-    let none : c.args.payload.now ≡ [] = nil_from_length c.args.payload.now c.if-len-eq0.true in
-    kept_at_rest (λ some. omega (arith, some, c.if-len-eq0.true)) (λ may_lie world bytes h. sym (ap (written bytes c.args.offset) none ∙ written_none bytes c.args.offset))
-
-pub returns-clause-keeps : goal.returns-clause-keeps
-returns-clause-keeps g c =
-    let put : c.from_vec.result ≡ c.in_ok-edges.edges.before ++ c.args.payload.now ++ c.in_ok-edges.edges.after = search rules in
-    let some : 0 < length c.from_vec.result =
-    omega (arith, ap length put, c.if-len-eq0.false, length-append (c.in_ok-edges.edges.before ++ c.args.payload.now) c.in_ok-edges.edges.after, length-append c.in_ok-edges.edges.before c.args.payload.now) in
-    on_ok_weaker c.write_blocks.result (λ k. kept_behind c.in_ok-edges.ensures.goes k some (λ may_lie world bytes mid later h first second.
-    let b = g.D.BlockDevice.block_len c.args.disk.now in
-    let cover = c.of-cover.result in
-    let within : b * cover.first + b * cover.count ≤ length bytes = subst (λ (n : ℕ). b * cover.first + b * cover.count ≤ n) (sym (c.blocks-blocks.ensures.held may_lie world bytes h)) c.of-cover.ensures.within in
-    let place = ap (λ (n : ℕ). n * cover.first) c.in_ok-edges.ensures.call.stays.same_block_len in
-    around_wrote bytes c.in_ok-edges.edges.before c.in_ok-edges.edges.after c.from_vec.result c.args.payload.now (b * cover.first) _ (b * cover.count) cover.start c.args.offset within c.of-cover.ensures.covers place
-    c.of-cover.ensures.place first.1.0 first.1.1 put mid later first.0 second)) c.write_blocks.ensures.keeps
+    calls_none (λ may_lie world old h. (sym (ap (written old.now c.args.offset) none ∙ written_none old.now c.args.offset), tt, λ e. cc, all_at_rest (λ some. omega (arith, some, c.if-len-eq0.true))))

@@ -63,7 +63,7 @@ returns-in-Ok-clause-ok g c =
     on_ok_weaker c.put_answers.result (λ wrote asked collected. (
       answered_requests b n asked c.in-Ok.given.items,
       all_answered b n c.args.disk.now c.carry_out_all.new.disk asked (λ may_lie world bytes h. c.blocks-blocks.ensures.held may_lie world bytes h ∙ sym c.requires.size) reqs c.deref-2.result.now
-          c.in-Ok.given.items (collected_as b n asked reqs ops _ c.deref-2.ensures.value collected) c.in-Ok.ensures.len c.in-Ok.ensures.refused (weaker c.in-Ok.ensures.goes (λ may_lie world bytes later h step. step.0)) c.in-Ok.ensures.keeps,
+          c.in-Ok.given.items (collected_as b n asked reqs ops _ c.deref-2.ensures.value collected) c.in-Ok.ensures.len c.in-Ok.ensures.refused (weaker c.in-Ok.ensures.goes (λ may_lie world old new h step. (step.0.0, step.0.1, step.2))),
       subst (Appends (g.W.Write.contents c.args.writer.now) (g.W.Write.contents c.put_answers.new.writer)) (text_answered b n asked reqs _ c.in-Ok.given.items _ collected.same c.deref-in-Ok.ensures.value c.deref-in-Ok-2.ensures.value) wrote,
     )) c.put_answers.ensures.ok
 
@@ -78,7 +78,7 @@ returns-in-Ok-clause-err g c =
       (
         answered_requests b n asked c.in-Ok.given.items,
         all_answered b n c.args.disk.now c.carry_out_all.new.disk asked (λ may_lie world bytes h. c.blocks-blocks.ensures.held may_lie world bytes h ∙ sym c.requires.size) reqs c.deref-2.result.now
-            c.in-Ok.given.items (collected_as b n asked reqs ops _ c.deref-2.ensures.value collected) c.in-Ok.ensures.len c.in-Ok.ensures.refused (weaker c.in-Ok.ensures.goes (λ may_lie world bytes later h step. step.0)) c.in-Ok.ensures.keeps,
+            c.in-Ok.given.items (collected_as b n asked reqs ops _ c.deref-2.ensures.value collected) c.in-Ok.ensures.len c.in-Ok.ensures.refused (weaker c.in-Ok.ensures.goes (λ may_lie world old new h step. (step.0.0, step.0.1, step.2))),
         subst (IsBegunText (g.W.Write.contents c.args.writer.now) (g.W.Write.contents c.put_answers.new.writer)) (text_answered b n asked reqs _ c.in-Ok.given.items _ collected.same c.deref-in-Ok.ensures.value c.deref-in-Ok-2.ensures.value) wrote.1,
       ),
     ))
@@ -93,7 +93,7 @@ returns-in-Err-Failed-clause-ok g c =
     on_ok_weaker c.put_refusals-in-Err-Failed.result (λ wrote asked collected. (
       refused_requests n asked Io,
       all_refused b n c.args.disk.now c.carry_out_all.new.disk asked (λ may_lie world bytes h. c.blocks-blocks.ensures.held may_lie world bytes h ∙ sym c.requires.size) reqs c.deref-2.result.now
-          Io (collected_as b n asked reqs ops _ c.deref-2.ensures.value collected) (inl refl) (λ io. c.in-Err-Failed.ensures.call.has_failed cc) some.0 some.1 some.2 (sym c.deref.ensures.value ∙ some.3) some.4 (weaker c.in-Err-Failed.ensures.goes (λ may_lie world bytes later h step. (step.0, λ io. step.1 cc))),
+          Io (collected_as b n asked reqs ops _ c.deref-2.ensures.value collected) (inl refl) (λ io. c.in-Err-Failed.ensures.call.has_failed cc) some.0 some.1 some.2 (sym c.deref.ensures.value ∙ some.3) some.4 (weaker c.in-Err-Failed.ensures.goes (λ may_lie world old new h step. ((step.0, step.2), λ io. step.1 cc))),
       subst (Appends (g.W.Write.contents c.args.writer.now) (g.W.Write.contents c.put_refusals-in-Err-Failed.new.writer)) (text_refused n asked Io reqs _ collected.same c.deref-in-Err-Failed.ensures.value) wrote,
     )) c.put_refusals-in-Err-Failed.ensures.ok
 
@@ -109,7 +109,7 @@ returns-in-Err-Failed-clause-err g c =
       (
         refused_requests n asked Io,
         all_refused b n c.args.disk.now c.carry_out_all.new.disk asked (λ may_lie world bytes h. c.blocks-blocks.ensures.held may_lie world bytes h ∙ sym c.requires.size) reqs c.deref-2.result.now
-            Io (collected_as b n asked reqs ops _ c.deref-2.ensures.value collected) (inl refl) (λ io. c.in-Err-Failed.ensures.call.has_failed cc) some.0 some.1 some.2 (sym c.deref.ensures.value ∙ some.3) some.4 (weaker c.in-Err-Failed.ensures.goes (λ may_lie world bytes later h step. (step.0, λ io. step.1 cc))),
+            Io (collected_as b n asked reqs ops _ c.deref-2.ensures.value collected) (inl refl) (λ io. c.in-Err-Failed.ensures.call.has_failed cc) some.0 some.1 some.2 (sym c.deref.ensures.value ∙ some.3) some.4 (weaker c.in-Err-Failed.ensures.goes (λ may_lie world old new h step. ((step.0, step.2), λ io. step.1 cc))),
         subst (IsBegunText (g.W.Write.contents c.args.writer.now) (g.W.Write.contents c.put_refusals-in-Err-Failed.new.writer)) (text_refused n asked Io reqs _ collected.same c.deref-in-Err-Failed.ensures.value) wrote.1,
       ),
     ))
@@ -124,7 +124,7 @@ returns-in-Err-OutOfMemory-clause-ok g c =
     on_ok_weaker c.put_refusals-in-Err-OutOfMemory.result (λ wrote asked collected. (
       refused_requests n asked NoMemory,
       all_refused b n c.args.disk.now c.carry_out_all.new.disk asked (λ may_lie world bytes h. c.blocks-blocks.ensures.held may_lie world bytes h ∙ sym c.requires.size) reqs c.deref-2.result.now
-          NoMemory (collected_as b n asked reqs ops _ c.deref-2.ensures.value collected) (inr refl) (λ io. absurd cc) some.0 some.1 some.2 (sym c.deref.ensures.value ∙ some.3) some.4 (weaker c.in-Err-OutOfMemory.ensures.goes (λ may_lie world bytes later h step. (step.0, λ io. cc))),
+          NoMemory (collected_as b n asked reqs ops _ c.deref-2.ensures.value collected) (inr refl) (λ io. absurd cc) some.0 some.1 some.2 (sym c.deref.ensures.value ∙ some.3) some.4 (weaker c.in-Err-OutOfMemory.ensures.goes (λ may_lie world old new h step. ((step.0, step.2), λ io. cc))),
       subst (Appends (g.W.Write.contents c.args.writer.now) (g.W.Write.contents c.put_refusals-in-Err-OutOfMemory.new.writer)) (text_refused n asked NoMemory reqs _ collected.same c.deref-in-Err-OutOfMemory.ensures.value) wrote,
     )) c.put_refusals-in-Err-OutOfMemory.ensures.ok
 
@@ -140,7 +140,7 @@ returns-in-Err-OutOfMemory-clause-err g c =
       (
         refused_requests n asked NoMemory,
         all_refused b n c.args.disk.now c.carry_out_all.new.disk asked (λ may_lie world bytes h. c.blocks-blocks.ensures.held may_lie world bytes h ∙ sym c.requires.size) reqs c.deref-2.result.now
-            NoMemory (collected_as b n asked reqs ops _ c.deref-2.ensures.value collected) (inr refl) (λ io. absurd cc) some.0 some.1 some.2 (sym c.deref.ensures.value ∙ some.3) some.4 (weaker c.in-Err-OutOfMemory.ensures.goes (λ may_lie world bytes later h step. (step.0, λ io. cc))),
+            NoMemory (collected_as b n asked reqs ops _ c.deref-2.ensures.value collected) (inr refl) (λ io. absurd cc) some.0 some.1 some.2 (sym c.deref.ensures.value ∙ some.3) some.4 (weaker c.in-Err-OutOfMemory.ensures.goes (λ may_lie world old new h step. ((step.0, step.2), λ io. cc))),
         subst (IsBegunText (g.W.Write.contents c.args.writer.now) (g.W.Write.contents c.put_refusals-in-Err-OutOfMemory.new.writer)) (text_refused n asked NoMemory reqs _ collected.same c.deref-in-Err-OutOfMemory.ensures.value) wrote.1,
       ),
     ))
@@ -156,7 +156,7 @@ returns-in-Err-Stopped-clause-err g c = λ asked collected.
       refl,
       (
         all_begun b n c.args.disk.now c.carry_out_all.new.disk asked (λ may_lie world bytes h. c.blocks-blocks.ensures.held may_lie world bytes h ∙ sym c.requires.size) reqs c.deref-2.result.now
-            (collected_as b n asked reqs ops _ c.deref-2.ensures.value collected) some.0 some.1 some.2 (sym c.deref.ensures.value ∙ some.3) some.4 (weaker c.in-Err-Stopped.ensures.goes (λ may_lie world bytes later h step. step.0)),
+            (collected_as b n asked reqs ops _ c.deref-2.ensures.value collected) some.0 some.1 some.2 (sym c.deref.ensures.value ∙ some.3) some.4 (weaker c.in-Err-Stopped.ensures.goes (λ may_lie world old new h step. (step.0, step.2))),
         refl,
       ),
     )

@@ -3,46 +3,60 @@ use Rattle.std.proofs.lemmas.Result.{err_from_is_err_and}
 use Rattle.oram_semantics.specs.Run.{is_accepted}
 use Rattle.oram_semantics.specs.declared.events.Reason.{Reason}
 use Rattle.oram_nbd.proofs.Beside.{told_after, weaker}
+use Rattle.oram_nbd.proofs.Keeping.{part_weaker}
+use Rattle.oram_core.specs.Core.{scheme_of}
+use Rattle.oram_rounds.specs.Process.{process}
 use Rattle.oram_rounds.specs.Process.Act.{Keeps}
 use Rattle.oram_volume.specs.HeldArrays.{HoldsArray, running}
 use Rattle.oram_volume.proofs.Answered.{NoneFailed}
-use Rattle.oram_volume.proofs.Carried.{all_done, all_kept, front_of, has_failed_by, lied, lies_if, none_accepted, none_begun, performed_done, performed_left, performed_stops, some_left, submitted_done}
-use Rattle.oram_volume.proofs.HeldArrays.{alive}
+use Rattle.oram_volume.proofs.Carried.{all_done, first_none, front_of, has_failed_by, lied, lies_if, none_begun, performed_done, performed_left, performed_stops, some_left, submitted_done}
+use Rattle.oram_volume.proofs.HeldArrays.{alive, kept_first}
+use Rattle.oram_volume.proofs.KeptWork.{broken_round_keeps}
 use Rattle.oram_volume.proofs.volume.Volume.carry_out_all.Goals as goal
+
+none_by : (o : Option Reason) → is_some o ≡ false → o ≡ None
+none_by None e = refl
+none_by (Some x) e = absurd cc
 
 pub returns-in_err-resume-clause-goes : goal.returns-in_err-resume-clause-goes
 returns-in_err-resume-clause-goes g c =
     let p = err_from_is_err_and c.from_residual.result c.from_residual.ensures.1 in
-    rw p.1 (weaker c.in_err-resume.ensures.goes (λ may_lie world array later h same. ((0, same), λ e. absurd (c.in_err-resume.ensures.fault cc))))
+    rw p.1 (weaker c.in_err-resume.ensures.goes (λ may_lie world old new h same.
+    let none = first_none c.args.self.now.core.device c.args.commands.items old.now in
+    (none new.now same.0, λ e. absurd (c.in_err-resume.ensures.fault cc), part_weaker same.1 none)))
 
 pub returns-then-is_some-clause-goes : goal.returns-then-is_some-clause-goes
 returns-then-is_some-clause-goes g c =
     let some : is_some c.resume.new.self.core.state.failure ≡ true = ap is_some (sym c.failure.ensures) ∙ sym c.is_some.ensures ∙ c.if-is_some.true in
-    told_after c.resume.ensures.goes (λ may_lie world array later h same. (
-      (0, same),
+    told_after c.resume.ensures.goes (λ may_lie world old new h same.
+    let none = first_none c.args.self.now.core.device c.args.commands.items old.now in (
+      none new.now same.0,
       λ e. lies_if may_lie (λ honest.
-          let lives = alive _ world later (subst (λ (b : Bool). HoldsArray b (running g.S.Sealer.cipher g.T.Tape.words c.resume.new.self) world later) honest h) in
+          let lives = alive _ world new.now (subst (λ (b : Bool). HoldsArray b (running g.S.Sealer.cipher g.T.Tape.words c.resume.new.self) world new.now) honest h.0) in
           let no : is_some c.resume.new.self.core.state.failure ≡ false = ap is_some lives in absurd (let both : true ≡ false = sym some ∙ no in cc)),
+      part_weaker same.1 none,
     ))
 
 pub returns-in_err-begun-clause-goes : goal.returns-in_err-begun-clause-goes
 returns-in_err-begun-clause-goes g c =
     let p = err_from_is_err_and c.from_residual-in_err-begun.result c.from_residual-in_err-begun.ensures.1 in
+    let lives = none_by c.resume.new.self.core.state.failure (ap is_some (sym c.failure.ensures) ∙ sym c.is_some.ensures ∙ c.if-is_some.false) in
     rw p.1 (weaker (submitted_done g.S.Sealer.cipher g.T.Tape.words g.B.BatchLink.batches g.K.Keeper.reads_back g.met.B.BatchLink.are_batches c.args.self.now c.resume.new.self c.resume.ensures.kept c.resume.ensures.tape
-    c.resume.ensures.goes c.args.commands.items c.requires c.submit_all.new.core c.submit_all.new.tape c.submit_all.ensures.kept c.submit_all.ensures.tape c.in_err-begun.ensures.err)
-    (λ may_lie world array later h some. (some, λ e. cc)))
+    c.resume.ensures.goes c.args.commands.items c.requires c.submit_all.new.core c.submit_all.new.tape c.submit_all.ensures.kept c.submit_all.ensures.tape c.in_err-begun.ensures.err c.in_ok-resume.ensures.no_work lives)
+    (λ may_lie world old new h some. (some.0, λ e. cc, some.1)))
 
 -- none of them is accepted
 
 pub returns-in_default-clause-goes : goal.returns-in_default-clause-goes
 returns-in_default-clause-goes g c =
+    let lives = none_by c.resume.new.self.core.state.failure (ap is_some (sym c.failure.ensures) ∙ sym c.is_some.ensures ∙ c.if-is_some.false) in
     weaker (submitted_done g.S.Sealer.cipher g.T.Tape.words g.B.BatchLink.batches g.K.Keeper.reads_back g.met.B.BatchLink.are_batches c.args.self.now c.resume.new.self c.resume.ensures.kept c.resume.ensures.tape
     c.resume.ensures.goes c.args.commands.items c.requires c.submit_all.new.core c.submit_all.new.tape c.submit_all.ensures.kept c.submit_all.ensures.tape
     (front_of g.S.Sealer.cipher g.T.Tape.words g.B.BatchLink.batches g.K.Keeper.reads_back g.met.B.BatchLink.are_batches c.args.self.now c.resume.new.self c.resume.ensures.kept c.resume.ensures.tape
-    c.resume.ensures.goes c.args.commands.items c.requires c.submit_all.new.core c.submit_all.new.tape c.submit_all.ensures.kept c.submit_all.ensures.tape c.in_ok-begun.field-0.notes.items c.in_ok-begun.ensures.ok))
-    (λ may_lie world array later h some.
+    c.resume.ensures.goes c.args.commands.items c.requires c.submit_all.new.core c.submit_all.new.tape c.submit_all.ensures.kept c.submit_all.ensures.tape c.in_ok-begun.field-0.notes.items c.in_ok-begun.ensures.ok) c.in_ok-resume.ensures.no_work lives)
+    (λ may_lie world old new h some.
     none_begun _ c.unanswered.result c.args.self.now.core.device c.len-count.result c.args.commands.items (let size : c.len-count.result ≡ length c.args.commands.items = search rules in size)
-    c.unanswered.ensures.ok c.unanswered.ensures.err may_lie array later some)
+    c.unanswered.ensures.ok c.unanswered.ensures.err may_lie old new some)
 
 pub returns-in_default-clause-stopped : goal.returns-in_default-clause-stopped
 returns-in_default-clause-stopped g c = λ e.
@@ -53,15 +67,7 @@ returns-in_default-clause-stopped g c = λ e.
     c.resume.ensures.goes c.args.commands.items c.requires c.submit_all.new.core c.submit_all.new.tape c.submit_all.ensures.kept c.submit_all.ensures.tape
     c.submit_all.new.core c.resume.new.self.link c.resume.new.self.keeper (refl, refl) [] refl c.in_ok-begun.field-0.notes.items c.in_ok-begun.ensures.ok (omega (arith, size, more, none))
 
-pub returns-in_default-clause-keeps : goal.returns-in_default-clause-keeps
-returns-in_default-clause-keeps g c =
-    none_accepted _ (λ r. r.items) c.unanswered.result c.len-count.result (length c.args.commands.items) (let size : c.len-count.result ≡ length c.args.commands.items = search rules in size) c.unanswered.ensures.ok
-
 -- some are, and they are carried out
-
-none_by : (o : Option Reason) → is_some o ≡ false → o ≡ None
-none_by None e = refl
-none_by (Some x) e = absurd cc
 
 pub returns-in-Ok-clause-goes : goal.returns-in-Ok-clause-goes
 returns-in-Ok-clause-goes g c =
@@ -70,8 +76,9 @@ returns-in-Ok-clause-goes g c =
     weaker (lied g.S.Sealer.cipher g.T.Tape.words g.B.BatchLink.batches g.K.Keeper.reads_back g.met.B.BatchLink.are_batches c.args.self.now c.resume.new.self c.resume.ensures.kept c.resume.ensures.tape
     c.resume.ensures.goes c.args.commands.items c.requires c.submit_all.new.core c.submit_all.new.tape c.submit_all.ensures.kept c.submit_all.ensures.tape
     c.perform-performed.new.core c.perform-performed.new.link c.perform-performed.new.keeper c.perform-performed.ensures.kept (Keeps true ∷ k.0) k.2 c.in_ok-begun.field-0.notes.items c.in_ok-begun.ensures.ok
-    c.in_ok-resume.ensures.no_work lives c.in-Ok.replies.items k.1 c.in-Ok.ensures.count (λ none. c.has_failure.ensures.yes c.if-has_failure.true (subst NoneFailed (sym c.deref.ensures.value) none)))
-    (λ may_lie world array later h step. (step.0, λ e. step.1))
+    c.in_ok-resume.ensures.no_work lives c.in-Ok.replies.items k.1 c.in-Ok.ensures.count k.0 refl
+    (λ none. c.has_failure.ensures.yes c.if-has_failure.true (subst NoneFailed (sym c.deref.ensures.value) none)))
+    (λ may_lie world old new h step. (step.0.0, λ e. step.1, step.0.1))
 
 pub returns-in-Ok-clause-failing : goal.returns-in-Ok-clause-failing
 returns-in-Ok-clause-failing g c = λ e.
@@ -80,12 +87,14 @@ returns-in-Ok-clause-failing g c = λ e.
 pub returns-in-Ok-2-clause-goes : goal.returns-in-Ok-2-clause-goes
 returns-in-Ok-2-clause-goes g c =
     let k = c.in-Ok-2.ensures.ok in
+    let lives = none_by c.resume.new.self.core.state.failure (ap is_some (sym c.failure.ensures) ∙ sym c.is_some.ensures ∙ c.if-is_some.false) in
     weaker (performed_done g.S.Sealer.cipher g.T.Tape.words g.B.BatchLink.batches g.K.Keeper.reads_back g.met.B.BatchLink.are_batches c.args.self.now c.resume.new.self c.resume.ensures.kept c.resume.ensures.tape
     c.resume.ensures.goes c.args.commands.items c.requires c.submit_all.new.core c.submit_all.new.tape c.submit_all.ensures.kept c.submit_all.ensures.tape
     c.perform-performed.new.core c.perform-performed.new.link c.perform-performed.new.keeper c.perform-performed.ensures.kept (Keeps true ∷ k.0) k.2
     (front_of g.S.Sealer.cipher g.T.Tape.words g.B.BatchLink.batches g.K.Keeper.reads_back g.met.B.BatchLink.are_batches c.args.self.now c.resume.new.self c.resume.ensures.kept c.resume.ensures.tape
-    c.resume.ensures.goes c.args.commands.items c.requires c.submit_all.new.core c.submit_all.new.tape c.submit_all.ensures.kept c.submit_all.ensures.tape c.in_ok-begun.field-0.notes.items c.in_ok-begun.ensures.ok))
-    (λ may_lie world array later h some. (some, λ e. cc))
+    c.resume.ensures.goes c.args.commands.items c.requires c.submit_all.new.core c.submit_all.new.tape c.submit_all.ensures.kept c.submit_all.ensures.tape c.in_ok-begun.field-0.notes.items c.in_ok-begun.ensures.ok)
+    c.in_ok-resume.ensures.no_work lives (λ rests. inr (kept_first k.0)))
+    (λ may_lie world old new h some. (some.0, λ e. cc, some.1))
 
 pub returns-in-Ok-2-clause-stopped : goal.returns-in-Ok-2-clause-stopped
 returns-in-Ok-2-clause-stopped g c = λ e.
@@ -107,29 +116,23 @@ returns-in-Ok-3-clause-goes g c =
     weaker (all_done g.S.Sealer.cipher g.T.Tape.words g.B.BatchLink.batches g.K.Keeper.reads_back g.met.B.BatchLink.are_batches c.args.self.now c.resume.new.self c.resume.ensures.kept c.resume.ensures.tape
     c.resume.ensures.goes c.args.commands.items c.requires c.submit_all.new.core c.submit_all.new.tape c.submit_all.ensures.kept c.submit_all.ensures.tape
     c.perform-performed.new.core c.perform-performed.new.link c.perform-performed.new.keeper c.perform-performed.ensures.kept (Keeps true ∷ k.0) k.2 c.in_ok-begun.field-0.notes.items c.in_ok-begun.ensures.ok
-    c.in_ok-resume.ensures.no_work lives c.in-Ok.replies.items k.1 c.in-Ok.ensures.count none (omega (arith, size, enough)) c.in_ok-begun.ensures.count)
-    (λ may_lie world array later h step. (step, λ e. cc))
-
-pub returns-in-Ok-3-clause-keeps : goal.returns-in-Ok-3-clause-keeps
-returns-in-Ok-3-clause-keeps g c = λ some.
-    let k = c.in-Ok.ensures.ok in
-    let lives = none_by c.resume.new.self.core.state.failure (ap is_some (sym c.failure.ensures) ∙ sym c.is_some.ensures ∙ c.if-is_some.false) in
-    let size : c.len-count.result ≡ length c.args.commands.items = search rules in
-    let enough : c.len-count.result ≤ length c.in-Ok.replies.items = search rules in
-    all_kept g.S.Sealer.cipher g.T.Tape.words g.B.BatchLink.batches g.K.Keeper.reads_back g.met.B.BatchLink.are_batches c.args.self.now c.resume.new.self c.resume.ensures.kept c.resume.ensures.tape
-    c.resume.ensures.goes c.args.commands.items c.requires c.submit_all.new.core c.submit_all.new.tape c.submit_all.ensures.kept c.submit_all.ensures.tape
-    c.perform-performed.new.core c.perform-performed.new.link c.perform-performed.new.keeper c.perform-performed.ensures.kept (Keeps true ∷ k.0) k.2 c.in_ok-begun.field-0.notes.items c.in_ok-begun.ensures.ok
-    c.in_ok-resume.ensures.no_work lives c.in-Ok.replies.items k.1 c.in-Ok.ensures.count k.0 refl (omega (arith, size, enough)) c.in_ok-begun.ensures.count
+    c.in_ok-resume.ensures.no_work lives c.in-Ok.replies.items k.1 c.in-Ok.ensures.count k.0 refl none (omega (arith, size, enough)) c.in_ok-begun.ensures.count)
+    (λ may_lie world old new h step. ((step.0, step.1), λ e. cc, record { kept = inl step.2 }))
 
 pub returns-in-Err-clause-goes : goal.returns-in-Err-clause-goes
 returns-in-Err-clause-goes g c =
     let k = c.in-Err.ensures.err in
+    let lives = none_by c.resume.new.self.core.state.failure (ap is_some (sym c.failure.ensures) ∙ sym c.is_some.ensures ∙ c.if-is_some.false) in
     weaker (performed_done g.S.Sealer.cipher g.T.Tape.words g.B.BatchLink.batches g.K.Keeper.reads_back g.met.B.BatchLink.are_batches c.args.self.now c.resume.new.self c.resume.ensures.kept c.resume.ensures.tape
     c.resume.ensures.goes c.args.commands.items c.requires c.submit_all.new.core c.submit_all.new.tape c.submit_all.ensures.kept c.submit_all.ensures.tape
     c.perform-performed.new.core c.perform-performed.new.link c.perform-performed.new.keeper c.perform-performed.ensures.kept k.0 k.2
     (front_of g.S.Sealer.cipher g.T.Tape.words g.B.BatchLink.batches g.K.Keeper.reads_back g.met.B.BatchLink.are_batches c.args.self.now c.resume.new.self c.resume.ensures.kept c.resume.ensures.tape
-    c.resume.ensures.goes c.args.commands.items c.requires c.submit_all.new.core c.submit_all.new.tape c.submit_all.ensures.kept c.submit_all.ensures.tape c.in_ok-begun.field-0.notes.items c.in_ok-begun.ensures.ok))
-    (λ may_lie world array later h some. (some, λ e. absurd (c.disk_fault.ensures.failed cc)))
+    c.resume.ensures.goes c.args.commands.items c.requires c.submit_all.new.core c.submit_all.new.tape c.submit_all.ensures.kept c.submit_all.ensures.tape c.in_ok-begun.field-0.notes.items c.in_ok-begun.ensures.ok)
+    c.in_ok-resume.ensures.no_work lives
+    (broken_round_keeps g.B.BatchLink.batches g.K.Keeper.reads_back (scheme_of g.S.Sealer.cipher c.submit_all.new.core) k.0
+    (process c.submit_all.new.core.state c.resume.new.self.link c.resume.new.self.keeper)
+    (process c.perform-performed.new.core.state c.perform-performed.new.link c.perform-performed.new.keeper) k.1 k.2))
+    (λ may_lie world old new h some. (some.0, λ e. absurd (c.disk_fault.ensures.failed cc), some.1))
 
 pub returns-in-Err-clause-stopped : goal.returns-in-Err-clause-stopped
 returns-in-Err-clause-stopped g c = λ e.

@@ -1,4 +1,4 @@
-use Rattle.std.proofs.Common.{inl, inr, ◌≡◌, ◌+◌, ◌/◌, ◌^◌, ◌<◌, ◌≤◌, ◌++◌, [], All, List, ℕ, length, take, drop, refl, sym, ap, ◌∙◌, subst, append_assoc, append-nil, arith, rules}
+use Rattle.std.proofs.Common.{inr, ◌≡◌, ◌+◌, ◌/◌, ◌^◌, ◌<◌, ◌≤◌, ◌++◌, [], All, List, ℕ, length, take, drop, refl, sym, ap, ◌∙◌, subst, append_assoc, append-nil, arith, rules}
 use Rattle.std.proofs.lemmas.Bool.Decides.{nat_tests}
 use Rattle.std.proofs.lemmas.Grind.{common_steps}
 use Rattle.std.proofs.lemmas.List.{nil_from_length}
@@ -6,15 +6,16 @@ use Rattle.std.proofs.lemmas.Result.{err_from_is_err_and}
 use Rattle.std.specs.List.{flat_map}
 use Rattle.oram_geometry.specs.declared.Sizes.{Sizes}
 use Rattle.oram_nbd.specs.Operations.{IsWhole, len_of, place_of}
-use Rattle.oram_nbd.proofs.Beside.{at_rest as calls_none, joined_calls, kept_behind, weaker, weaker_kept}
+use Rattle.oram_nbd.proofs.Beside.{at_rest as calls_none, joined_calls, weaker}
+use Rattle.oram_nbd.proofs.Keeping.{all_at_rest, all_joined, all_weaker, part_after_all, part_behind}
 use Rattle.oram_semantics.specs.declared.events.Command.{Command}
 use Rattle.oram_semantics.specs.declared.events.Reply.{Reply}
 use Rattle.oram_session.proofs.CoreSteps.{same_trans}
-use Rattle.oram_volume.specs.CarriedOut.{after_commands, bodies_from}
+use Rattle.oram_volume.specs.CarriedOut.{IsAfterFirst, after_commands, bodies_from}
 use Rattle.oram_volume.specs.DiskCalls.{data_of}
 use Rattle.oram_volume.specs.RangeCommands.{FitsDevice, all_commands, rest_of}
 use Rattle.oram_volume.proofs.DiskCalls.{stops_after}
-use Rattle.oram_volume.proofs.LaidOperations.{after_append, bodies_on_device, front_split, on_device, all_bound, all_fit, all_numbers, data_append, middle_all, of_bodies}
+use Rattle.oram_volume.proofs.LaidOperations.{after_append, bodies_on_device, on_device, all_bound, all_fit, all_numbers, behind_first, data_append, middle_all, of_bodies}
 use Rattle.oram_volume.proofs.RangeCommands.{rest_all}
 use Rattle.oram_volume.proofs.volume.Volume.carry_out_rounds.Goals as goal
 
@@ -24,8 +25,7 @@ loop-round_number-init g c = record {
   still = λ h. h;
   done = [];
   split = sym (rest_all c.args.self.now.core.device.block_bytes c.args.operations.now);
-  so_far = calls_none (λ may_lie world array h. (c.new-found.ensures.items, refl));
-  keeps = inl (refl, refl);
+  so_far = calls_none (λ may_lie world old h. (c.new-found.ensures.items, refl, all_at_rest (λ some. some refl)));
 }
 
 pub returns-clause-goes : goal.returns-clause-goes
@@ -33,7 +33,8 @@ returns-clause-goes g c =
     let d = c.args.self.now.core.device in
     let ops = c.args.operations.now in
     let inv = c.loop-round_number.invariant in
-    weaker inv.so_far (λ may_lie world array later h step. ((inv.done, rest_of d.block_bytes ops _ _, inv.split, step.1), λ e. cc))
+    weaker inv.so_far (λ may_lie world old new h step.
+    let first = (inv.done, rest_of d.block_bytes ops c.loop-round_number.cursor.operation c.loop-round_number.cursor.block, inv.split, step.1) in (first, λ e. cc, part_after_all step.2 first))
 
 pub returns-in_err-commands-clause-goes : goal.returns-in_err-commands-clause-goes
 returns-in_err-commands-clause-goes g c =
@@ -41,7 +42,8 @@ returns-in_err-commands-clause-goes g c =
     let d = c.args.self.now.core.device in
     let ops = c.args.operations.now in
     let inv = c.loop-round_number.invariant in
-    rw p.1 (weaker inv.so_far (λ may_lie world array later h step. ((inv.done, rest_of d.block_bytes ops _ _, inv.split, step.1), λ e. cc)))
+    rw p.1 (weaker inv.so_far (λ may_lie world old new h step.
+    let first = (inv.done, rest_of d.block_bytes ops c.loop-round_number.cursor.operation c.loop-round_number.cursor.block, inv.split, step.1) in (first, λ e. cc, part_after_all step.2 first)))
 
 pub next_round-requires-clause-whole : goal.next_round-requires-clause-whole
 next_round-requires-clause-whole g c =
@@ -99,33 +101,11 @@ returns-then-is_empty-clause-goes g c =
     let end : rest ≡ [] = subst (λ (n : ℕ). rest_of n ops c.next_round.new.cursor.operation c.next_round.new.cursor.block ≡ []) same (c.in_ok-commands.ensures.end none) in
     let all : inv.done ≡ all_commands b ops =
     sym (split ∙ ap (λ (l : List Command). inv.done ++ (l ++ rest)) none ∙ ap (λ (l : List Command). inv.done ++ l) end ∙ append-nil inv.done) in
-    weaker inv.so_far (λ may_lie world array later h step. (
-      (step.0 ∙ ap (λ (cs : List Command). flat_map data_of (bodies_from d cs array)) all, step.1 ∙ ap (λ (cs : List Command). after_commands d cs array) all),
+    weaker inv.so_far (λ may_lie world old new h step. (
+      (step.0 ∙ ap (λ (cs : List Command). flat_map data_of (bodies_from d cs old.now)) all, step.1 ∙ ap (λ (cs : List Command). after_commands d cs old.now) all),
       λ e. cc,
+      all_weaker step.2 (λ more none'. more (sym all ∙ none')),
     ))
-
-pub returns-then-is_empty-clause-keeps : goal.returns-then-is_empty-clause-keeps
-returns-then-is_empty-clause-keeps g c =
-    let d = c.args.self.now.core.device in
-    let b = d.block_bytes in
-    let ops = c.args.operations.now in
-    let inv = c.loop-round_number.invariant in
-    let same : c.block_bytes-block.result ≡ b = search rules in
-    let rest = rest_of b ops c.next_round.new.cursor.operation c.next_round.new.cursor.block in
-    let commands = c.in_ok-commands.commands.items in
-    let next : rest_of b ops c.loop-round_number.cursor.operation c.loop-round_number.cursor.block ≡ commands ++ rest =
-    subst (λ (n : ℕ). rest_of n ops c.loop-round_number.cursor.operation c.loop-round_number.cursor.block ≡ commands ++ rest_of n ops c.next_round.new.cursor.operation c.next_round.new.cursor.block) same
-    c.in_ok-commands.ensures.next in
-    let split : all_commands b ops ≡ inv.done ++ (commands ++ rest) = inv.split ∙ ap (λ (l : List Command). inv.done ++ l) next in
-    let zero : length commands ≡ 0 = first_of (grind (arith, nat_tests, c.is_empty.ensures), grind (arith, nat_tests, common_steps), search (rules, nat_tests)) in
-    let none : commands ≡ [] = nil_from_length commands zero in
-    let end : rest ≡ [] = subst (λ (n : ℕ). rest_of n ops c.next_round.new.cursor.operation c.next_round.new.cursor.block ≡ []) same (c.in_ok-commands.ensures.end none) in
-    let all : inv.done ≡ all_commands b ops =
-    sym (split ∙ ap (λ (l : List Command). inv.done ++ (l ++ rest)) none ∙ ap (λ (l : List Command). inv.done ++ l) end ∙ append-nil inv.done) in
-    elim inv.keeps [
-      | inl unasked ↦ inl (sym all ∙ unasked.0, unasked.1)
-      | inr k ↦ inr (weaker_kept k (λ yes. yes) (λ may_lie world array later h step. step ∙ ap (λ (cs : List Command). after_commands d cs array) all))
-    ]
 
 pub returns-in_err-replies-clause-goes : goal.returns-in_err-replies-clause-goes
 returns-in_err-replies-clause-goes g c =
@@ -141,15 +121,9 @@ returns-in_err-replies-clause-goes g c =
     subst (λ (n : ℕ). rest_of n ops c.loop-round_number.cursor.operation c.loop-round_number.cursor.block ≡ commands ++ rest_of n ops c.next_round.new.cursor.operation c.next_round.new.cursor.block) same
     c.in_ok-commands.ensures.next in
     let split : all_commands b ops ≡ inv.done ++ (commands ++ rest) = inv.split ∙ ap (λ (l : List Command). inv.done ++ l) next in
-    rw p.1 (joined_calls inv.so_far c.in_err-replies.ensures.goes (λ may_lie world array mid later h first second. (
-      (
-        inv.done ++ take second.0.0 commands,
-        drop second.0.0 commands ++ rest,
-        front_split (all_commands b ops) inv.done commands rest second.0.0 split,
-        second.0.1 ∙ on_device d _ inv.kept.0 (take second.0.0 commands) mid ∙ ap (after_commands d (take second.0.0 commands)) first.1 ∙ sym (after_append d inv.done (take second.0.0 commands) array),
-      ),
-      λ e. second.1 cc,
-    )))
+    rw p.1 (joined_calls inv.so_far c.in_err-replies.ensures.goes (λ may_lie world old mid new h first second.
+    let front = λ (x : ℕ → List ℕ) (is : IsAfterFirst c.loop-round_number.self.core.device commands mid.now x). behind_first d _ inv.kept.0 (all_commands b ops) inv.done commands rest split old.now mid.now x first.1 is in
+    (front new.now second.0, λ e. second.1 cc, part_behind first.2 (inv.done, commands ++ rest, split, first.1) second.2 front)))
 
 pub returns-in_err-append_data-clause-goes : goal.returns-in_err-append_data-clause-goes
 returns-in_err-append_data-clause-goes g c =
@@ -165,15 +139,14 @@ returns-in_err-append_data-clause-goes g c =
     subst (λ (n : ℕ). rest_of n ops c.loop-round_number.cursor.operation c.loop-round_number.cursor.block ≡ commands ++ rest_of n ops c.next_round.new.cursor.operation c.next_round.new.cursor.block) same
     c.in_ok-commands.ensures.next in
     let split : all_commands b ops ≡ inv.done ++ (commands ++ rest) = inv.split ∙ ap (λ (l : List Command). inv.done ++ l) next in
-    rw p.1 (joined_calls inv.so_far c.in_ok-replies.ensures.goes (λ may_lie world array mid later h first second. (
-      (
-        inv.done ++ commands,
-        rest,
-        split ∙ sym (append_assoc inv.done commands rest),
-        second.0.1 ∙ on_device d _ inv.kept.0 commands mid ∙ ap (after_commands d commands) first.1 ∙ sym (after_append d inv.done commands array),
-      ),
-      λ e. cc,
-    )))
+    rw p.1 (joined_calls inv.so_far c.in_ok-replies.ensures.goes (λ may_lie world old mid new h first second.
+    let begun : IsAfterFirst d (all_commands b ops) old.now new.now = (
+      inv.done ++ commands,
+      rest,
+      split ∙ sym (append_assoc inv.done commands rest),
+      second.0.1 ∙ on_device d _ inv.kept.0 commands mid.now ∙ ap (after_commands d commands) first.1 ∙ sym (after_append d inv.done commands old.now),
+    ) in
+    (begun, λ e. cc, part_after_all (all_joined {both = ⊥} first.2 second.2 (λ none. absurd none)) begun)))
 
 pub loop-round_number-preserved : goal.loop-round_number-preserved
 loop-round_number-preserved g c =
@@ -197,15 +170,14 @@ loop-round_number-preserved g c =
       still = λ h. c.in_ok-replies.ensures.still (inv.still h);
       done = inv.done ++ commands;
       split = split ∙ sym (append_assoc inv.done commands rest);
-      so_far = joined_calls inv.so_far c.in_ok-replies.ensures.goes (λ may_lie world array mid later h first second. (
+      so_far = joined_calls inv.so_far c.in_ok-replies.ensures.goes (λ may_lie world old mid new h first second. (
         added ∙ ap (λ (l : List ℕ). l ++ flat_map (λ (r : Reply). data_of r.body) replies) first.0
-            ∙ ap (λ (l : List ℕ). flat_map data_of (bodies_from d inv.done array) ++ l)
-            (of_bodies replies ∙ ap (λ bs. flat_map data_of bs) (second.0.0 ∙ bodies_on_device d _ inv.kept.0 commands mid ∙ ap (bodies_from d commands) first.1))
-            ∙ sym (data_append d inv.done commands array),
-        second.0.1 ∙ on_device d _ inv.kept.0 commands mid ∙ ap (after_commands d commands) first.1 ∙ sym (after_append d inv.done commands array),
+            ∙ ap (λ (l : List ℕ). flat_map data_of (bodies_from d inv.done old.now) ++ l)
+            (of_bodies replies ∙ ap (λ bs. flat_map data_of bs) (second.0.0 ∙ bodies_on_device d _ inv.kept.0 commands mid.now ∙ ap (bodies_from d commands) first.1))
+            ∙ sym (data_append d inv.done commands old.now),
+        second.0.1 ∙ on_device d _ inv.kept.0 commands mid.now ∙ ap (after_commands d commands) first.1 ∙ sym (after_append d inv.done commands old.now),
+        all_joined first.2 second.2 (λ more. inr (λ none. omega (arith, some, ap length none))),
       ));
-      keeps = inr (kept_behind inv.so_far (c.in_ok-replies.ensures.keeps some) tt (λ may_lie world array mid later h first second.
-          second ∙ on_device d _ inv.kept.0 commands mid ∙ ap (after_commands d commands) first.1 ∙ sym (after_append d inv.done commands array)));
     }
 
 pub returns-in_err-replies-clause-stopped : goal.returns-in_err-replies-clause-stopped
