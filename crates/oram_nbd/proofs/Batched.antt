@@ -22,53 +22,53 @@ module _ {D W E : Type 0} (kind : DeviceKind D W E) (old : D) (from : Streams) w
   -- a batch was read
   module _ (count : ℕ) (mid : D) (now : Streams) (unread : Option (List ℕ)) (block size : ℕ) (requests : List Request) (ops : List Operation) (close : Close) (s : Served kind old from count mid now []) (same : size ≡ kind.size old)
       (h : HasGathered block size requests ops close now.unread unread) where
-    was_read : Served kind old from count mid (streams unread now.written) (whole_requests_text h.asked ++ h.part)
-    was_read = read_on kind old from count mid now [] s unread (whole_requests_text h.asked ++ h.part) refl h.read
+    was_read : Served kind old from count mid (streams unread now.written) (whole_requests_text h.arrived ++ h.part)
+    was_read = read_on kind old from count mid now [] s unread (whole_requests_text h.arrived ++ h.part) refl h.read
 
     -- and answered
-    pub batch_served : (new : D) (written : Option (List ℕ)) → (kind.failed mid → kind.failed new) → EndsBatch kind size mid new h.asked now.written written
+    pub batch_served : (new : D) (written : Option (List ℕ)) → (kind.failed mid → kind.failed new) → EndsBatch kind size mid new h.arrived now.written written
         → Served kind old from (count + length requests) new (streams unread written) h.part
     batch_served new written still e =
-        let a : HasRepliedToAll kind (kind.size old) mid new h.asked e.0 = subst (λ (n : ℕ). HasRepliedToAll kind n mid new h.asked e.0) same e.1 in
-        let many : length e.0 ≡ length requests = length_same h.asked e.0 a.same ∙ sym (length-map h.asked (λ (x : WholeRequest). x.request)) ∙ ap length h.collected.same in
+        let a : HasRepliedToAll kind (kind.size old) mid new h.arrived e.0 = subst (λ (n : ℕ). HasRepliedToAll kind n mid new h.arrived e.0) same e.1 in
+        let many : length e.0 ≡ length requests = length_same h.arrived e.0 a.same ∙ sym (length-map h.arrived (λ (x : WholeRequest). x.request)) ∙ ap length h.collected.same in
         subst (λ (n : ℕ). Served kind old from (count + n) new (streams unread written) h.part) many
-        (batch_answered kind old from count mid (streams unread now.written) (whole_requests_text h.asked ++ h.part) was_read new written h.asked e.0 h.part refl still a e.2)
+        (batch_answered kind old from count mid (streams unread now.written) (whole_requests_text h.arrived ++ h.part) was_read new written h.arrived e.0 h.part refl still a e.2)
 
     -- or its replies weren't written, or the device stopped
-    pub batch_broken : (new : D) (written : Option (List ℕ)) (f : NbdFault) → BreaksBatch kind size mid new h.asked f now.written written
+    pub batch_broken : (new : D) (written : Option (List ℕ)) (f : NbdFault) → BreaksBatch kind size mid new h.arrived f now.written written
         → StopsServing kind old new f from (streams unread written)
     batch_broken new written f (inl b) =
-        let a : HasRepliedToAll kind (kind.size old) mid new h.asked b.1.0 = subst (λ (n : ℕ). HasRepliedToAll kind n mid new h.asked b.1.0) same b.1.1 in
+        let a : HasRepliedToAll kind (kind.size old) mid new h.arrived b.1.0 = subst (λ (n : ℕ). HasRepliedToAll kind n mid new h.arrived b.1.0) same b.1.1 in
         subst (λ (g : NbdFault). StopsServing kind old new g from (streams unread written)) (sym b.0)
-        (stopped_at_replies kind old from count mid (streams unread now.written) (whole_requests_text h.asked ++ h.part) was_read new written h.asked b.1.0 h.part b.1.2.0 refl (behind_ends close h.part unread h.ends) a b.1.2.1)
+        (stopped_at_replies kind old from count mid (streams unread now.written) (whole_requests_text h.arrived ++ h.part) was_read new written h.arrived b.1.0 h.part b.1.2.0 refl (behind_ends close h.part unread h.ends) a b.1.2.1)
     batch_broken new written f (inr b) =
-        let begun : HasBegun kind (kind.size old) mid new h.asked = subst (λ (n : ℕ). HasBegun kind n mid new h.asked) same b.1.0 in
+        let begun : HasBegun kind (kind.size old) mid new h.arrived = subst (λ (n : ℕ). HasBegun kind n mid new h.arrived) same b.1.0 in
         subst (λ (g : NbdFault). StopsServing kind old new g from (streams unread written)) (sym b.0)
         (subst (λ (w : Option (List ℕ)). StopsServing kind old new fault.Stopped from (streams unread w)) (sym b.1.1)
-        (stopped_at_batch kind old from count mid (streams unread now.written) (whole_requests_text h.asked ++ h.part) was_read new h.asked h.part refl (behind_ends close h.part unread h.ends) h.collected.all begun))
+        (stopped_at_batch kind old from count mid (streams unread now.written) (whole_requests_text h.arrived ++ h.part) was_read new h.arrived h.part refl (behind_ends close h.part unread h.ends) h.collected.all begun))
 
   module _ (count : ℕ) (mid : D) (now : Streams) (part : List ℕ) (s : Served kind old from count mid now part) where
     -- the request for which there was no memory, if there is one, is refused
-    module _ (size : ℕ) (same : size ≡ kind.size old) (sized : (may_lie : Bool) (world : W) (bytes : List ℕ) → kind.holds may_lie mid world bytes → length bytes ≡ kind.size old) (close : Close) (asked : List WholeRequest) (rest : List ℕ)
-        (k : IsWithoutMemory close part now.unread asked rest) where
-      refusal : HasRepliedToAll kind (kind.size old) mid mid asked (refused_requests (kind.size old) asked NoMemory)
-      refusal = refused_at_rest (kind.size old) mid asked sized k.all
+    module _ (size : ℕ) (same : size ≡ kind.size old) (sized : (may_lie : Bool) (world : W) (bytes : List ℕ) → kind.holds may_lie mid world bytes → length bytes ≡ kind.size old) (close : Close) (arrived : List WholeRequest) (rest : List ℕ)
+        (k : IsWithoutMemory close part now.unread arrived rest) where
+      refusal : HasRepliedToAll kind (kind.size old) mid mid arrived (refused_requests (kind.size old) arrived NoMemory)
+      refusal = refused_at_rest (kind.size old) mid arrived sized k.all
 
-      its_text : refusals_text size (map (λ (a : WholeRequest). a.request) asked) NoMemory ≡ replies_text (refused_requests (kind.size old) asked NoMemory)
-      its_text = ap (λ (n : ℕ). refusals_text n (map (λ (a : WholeRequest). a.request) asked) NoMemory) same
-          ∙ text_refused (kind.size old) asked NoMemory (map (λ (a : WholeRequest). a.request) asked) (map (λ (a : WholeRequest). a.request) asked) refl refl
+      its_text : refusals_text size (map (λ (a : WholeRequest). a.request) arrived) NoMemory ≡ replies_text (refused_requests (kind.size old) arrived NoMemory)
+      its_text = ap (λ (n : ℕ). refusals_text n (map (λ (a : WholeRequest). a.request) arrived) NoMemory) same
+          ∙ text_refused (kind.size old) arrived NoMemory (map (λ (a : WholeRequest). a.request) arrived) (map (λ (a : WholeRequest). a.request) arrived) refl refl
 
-      pub without_memory_served : (number : ℕ) (written : Option (List ℕ)) → length asked ≡ number → Appends now.written written (refusals_text size (map (λ (a : WholeRequest). a.request) asked) NoMemory)
+      pub without_memory_served : (number : ℕ) (written : Option (List ℕ)) → length arrived ≡ number → Appends now.written written (refusals_text size (map (λ (a : WholeRequest). a.request) arrived) NoMemory)
           → Served kind old from (count + number) mid (streams now.unread written) rest
       without_memory_served number written many wrote =
-          subst (λ (n : ℕ). Served kind old from (count + n) mid (streams now.unread written) rest) (length_same asked (refused_requests (kind.size old) asked NoMemory) refusal.same ∙ many)
-          (batch_answered kind old from count mid now part s mid written asked (refused_requests (kind.size old) asked NoMemory) rest k.split (λ f. f) refusal (subst (Appends now.written written) its_text wrote))
+          subst (λ (n : ℕ). Served kind old from (count + n) mid (streams now.unread written) rest) (length_same arrived (refused_requests (kind.size old) arrived NoMemory) refusal.same ∙ many)
+          (batch_answered kind old from count mid now part s mid written arrived (refused_requests (kind.size old) arrived NoMemory) rest k.split (λ f. f) refusal (subst (Appends now.written written) its_text wrote))
 
-      pub without_memory_broken : (written : Option (List ℕ)) → IsBegunText now.written written (refusals_text size (map (λ (a : WholeRequest). a.request) asked) NoMemory)
+      pub without_memory_broken : (written : Option (List ℕ)) → IsBegunText now.written written (refusals_text size (map (λ (a : WholeRequest). a.request) arrived) NoMemory)
           → StopsServing kind old mid fault.Write from (streams now.unread written)
       without_memory_broken written begun =
-          let b : IsBegunText now.written written (replies_text (refused_requests (kind.size old) asked NoMemory)) = subst (IsBegunText now.written written) its_text begun in
-          stopped_at_replies kind old from count mid now part s mid written asked (refused_requests (kind.size old) asked NoMemory) rest b.0 k.split (behind_left close rest now.unread k.left) refusal b.1
+          let b : IsBegunText now.written written (replies_text (refused_requests (kind.size old) arrived NoMemory)) = subst (IsBegunText now.written written) its_text begun in
+          stopped_at_replies kind old from count mid now part s mid written arrived (refused_requests (kind.size old) arrived NoMemory) rest b.0 k.split (behind_left close rest now.unread k.left) refusal b.1
 
     pub recounted : (n : ℕ) → count ≡ n → Served kind old from n mid now part
     recounted n same = subst (λ (k : ℕ). Served kind old from k mid now part) same s

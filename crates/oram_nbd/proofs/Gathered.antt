@@ -41,32 +41,32 @@ answered_with a reply = record { request = a.request; payload = a.payload; reply
 
 -- ---- The operations of a batch
 
-pub all_within : (block size : ℕ) (asked : List WholeRequest) (ops : List Operation) → AreServedBy block size asked ops → All (IsWithin size) ops
+pub all_within : (block size : ℕ) (arrived : List WholeRequest) (ops : List Operation) → AreServedBy block size arrived ops → All (IsWithin size) ops
 all_within block size [] [] served = All-nil (IsWithin size)
 all_within block size [] (op ∷ ops) served = absurd served
-all_within block size (a ∷ asked) [] served = absurd served
-all_within block size (a ∷ asked) (op ∷ ops) served =
-    All-cons (IsWithin size) op ops (served_one block size (refusal_of size a.request) a op served.0).0 (all_within block size asked ops served.1)
+all_within block size (a ∷ arrived) [] served = absurd served
+all_within block size (a ∷ arrived) (op ∷ ops) served =
+    All-cons (IsWithin size) op ops (served_one block size (refusal_of size a.request) a op served.0).0 (all_within block size arrived ops served.1)
 
-pub all_whole : (block size : ℕ) (asked : List WholeRequest) (ops : List Operation) → AreServedBy block size asked ops → All (ReadsWhole block) ops
+pub all_whole : (block size : ℕ) (arrived : List WholeRequest) (ops : List Operation) → AreServedBy block size arrived ops → All (ReadsWhole block) ops
 all_whole block size [] [] served = All-nil (ReadsWhole block)
 all_whole block size [] (op ∷ ops) served = absurd served
-all_whole block size (a ∷ asked) [] served = absurd served
-all_whole block size (a ∷ asked) (op ∷ ops) served =
-    All-cons (ReadsWhole block) op ops (served_one block size (refusal_of size a.request) a op served.0).1 (all_whole block size asked ops served.1)
+all_whole block size (a ∷ arrived) [] served = absurd served
+all_whole block size (a ∷ arrived) (op ∷ ops) served =
+    All-cons (ReadsWhole block) op ops (served_one block size (refusal_of size a.request) a op served.0).1 (all_whole block size arrived ops served.1)
 
-pub as_many : (block size : ℕ) (asked : List WholeRequest) (ops : List Operation) → AreServedBy block size asked ops → length ops ≡ length asked
+pub as_many : (block size : ℕ) (arrived : List WholeRequest) (ops : List Operation) → AreServedBy block size arrived ops → length ops ≡ length arrived
 as_many block size [] [] served = refl
 as_many block size [] (op ∷ ops) served = absurd served
-as_many block size (a ∷ asked) [] served = absurd served
-as_many block size (a ∷ asked) (op ∷ ops) served = ap (λ (n : ℕ). suc n) (as_many block size asked ops served.1)
+as_many block size (a ∷ arrived) [] served = absurd served
+as_many block size (a ∷ arrived) (op ∷ ops) served = ap (λ (n : ℕ). suc n) (as_many block size arrived ops served.1)
 
-pub served_by_more : (block size : ℕ) (asked : List WholeRequest) (ops : List Operation) (a : WholeRequest) (op : Operation) → AreServedBy block size asked ops → DoesIfAccepted (refusal_of size a.request) block size a op
-    → AreServedBy block size (asked ++ a ∷ []) (ops ++ op ∷ [])
+pub served_by_more : (block size : ℕ) (arrived : List WholeRequest) (ops : List Operation) (a : WholeRequest) (op : Operation) → AreServedBy block size arrived ops → DoesIfAccepted (refusal_of size a.request) block size a op
+    → AreServedBy block size (arrived ++ a ∷ []) (ops ++ op ∷ [])
 served_by_more block size [] [] a op served one = (one, tt)
 served_by_more block size [] (x ∷ ops) a op served one = absurd served
-served_by_more block size (x ∷ asked) [] a op served one = absurd served
-served_by_more block size (x ∷ asked) (y ∷ ops) a op served one = (served.0, served_by_more block size asked ops a op served.1 one)
+served_by_more block size (x ∷ arrived) [] a op served one = absurd served
+served_by_more block size (x ∷ arrived) (y ∷ ops) a op served one = (served.0, served_by_more block size arrived ops a op served.1 one)
 
 -- ---- One request and its reply
 
@@ -99,76 +99,76 @@ answered_by a reply old new is answer = record { request = is.request; payload =
 
 abbrev pub answered_requests : ℕ → ℕ → List WholeRequest → List (List ℕ) → List AnsweredRequest
 answered_requests block size [] given = []
-answered_requests block size (a ∷ asked) [] = []
-answered_requests block size (a ∷ asked) (bytes ∷ given) = answered_with a (reply_of block size a.request bytes) ∷ answered_requests block size asked given
+answered_requests block size (a ∷ arrived) [] = []
+answered_requests block size (a ∷ arrived) (bytes ∷ given) = answered_with a (reply_of block size a.request bytes) ∷ answered_requests block size arrived given
 
-pub answered_same : (block size : ℕ) (asked : List WholeRequest) (given : List (List ℕ)) → length given ≡ length asked → map asked_in (answered_requests block size asked given) ≡ asked
+pub answered_same : (block size : ℕ) (arrived : List WholeRequest) (given : List (List ℕ)) → length given ≡ length arrived → map asked_in (answered_requests block size arrived given) ≡ arrived
 answered_same block size [] given many = refl
-answered_same block size (a ∷ asked) [] many = absurd (omega (arith, many))
-answered_same block size (a ∷ asked) (bytes ∷ given) many = ap (λ (l : List WholeRequest). a ∷ l) (answered_same block size asked given (omega (arith, many)))
+answered_same block size (a ∷ arrived) [] many = absurd (omega (arith, many))
+answered_same block size (a ∷ arrived) (bytes ∷ given) many = ap (λ (l : List WholeRequest). a ∷ l) (answered_same block size arrived given (omega (arith, many)))
 
-pub answered_text : (block size : ℕ) (asked : List WholeRequest) (given : List (List ℕ)) → replies_text (answered_requests block size asked given) ≡ answers_text block size (map (λ (a : WholeRequest). a.request) asked) given
+pub answered_text : (block size : ℕ) (arrived : List WholeRequest) (given : List (List ℕ)) → replies_text (answered_requests block size arrived given) ≡ answers_text block size (map (λ (a : WholeRequest). a.request) arrived) given
 answered_text block size [] given = refl
-answered_text block size (a ∷ asked) [] = refl
-answered_text block size (a ∷ asked) (bytes ∷ given) =
-    ap (λ (l : List ℕ). reply_text a.request.cookie (reply_of block size a.request bytes) ++ l) (answered_text block size asked given)
+answered_text block size (a ∷ arrived) [] = refl
+answered_text block size (a ∷ arrived) (bytes ∷ given) =
+    ap (λ (l : List ℕ). reply_text a.request.cookie (reply_of block size a.request bytes) ++ l) (answered_text block size arrived given)
 
 reply_done : (block size : ℕ) (a : WholeRequest) (op : Operation) (o : Option NbdError) (bytes : List ℕ) → refusal_of size a.request ≡ o → DoesIfAccepted o block size a op → length bytes ≡ read_len op
     → IsReply size a.request (reply_if o (Done (asked_part block a.request bytes)))
 reply_done block size a op (Some e) bytes is s long = inl is
 reply_done block size a op None bytes is s long = (is, s.long bytes long)
 
-pub answered_fit : (block size : ℕ) (asked : List WholeRequest) (ops : List Operation) (given : List (List ℕ)) → All IsWholeRequest asked → AreServedBy block size asked ops → map length given ≡ map read_len ops
-    → All (λ (t : AnsweredRequest). IsReplied size t) (answered_requests block size asked given)
+pub answered_fit : (block size : ℕ) (arrived : List WholeRequest) (ops : List Operation) (given : List (List ℕ)) → All IsWholeRequest arrived → AreServedBy block size arrived ops → map length given ≡ map read_len ops
+    → All (λ (t : AnsweredRequest). IsReplied size t) (answered_requests block size arrived given)
 answered_fit block size [] ops given are served lens = All-nil (λ (t : AnsweredRequest). IsReplied size t)
-answered_fit block size (a ∷ asked) [] given are served lens = absurd served
-answered_fit block size (a ∷ asked) (op ∷ ops) [] are served lens = All-nil (λ (t : AnsweredRequest). IsReplied size t)
-answered_fit block size (a ∷ asked) (op ∷ ops) (bytes ∷ given) are served lens =
-    let is = All-head IsWholeRequest a asked are in
+answered_fit block size (a ∷ arrived) [] given are served lens = absurd served
+answered_fit block size (a ∷ arrived) (op ∷ ops) [] are served lens = All-nil (λ (t : AnsweredRequest). IsReplied size t)
+answered_fit block size (a ∷ arrived) (op ∷ ops) (bytes ∷ given) are served lens =
+    let is = All-head IsWholeRequest a arrived are in
     let first : length bytes ≡ read_len op = cc in
     let rest : map length given ≡ map read_len ops = cc in
-    All-cons (λ (t : AnsweredRequest). IsReplied size t) (answered_with a (reply_of block size a.request bytes)) (answered_requests block size asked given)
+    All-cons (λ (t : AnsweredRequest). IsReplied size t) (answered_with a (reply_of block size a.request bytes)) (answered_requests block size arrived given)
     (record { request = is.request; payload = is.payload; reply = reply_done block size a op (refusal_of size a.request) bytes refl served.0 first })
-    (answered_fit block size asked ops given (All-tail IsWholeRequest a asked are) served.1 rest)
+    (answered_fit block size arrived ops given (All-tail IsWholeRequest a arrived are) served.1 rest)
 
 -- no such reply says that the device has failed
 never_io : (size : ℕ) (r : Request) (o : Option NbdError) (bytes : List ℕ) → refusal_of size r ≡ o → reply_if o (Done bytes) ≡ Refused Io → ⊥
 never_io size r (Some e) bytes is says = refusal_is_other size r e is (let same : e ≡ Io = cc in same)
 never_io size r None bytes is says = cc
 
-pub answered_never_fail : (block size : ℕ) (asked : List WholeRequest) (given : List (List ℕ)) → NeverFails (answered_requests block size asked given)
+pub answered_never_fail : (block size : ℕ) (arrived : List WholeRequest) (given : List (List ℕ)) → NeverFails (answered_requests block size arrived given)
 answered_never_fail block size [] given = tt
-answered_never_fail block size (a ∷ asked) [] = tt
-answered_never_fail block size (a ∷ asked) (bytes ∷ given) =
-    (never_io size a.request (refusal_of size a.request) (asked_part block a.request bytes) refl, answered_never_fail block size asked given)
+answered_never_fail block size (a ∷ arrived) [] = tt
+answered_never_fail block size (a ∷ arrived) (bytes ∷ given) =
+    (never_io size a.request (refusal_of size a.request) (asked_part block a.request bytes) refl, answered_never_fail block size arrived given)
 
-pub answered_tell_none : (block size : ℕ) (asked : List WholeRequest) (given : List (List ℕ)) → SaysFailed (answered_requests block size asked given) → ⊥
+pub answered_tell_none : (block size : ℕ) (arrived : List WholeRequest) (given : List (List ℕ)) → SaysFailed (answered_requests block size arrived given) → ⊥
 answered_tell_none block size [] given none = none
-answered_tell_none block size (a ∷ asked) [] none = none
-answered_tell_none block size (a ∷ asked) (bytes ∷ given) (inl says) = never_io size a.request (refusal_of size a.request) (asked_part block a.request bytes) refl says
-answered_tell_none block size (a ∷ asked) (bytes ∷ given) (inr rest) = answered_tell_none block size asked given rest
+answered_tell_none block size (a ∷ arrived) [] none = none
+answered_tell_none block size (a ∷ arrived) (bytes ∷ given) (inl says) = never_io size a.request (refusal_of size a.request) (asked_part block a.request bytes) refl says
+answered_tell_none block size (a ∷ arrived) (bytes ∷ given) (inr rest) = answered_tell_none block size arrived given rest
 
-pub answered_refuse : (block size : ℕ) (failed : Type 0) (asked : List WholeRequest) (given : List (List ℕ)) → (failed → ⊥) → FailsForGood failed (answered_requests block size asked given)
+pub answered_refuse : (block size : ℕ) (failed : Type 0) (arrived : List WholeRequest) (given : List (List ℕ)) → (failed → ⊥) → FailsForGood failed (answered_requests block size arrived given)
 answered_refuse block size failed [] given alive = tt
-answered_refuse block size failed (a ∷ asked) [] alive = tt
-answered_refuse block size failed (a ∷ asked) (bytes ∷ given) alive = (
+answered_refuse block size failed (a ∷ arrived) [] alive = tt
+answered_refuse block size failed (a ∷ arrived) (bytes ∷ given) alive = (
   λ f. absurd (alive f),
-  answered_refuse block size (failed ⊎ (reply_of block size a.request bytes ≡ Refused Io)) asked given (λ e. elim e [
+  answered_refuse block size (failed ⊎ (reply_of block size a.request bytes ≡ Refused Io)) arrived given (λ e. elim e [
     | inl f ↦ alive f
     | inr says ↦ never_io size a.request (refusal_of size a.request) (asked_part block a.request bytes) refl says
   ]),
 )
 
-pub answered_service : (block size : ℕ) (asked : List WholeRequest) (ops : List Operation) (bytes : List ℕ) → All IsWholeRequest asked → AreServedBy block size asked ops → length bytes ≡ size
-    → IsService bytes (answered_requests block size asked (all_given ops bytes)) (all_done ops bytes)
+pub answered_service : (block size : ℕ) (arrived : List WholeRequest) (ops : List Operation) (bytes : List ℕ) → All IsWholeRequest arrived → AreServedBy block size arrived ops → length bytes ≡ size
+    → IsService bytes (answered_requests block size arrived (all_given ops bytes)) (all_done ops bytes)
 answered_service block size [] [] bytes are served long = refl
 answered_service block size [] (op ∷ ops) bytes are served long = absurd served
-answered_service block size (a ∷ asked) [] bytes are served long = absurd served
-answered_service block size (a ∷ asked) (op ∷ ops) bytes are served long = (
+answered_service block size (a ∷ arrived) [] bytes are served long = absurd served
+answered_service block size (a ∷ arrived) (op ∷ ops) bytes are served long = (
   done_by op bytes,
-  answered_by a (reply_of block size a.request (given_by op bytes)) bytes (done_by op bytes) (All-head IsWholeRequest a asked are)
+  answered_by a (reply_of block size a.request (given_by op bytes)) bytes (done_by op bytes) (All-head IsWholeRequest a arrived are)
       (answer_done block size a op (refusal_of size a.request) bytes refl served.0 long),
-  answered_service block size asked ops (done_by op bytes) (All-tail IsWholeRequest a asked are) served.1
+  answered_service block size arrived ops (done_by op bytes) (All-tail IsWholeRequest a arrived are) served.1
       (length_done size op bytes long (served_one block size (refusal_of size a.request) a op served.0).0),
 )
 
@@ -176,89 +176,89 @@ answered_service block size (a ∷ asked) (op ∷ ops) bytes are served long = (
 
 abbrev pub refused_requests : ℕ → List WholeRequest → NbdError → List AnsweredRequest
 refused_requests size [] e = []
-refused_requests size (a ∷ asked) e = answered_with a (reply_if (refusal_of size a.request) (Refused e)) ∷ refused_requests size asked e
+refused_requests size (a ∷ arrived) e = answered_with a (reply_if (refusal_of size a.request) (Refused e)) ∷ refused_requests size arrived e
 
 -- each of these replies refuses
-pub all_refusals : (size : ℕ) (asked : List WholeRequest) (e : NbdError) → All (λ (t : AnsweredRequest). IsRefusal t.reply) (refused_requests size asked e)
+pub all_refusals : (size : ℕ) (arrived : List WholeRequest) (e : NbdError) → All (λ (t : AnsweredRequest). IsRefusal t.reply) (refused_requests size arrived e)
 all_refusals size [] e = All-nil (λ (t : AnsweredRequest). IsRefusal t.reply)
-all_refusals size (a ∷ asked) e = All-cons (λ (t : AnsweredRequest). IsRefusal t.reply) (answered_with a (reply_if (refusal_of size a.request) (Refused e))) (refused_requests size asked e) (is_refusal (refusal_of size a.request)) (all_refusals size asked e)
+all_refusals size (a ∷ arrived) e = All-cons (λ (t : AnsweredRequest). IsRefusal t.reply) (answered_with a (reply_if (refusal_of size a.request) (Refused e))) (refused_requests size arrived e) (is_refusal (refusal_of size a.request)) (all_refusals size arrived e)
   where
     is_refusal : (o : Option NbdError) → IsRefusal (reply_if o (Refused e))
     is_refusal (Some why) = tt
     is_refusal None = tt
 
-pub refused_same : (size : ℕ) (asked : List WholeRequest) (e : NbdError) → map asked_in (refused_requests size asked e) ≡ asked
+pub refused_same : (size : ℕ) (arrived : List WholeRequest) (e : NbdError) → map asked_in (refused_requests size arrived e) ≡ arrived
 refused_same size [] e = refl
-refused_same size (a ∷ asked) e = ap (λ (l : List WholeRequest). a ∷ l) (refused_same size asked e)
+refused_same size (a ∷ arrived) e = ap (λ (l : List WholeRequest). a ∷ l) (refused_same size arrived e)
 
-pub refused_text : (size : ℕ) (asked : List WholeRequest) (e : NbdError) → replies_text (refused_requests size asked e) ≡ refusals_text size (map (λ (a : WholeRequest). a.request) asked) e
+pub refused_text : (size : ℕ) (arrived : List WholeRequest) (e : NbdError) → replies_text (refused_requests size arrived e) ≡ refusals_text size (map (λ (a : WholeRequest). a.request) arrived) e
 refused_text size [] e = refl
-refused_text size (a ∷ asked) e = ap (λ (l : List ℕ). reply_text a.request.cookie (reply_if (refusal_of size a.request) (Refused e)) ++ l) (refused_text size asked e)
+refused_text size (a ∷ arrived) e = ap (λ (l : List ℕ). reply_text a.request.cookie (reply_if (refusal_of size a.request) (Refused e)) ++ l) (refused_text size arrived e)
 
 reply_refused : (size : ℕ) (r : Request) (o : Option NbdError) (e : NbdError) → (e ≡ Io) ⊎ (e ≡ NoMemory) → refusal_of size r ≡ o → IsReply size r (reply_if o (Refused e))
 reply_refused size r (Some f) e why is = inl is
 reply_refused size r None e why is = inr (is, why)
 
-pub refused_fit : (size : ℕ) (asked : List WholeRequest) (e : NbdError) → (e ≡ Io) ⊎ (e ≡ NoMemory) → All IsWholeRequest asked → All (λ (t : AnsweredRequest). IsReplied size t) (refused_requests size asked e)
+pub refused_fit : (size : ℕ) (arrived : List WholeRequest) (e : NbdError) → (e ≡ Io) ⊎ (e ≡ NoMemory) → All IsWholeRequest arrived → All (λ (t : AnsweredRequest). IsReplied size t) (refused_requests size arrived e)
 refused_fit size [] e why are = All-nil (λ (t : AnsweredRequest). IsReplied size t)
-refused_fit size (a ∷ asked) e why are =
-    let is = All-head IsWholeRequest a asked are in
-    All-cons (λ (t : AnsweredRequest). IsReplied size t) (answered_with a (reply_if (refusal_of size a.request) (Refused e))) (refused_requests size asked e)
+refused_fit size (a ∷ arrived) e why are =
+    let is = All-head IsWholeRequest a arrived are in
+    All-cons (λ (t : AnsweredRequest). IsReplied size t) (answered_with a (reply_if (refusal_of size a.request) (Refused e))) (refused_requests size arrived e)
     (record { request = is.request; payload = is.payload; reply = reply_refused size a.request (refusal_of size a.request) e why refl })
-    (refused_fit size asked e why (All-tail IsWholeRequest a asked are))
+    (refused_fit size arrived e why (All-tail IsWholeRequest a arrived are))
 
 is_refused : (o : Option NbdError) (e : NbdError) → IsRefusal (reply_if o (Refused e))
 is_refused (Some f) e = tt
 is_refused None e = tt
 
-pub refused_refuse : (size : ℕ) (failed : Type 0) (asked : List WholeRequest) (e : NbdError) → FailsForGood failed (refused_requests size asked e)
+pub refused_refuse : (size : ℕ) (failed : Type 0) (arrived : List WholeRequest) (e : NbdError) → FailsForGood failed (refused_requests size arrived e)
 refused_refuse size failed [] e = tt
-refused_refuse size failed (a ∷ asked) e =
-    (λ f. is_refused (refusal_of size a.request) e, refused_refuse size (failed ⊎ (reply_if (refusal_of size a.request) (Refused e) ≡ Refused Io)) asked e)
+refused_refuse size failed (a ∷ arrived) e =
+    (λ f. is_refused (refusal_of size a.request) e, refused_refuse size (failed ⊎ (reply_if (refusal_of size a.request) (Refused e) ≡ Refused Io)) arrived e)
 
 io_by : (size : ℕ) (r : Request) (o : Option NbdError) (e : NbdError) → refusal_of size r ≡ o → reply_if o (Refused e) ≡ Refused Io → e ≡ Io
 io_by size r (Some f) e is says = absurd (refusal_is_other size r f is (let same : f ≡ Io = cc in same))
 io_by size r None e is says = cc
 
-pub refused_tell : (size : ℕ) (asked : List WholeRequest) (e : NbdError) → SaysFailed (refused_requests size asked e) → e ≡ Io
+pub refused_tell : (size : ℕ) (arrived : List WholeRequest) (e : NbdError) → SaysFailed (refused_requests size arrived e) → e ≡ Io
 refused_tell size [] e none = absurd none
-refused_tell size (a ∷ asked) e (inl says) = io_by size a.request (refusal_of size a.request) e refl says
-refused_tell size (a ∷ asked) e (inr rest) = refused_tell size asked e rest
+refused_tell size (a ∷ arrived) e (inl says) = io_by size a.request (refusal_of size a.request) e refl says
+refused_tell size (a ∷ arrived) e (inr rest) = refused_tell size arrived e rest
 
-pub refused_never_fail : (size : ℕ) (asked : List WholeRequest) (e : NbdError) → (e ≡ Io → ⊥) → NeverFails (refused_requests size asked e)
+pub refused_never_fail : (size : ℕ) (arrived : List WholeRequest) (e : NbdError) → (e ≡ Io → ⊥) → NeverFails (refused_requests size arrived e)
 refused_never_fail size [] e other = tt
-refused_never_fail size (a ∷ asked) e other = (λ says. other (io_by size a.request (refusal_of size a.request) e refl says), refused_never_fail size asked e other)
+refused_never_fail size (a ∷ arrived) e other = (λ says. other (io_by size a.request (refusal_of size a.request) e refl says), refused_never_fail size arrived e other)
 
 -- nothing was done
-pub refused_idle : (size : ℕ) (asked : List WholeRequest) (e : NbdError) (bytes : List ℕ) → (e ≡ Io) ⊎ (e ≡ NoMemory) → All IsWholeRequest asked → length bytes ≡ size
-    → IsService bytes (refused_requests size asked e) bytes
+pub refused_idle : (size : ℕ) (arrived : List WholeRequest) (e : NbdError) (bytes : List ℕ) → (e ≡ Io) ⊎ (e ≡ NoMemory) → All IsWholeRequest arrived → length bytes ≡ size
+    → IsService bytes (refused_requests size arrived e) bytes
 refused_idle size [] e bytes why are long = refl
-refused_idle size (a ∷ asked) e bytes why are long = (
+refused_idle size (a ∷ arrived) e bytes why are long = (
   bytes,
-  answered_by a (reply_if (refusal_of size a.request) (Refused e)) bytes bytes (All-head IsWholeRequest a asked are) (answer_none size a (refusal_of size a.request) e bytes why refl long),
-  refused_idle size asked e bytes why (All-tail IsWholeRequest a asked are) long,
+  answered_by a (reply_if (refusal_of size a.request) (Refused e)) bytes bytes (All-head IsWholeRequest a arrived are) (answer_none size a (refusal_of size a.request) e bytes why refl long),
+  refused_idle size arrived e bytes why (All-tail IsWholeRequest a arrived are) long,
 )
 
 -- the operations were begun
-pub refused_service : (block size : ℕ) (asked : List WholeRequest) (ops : List Operation) (e : NbdError) (bytes later : List ℕ) → (e ≡ Io) ⊎ (e ≡ NoMemory) → All IsWholeRequest asked → AreServedBy block size asked ops
-    → length bytes ≡ size → AreBegun ops bytes later → IsService bytes (refused_requests size asked e) later
+pub refused_service : (block size : ℕ) (arrived : List WholeRequest) (ops : List Operation) (e : NbdError) (bytes later : List ℕ) → (e ≡ Io) ⊎ (e ≡ NoMemory) → All IsWholeRequest arrived → AreServedBy block size arrived ops
+    → length bytes ≡ size → AreBegun ops bytes later → IsService bytes (refused_requests size arrived e) later
 refused_service block size [] [] e bytes later why are served long same = same
 refused_service block size [] (op ∷ ops) e bytes later why are served long begun = absurd served
-refused_service block size (a ∷ asked) [] e bytes later why are served long begun = absurd served
-refused_service block size (a ∷ asked) (op ∷ ops) e bytes later why are served long (inl part) =
-    let is = All-head IsWholeRequest a asked are in
+refused_service block size (a ∷ arrived) [] e bytes later why are served long begun = absurd served
+refused_service block size (a ∷ arrived) (op ∷ ops) e bytes later why are served long (inl part) =
+    let is = All-head IsWholeRequest a arrived are in
     let within = (served_one block size (refusal_of size a.request) a op served.0).0 in (
       later,
       answered_by a (reply_if (refusal_of size a.request) (Refused e)) bytes later is (answer_part block size a op (refusal_of size a.request) e bytes later why refl served.0 long part),
-      refused_idle size asked e later why (All-tail IsWholeRequest a asked are) (length_part size op bytes later long within part),
+      refused_idle size arrived e later why (All-tail IsWholeRequest a arrived are) (length_part size op bytes later long within part),
     )
-refused_service block size (a ∷ asked) (op ∷ ops) e bytes later why are served long (inr rest) =
-    let is = All-head IsWholeRequest a asked are in
+refused_service block size (a ∷ arrived) (op ∷ ops) e bytes later why are served long (inr rest) =
+    let is = All-head IsWholeRequest a arrived are in
     let within = (served_one block size (refusal_of size a.request) a op served.0).0 in (
       done_by op bytes,
       answered_by a (reply_if (refusal_of size a.request) (Refused e)) bytes (done_by op bytes) is
           (answer_part block size a op (refusal_of size a.request) e bytes (done_by op bytes) why refl served.0 long (part_whole op bytes)),
-      refused_service block size asked ops e (done_by op bytes) later why (All-tail IsWholeRequest a asked are) served.1 (length_done size op bytes long within) rest,
+      refused_service block size arrived ops e (done_by op bytes) later why (All-tail IsWholeRequest a arrived are) served.1 (length_done size op bytes long within) rest,
     )
 
 -- ---- A batch at which the device stopped
@@ -268,34 +268,34 @@ left_part : (block size : ℕ) (a : WholeRequest) (op : Operation) (o : Option N
 left_part block size a op (Some e) bytes later nothing part = subst (λ (x : Operation). IsPartOf x bytes later) nothing part
 left_part block size a op None bytes later s part = s.in_part bytes later part
 
-pub requests_begun : (block size : ℕ) (asked : List WholeRequest) (ops : List Operation) (bytes later : List ℕ) → AreServedBy block size asked ops → length bytes ≡ size → AreBegun ops bytes later
-    → AreRequestsBegun asked bytes later
+pub requests_begun : (block size : ℕ) (arrived : List WholeRequest) (ops : List Operation) (bytes later : List ℕ) → AreServedBy block size arrived ops → length bytes ≡ size → AreBegun ops bytes later
+    → AreRequestsBegun arrived bytes later
 requests_begun block size [] [] bytes later served long same = same
 requests_begun block size [] (op ∷ ops) bytes later served long begun = absurd served
-requests_begun block size (a ∷ asked) [] bytes later served long begun = absurd served
-requests_begun block size (a ∷ asked) (op ∷ ops) bytes later served long (inl part) =
+requests_begun block size (a ∷ arrived) [] bytes later served long begun = absurd served
+requests_begun block size (a ∷ arrived) (op ∷ ops) bytes later served long (inl part) =
     inl (subst (λ (n : ℕ). IsLeftIf (refusal_of n a.request) bytes (IsPartly a.request.command bytes a.request.offset a.request.length a.payload later) later) (sym long)
     (left_part block size a op (refusal_of size a.request) bytes later served.0 part))
-requests_begun block size (a ∷ asked) (op ∷ ops) bytes later served long (inr rest) =
+requests_begun block size (a ∷ arrived) (op ∷ ops) bytes later served long (inr rest) =
     let within = (served_one block size (refusal_of size a.request) a op served.0).0 in
-    inr (subst (λ (b : List ℕ). AreRequestsBegun asked b later) (done_as_asked block size a op bytes served.0 long)
-    (requests_begun block size asked ops (done_by op bytes) later served.1 (length_done size op bytes long within) rest))
+    inr (subst (λ (b : List ℕ). AreRequestsBegun arrived b later) (done_as_asked block size a op bytes served.0 long)
+    (requests_begun block size arrived ops (done_by op bytes) later served.1 (length_done size op bytes long within) rest))
 
 -- a request that isn't refused, among those that were asked
-pub accepted_in : (size : ℕ) (asked : List WholeRequest) (before after : List Request) (r : Request) → map (λ (a : WholeRequest). a.request) asked ≡ before ++ r ∷ after → refusal_of size r ≡ None
-    → (xs ys : List WholeRequest) × (a : WholeRequest) × (asked ≡ xs ++ a ∷ ys) × (refusal_of size a.request ≡ None)
+pub accepted_in : (size : ℕ) (arrived : List WholeRequest) (before after : List Request) (r : Request) → map (λ (a : WholeRequest). a.request) arrived ≡ before ++ r ∷ after → refusal_of size r ≡ None
+    → (xs ys : List WholeRequest) × (a : WholeRequest) × (arrived ≡ xs ++ a ∷ ys) × (refusal_of size a.request ≡ None)
 accepted_in size [] [] after r is none = absurd cc
 accepted_in size [] (b ∷ before) after r is none = absurd cc
-accepted_in size (a ∷ asked) [] after r is none = let same : a.request ≡ r = cc in ([], asked, a, refl, ap (refusal_of size) same ∙ none)
-accepted_in size (a ∷ asked) (b ∷ before) after r is none =
-    let rest : map (λ (x : WholeRequest). x.request) asked ≡ before ++ r ∷ after = cc in
-    let k = accepted_in size asked before after r rest none in
+accepted_in size (a ∷ arrived) [] after r is none = let same : a.request ≡ r = cc in ([], arrived, a, refl, ap (refusal_of size) same ∙ none)
+accepted_in size (a ∷ arrived) (b ∷ before) after r is none =
+    let rest : map (λ (x : WholeRequest). x.request) arrived ≡ before ++ r ∷ after = cc in
+    let k = accepted_in size arrived before after r rest none in
     (a ∷ k.0, k.1, k.2, ap (λ (l : List WholeRequest). a ∷ l) k.3, k.4)
 
 -- where a request isn't refused for its own sake, the reply to it says why the batch was refused
-refused_says_fault : (size : ℕ) (asked : List WholeRequest) (e : NbdError) → (e ≡ Io) ⊎ (e ≡ NoMemory)
-    → ((xs ys : List WholeRequest) × (a : WholeRequest) × (asked ≡ xs ++ a ∷ ys) × (refusal_of size a.request ≡ None)) → SaysFault (refused_requests size asked e)
-refused_says_fault size asked e why (xs, ys, a, split, none) = subst (λ (l : List WholeRequest). SaysFault (refused_requests size l e)) (sym split) (among xs)
+refused_says_fault : (size : ℕ) (arrived : List WholeRequest) (e : NbdError) → (e ≡ Io) ⊎ (e ≡ NoMemory)
+    → ((xs ys : List WholeRequest) × (a : WholeRequest) × (arrived ≡ xs ++ a ∷ ys) × (refusal_of size a.request ≡ None)) → SaysFault (refused_requests size arrived e)
+refused_says_fault size arrived e why (xs, ys, a, split, none) = subst (λ (l : List WholeRequest). SaysFault (refused_requests size l e)) (sym split) (among xs)
   where
     says : reply_if (refusal_of size a.request) (Refused e) ≡ Refused e
     says = ap (λ (o : Option NbdError). reply_if o (Refused e)) none
@@ -307,13 +307,13 @@ refused_says_fault size asked e why (xs, ys, a, split, none) = subst (λ (l : Li
 -- ---- Requests that are collected, one after the other
 
 pub record Collected (block size : ℕ) (requests : List Request) (operations : List Operation) (unread unread' : Option (List ℕ)) : Type 0 where
-  pub asked : List WholeRequest
-  pub collected : AreCollected block size asked requests operations
-  pub read : Consumes unread unread' (whole_requests_text asked)
+  pub arrived : List WholeRequest
+  pub collected : AreCollected block size arrived requests operations
+  pub read : Consumes unread unread' (whole_requests_text arrived)
 
 pub collected_none : (block size : ℕ) (requests : List Request) (operations : List Operation) (unread : Option (List ℕ)) → requests ≡ [] → operations ≡ [] → Collected block size requests operations unread unread
 collected_none block size requests operations unread no_requests no_operations = record {
-  asked = [];
+  arrived = [];
   collected = record { all = All-nil IsWholeRequest; same = sym no_requests; served = subst (AreServedBy block size []) (sym no_operations) tt };
   read = Consumes-nil unread;
 }
@@ -322,25 +322,25 @@ module _ (block size : ℕ) (requests : List Request) (operations : List Operati
   pub collected_more : (requests' : List Request) (operations' : List Operation) (later : Option (List ℕ)) (a : WholeRequest) (op : Operation) → IsWholeRequest a → requests' ≡ requests ++ a.request ∷ [] → operations' ≡ operations ++ op ∷ []
       → DoesIfAccepted (refusal_of size a.request) block size a op → Consumes mid later (request_text a.request ++ a.payload) → Collected block size requests' operations' unread later
   collected_more requests' operations' later a op is more more' serves came = record {
-    asked = so_far.asked ++ a ∷ [];
+    arrived = so_far.arrived ++ a ∷ [];
     collected = record {
-      all = All-append IsWholeRequest so_far.asked (a ∷ []) so_far.collected.all (All-cons IsWholeRequest a [] is (All-nil IsWholeRequest));
-      same = map-append (λ (x : WholeRequest). x.request) so_far.asked (a ∷ []) ∙ ap (λ (l : List Request). l ++ a.request ∷ []) so_far.collected.same ∙ sym more;
-      served = subst (AreServedBy block size (so_far.asked ++ a ∷ [])) (sym more') (served_by_more block size so_far.asked operations a op so_far.collected.served serves);
+      all = All-append IsWholeRequest so_far.arrived (a ∷ []) so_far.collected.all (All-cons IsWholeRequest a [] is (All-nil IsWholeRequest));
+      same = map-append (λ (x : WholeRequest). x.request) so_far.arrived (a ∷ []) ∙ ap (λ (l : List Request). l ++ a.request ∷ []) so_far.collected.same ∙ sym more;
+      served = subst (AreServedBy block size (so_far.arrived ++ a ∷ [])) (sym more') (served_by_more block size so_far.arrived operations a op so_far.collected.served serves);
     };
     read = subst (Consumes unread later)
-        (ap (λ (l : List ℕ). whole_requests_text so_far.asked ++ l) (sym (append-nil (request_text a.request ++ a.payload)))
-        ∙ sym (flat_map-append (λ (x : WholeRequest). request_text x.request ++ x.payload) so_far.asked (a ∷ [])))
-        (Consumes-trans unread mid later (whole_requests_text so_far.asked) (request_text a.request ++ a.payload) so_far.read came);
+        (ap (λ (l : List ℕ). whole_requests_text so_far.arrived ++ l) (sym (append-nil (request_text a.request ++ a.payload)))
+        ∙ sym (flat_map-append (λ (x : WholeRequest). request_text x.request ++ x.payload) so_far.arrived (a ∷ [])))
+        (Consumes-trans unread mid later (whole_requests_text so_far.arrived) (request_text a.request ++ a.payload) so_far.read came);
   }
 
   pub gathered_then : (requests' : List Request) (operations' : List Operation) (later : Option (List ℕ)) (close : Close) (part : List ℕ) → requests' ≡ requests → operations' ≡ operations → Consumes mid later part
       → EndsBy close part later → HasGathered block size requests' operations' close unread later
   gathered_then requests' operations' later close part same same' came ends = record {
-    asked = so_far.asked;
+    arrived = so_far.arrived;
     part = part;
-    collected = record { all = so_far.collected.all; same = so_far.collected.same ∙ sym same; served = subst (AreServedBy block size so_far.asked) (sym same') so_far.collected.served };
-    read = Consumes-trans unread mid later (whole_requests_text so_far.asked) part so_far.read came;
+    collected = record { all = so_far.collected.all; same = so_far.collected.same ∙ sym same; served = subst (AreServedBy block size so_far.arrived) (sym same') so_far.collected.served };
+    read = Consumes-trans unread mid later (whole_requests_text so_far.arrived) part so_far.read came;
     ends = ends;
   }
 
@@ -359,85 +359,85 @@ one_batch {new = new} {batch = batch} fits refused serves = record { fits = fits
 abbrev pub Begun : List Operation → Held (List ℕ) → Held (List ℕ) → Type 0
 Begun ops from to = AreBegun ops from.now to.now × KeepsPart (AreBegun ops) from to
 
-module _ {D W E : Type 0} {kind : DeviceKind D W E} (block size : ℕ) (old new : D) (asked : List WholeRequest)
+module _ {D W E : Type 0} {kind : DeviceKind D W E} (block size : ℕ) (old new : D) (arrived : List WholeRequest)
     (sized : (may_lie : Bool) (world : W) (bytes : List ℕ) → kind.holds may_lie old world bytes → length bytes ≡ size) where
   -- all operations were done
-  pub all_answered : (requests : List Request) (ops : List Operation) (given : List (List ℕ)) → AreCollected block size asked requests ops → map length given ≡ map read_len ops → (kind.failed old → ⊥)
+  pub all_answered : (requests : List Request) (ops : List Operation) (given : List (List ℕ)) → AreCollected block size arrived requests ops → map length given ≡ map read_len ops → (kind.failed old → ⊥)
       → GoesOn kind.had kind.hears (IsHeld kind.holds kind.kept) old
       (λ may_lie before later. (given ≡ all_given ops before.now) × (later.now ≡ all_done ops before.now) × KeepsAll (TouchSomeByte ops) before later) new
-      → HasRepliedToAll kind size old new asked (answered_requests block size asked given)
+      → HasRepliedToAll kind size old new arrived (answered_requests block size arrived given)
   all_answered requests ops given collected lens alive goes =
-      let many : length given ≡ length asked = sym (length-map given length) ∙ ap length lens ∙ length-map ops read_len ∙ as_many block size asked ops collected.served in
-      let same = answered_same block size asked given many in
+      let many : length given ≡ length arrived = sym (length-map given length) ∙ ap length lens ∙ length-map ops read_len ∙ as_many block size arrived ops collected.served in
+      let same = answered_same block size arrived given many in
       record {
         same = same;
-        served = one_batch (answered_fit block size asked ops given collected.all collected.served lens) (answered_refuse block size (kind.failed old) asked given alive)
+        served = one_batch (answered_fit block size arrived ops given collected.all collected.served lens) (answered_refuse block size (kind.failed old) arrived given alive)
             (weaker goes (λ may_lie world before later h step.
             let long = sized may_lie world before.now h.0 in (
-              subst (λ (l : List ℕ). IsService before.now (answered_requests block size asked given) l) (sym step.1)
-                  (subst (λ (gs : List (List ℕ)). IsService before.now (answered_requests block size asked gs) (all_done ops before.now)) (sym step.0)
-                  (answered_service block size asked ops before.now collected.all collected.served long)),
-              λ honest. answered_never_fail block size asked given,
+              subst (λ (l : List ℕ). IsService before.now (answered_requests block size arrived given) l) (sym step.1)
+                  (subst (λ (gs : List (List ℕ)). IsService before.now (answered_requests block size arrived gs) (all_done ops before.now)) (sym step.0)
+                  (answered_service block size arrived ops before.now collected.all collected.served long)),
+              λ honest. answered_never_fail block size arrived given,
               inl (subst (λ (l : List WholeRequest). (later.now ≡ array_after_requests l before.now) × KeepsAll (RequestsTouchSomeByte size l) before later) (sym same)
-                  (step.1 ∙ all_done_as_asked block size asked ops before.now collected.served long, all_weaker step.2 (some_touches block size asked ops collected.served))),
+                  (step.1 ∙ all_done_as_asked block size arrived ops before.now collected.served long, all_weaker step.2 (some_touches block size arrived ops collected.served))),
             )));
-        reported = λ says. absurd (answered_tell_none block size asked given says);
+        reported = λ says. absurd (answered_tell_none block size arrived given says);
       }
 
   -- the operations were begun, and all requests are refused
-  pub all_refused : (requests : List Request) (ops : List Operation) (e : NbdError) → AreCollected block size asked requests ops → (e ≡ Io) ⊎ (e ≡ NoMemory) → (e ≡ Io → kind.failed new)
+  pub all_refused : (requests : List Request) (ops : List Operation) (e : NbdError) → AreCollected block size arrived requests ops → (e ≡ Io) ⊎ (e ≡ NoMemory) → (e ≡ Io → kind.failed new)
       → (before after : List Request) (r : Request) → requests ≡ before ++ r ∷ after → refusal_of size r ≡ None
       → GoesOn kind.had kind.hears (IsHeld kind.holds kind.kept) old (λ may_lie before later. Begun ops before later × (e ≡ Io → may_lie ≡ true)) new
-      → HasRepliedToAll kind size old new asked (refused_requests size asked e)
+      → HasRepliedToAll kind size old new arrived (refused_requests size arrived e)
   all_refused requests ops e collected why fails before after r split none goes = record {
-    same = refused_same size asked e;
-    served = one_batch (refused_fit size asked e why collected.all) (refused_refuse size (kind.failed old) asked e)
+    same = refused_same size arrived e;
+    served = one_batch (refused_fit size arrived e why collected.all) (refused_refuse size (kind.failed old) arrived e)
         (weaker goes (λ may_lie world from to h step.
         let long = sized may_lie world from.now h.0 in (
-          refused_service block size asked ops e from.now to.now why collected.all collected.served long step.0.0,
-          λ honest. refused_never_fail size asked e (λ io. let lies : may_lie ≡ true = step.1 io in cc),
+          refused_service block size arrived ops e from.now to.now why collected.all collected.served long step.0.0,
+          λ honest. refused_never_fail size arrived e (λ io. let lies : may_lie ≡ true = step.1 io in cc),
           inr (
-            all_refusals size asked e,
+            all_refusals size arrived e,
             inr (
-              refused_says_fault size asked e why (accepted_in size asked before after r (collected.same ∙ split) none),
-              subst (λ (l : List WholeRequest). KeepsPart (AreRequestsBegun l) from to) (sym (refused_same size asked e))
-                  (part_weaker step.0.1 (λ x begun. requests_begun block size asked ops from.now x collected.served long begun)),
+              refused_says_fault size arrived e why (accepted_in size arrived before after r (collected.same ∙ split) none),
+              subst (λ (l : List WholeRequest). KeepsPart (AreRequestsBegun l) from to) (sym (refused_same size arrived e))
+                  (part_weaker step.0.1 (λ x begun. requests_begun block size arrived ops from.now x collected.served long begun)),
             ),
           ),
         )));
-    reported = λ says. fails (refused_tell size asked e says);
+    reported = λ says. fails (refused_tell size arrived e says);
   }
 
   -- the device stopped
-  pub all_begun : (requests : List Request) (ops : List Operation) → AreCollected block size asked requests ops → (before after : List Request) (r : Request) → requests ≡ before ++ r ∷ after → refusal_of size r ≡ None
-      → GoesOn kind.had kind.hears (IsHeld kind.holds kind.kept) old (λ may_lie before later. Begun ops before later) new → HasBegun kind size old new asked
+  pub all_begun : (requests : List Request) (ops : List Operation) → AreCollected block size arrived requests ops → (before after : List Request) (r : Request) → requests ≡ before ++ r ∷ after → refusal_of size r ≡ None
+      → GoesOn kind.had kind.hears (IsHeld kind.holds kind.kept) old (λ may_lie before later. Begun ops before later) new → HasBegun kind size old new arrived
   all_begun requests ops collected before after r split none goes = record {
-    accepted = accepted_in size asked before after r (collected.same ∙ split) none;
+    accepted = accepted_in size arrived before after r (collected.same ∙ split) none;
     begun = weaker goes (λ may_lie world from to h step.
         let long = sized may_lie world from.now h.0 in (
-          requests_begun block size asked ops from.now to.now collected.served long step.0,
-          part_weaker step.1 (λ x begun. requests_begun block size asked ops from.now x collected.served long begun),
+          requests_begun block size arrived ops from.now to.now collected.served long step.0,
+          part_weaker step.1 (λ x begun. requests_begun block size arrived ops from.now x collected.served long begun),
         ));
   }
 
 -- a device that isn't called, where all requests are refused for want of memory
-pub refused_at_rest : {D W E : Type 0} {kind : DeviceKind D W E} (size : ℕ) (d : D) (asked : List WholeRequest)
-    → ((may_lie : Bool) (world : W) (bytes : List ℕ) → kind.holds may_lie d world bytes → length bytes ≡ size) → All IsWholeRequest asked
-    → HasRepliedToAll kind size d d asked (refused_requests size asked NoMemory)
-refused_at_rest {kind = kind} size d asked sized are = record {
-  same = refused_same size asked NoMemory;
-  served = one_batch (refused_fit size asked NoMemory (inr refl) are) (refused_refuse size (kind.failed d) asked NoMemory)
+pub refused_at_rest : {D W E : Type 0} {kind : DeviceKind D W E} (size : ℕ) (d : D) (arrived : List WholeRequest)
+    → ((may_lie : Bool) (world : W) (bytes : List ℕ) → kind.holds may_lie d world bytes → length bytes ≡ size) → All IsWholeRequest arrived
+    → HasRepliedToAll kind size d d arrived (refused_requests size arrived NoMemory)
+refused_at_rest {kind = kind} size d arrived sized are = record {
+  same = refused_same size arrived NoMemory;
+  served = one_batch (refused_fit size arrived NoMemory (inr refl) are) (refused_refuse size (kind.failed d) arrived NoMemory)
       (at_rest (λ may_lie world before h. (
-        refused_idle size asked NoMemory before.now (inr refl) are (sized may_lie world before.now h.0),
-        λ honest. refused_never_fail size asked NoMemory (λ io. cc),
-        inr (all_refusals size asked NoMemory, inl (refl, refl)),
+        refused_idle size arrived NoMemory before.now (inr refl) are (sized may_lie world before.now h.0),
+        λ honest. refused_never_fail size arrived NoMemory (λ io. cc),
+        inr (all_refusals size arrived NoMemory, inl (refl, refl)),
       )));
-  reported = λ says. absurd (let none : NoMemory ≡ Io = refused_tell size asked NoMemory says in cc);
+  reported = λ says. absurd (let none : NoMemory ≡ Io = refused_tell size arrived NoMemory says in cc);
 }
 
 -- how many requests these are
-pub length_same : (asked : List WholeRequest) (answered : List AnsweredRequest) → map asked_in answered ≡ asked → length answered ≡ length asked
-length_same asked answered same = sym (length-map answered asked_in) ∙ ap length same
+pub length_same : (arrived : List WholeRequest) (answered : List AnsweredRequest) → map asked_in answered ≡ arrived → length answered ≡ length arrived
+length_same arrived answered same = sym (length-map answered asked_in) ∙ ap length same
 
 pub behind_cut : (f : NbdFault) (part : List ℕ) (new : Option (List ℕ)) → IsCutOff f part new → IsBehind part
 behind_cut fault.Read part new h = inr (inr (inl h))
@@ -586,19 +586,19 @@ without_memory_one close r part unread is ends =
 
 -- ---- The texts of the replies to a batch, and what was asked
 
-pub text_refused : (size : ℕ) (asked : List WholeRequest) (e : NbdError) (requests shown : List Request) → map (λ (a : WholeRequest). a.request) asked ≡ requests → shown ≡ requests
-    → refusals_text size shown e ≡ replies_text (refused_requests size asked e)
-text_refused size asked e requests shown are same = ap (λ (l : List Request). refusals_text size l e) (same ∙ sym are) ∙ sym (refused_text size asked e)
+pub text_refused : (size : ℕ) (arrived : List WholeRequest) (e : NbdError) (requests shown : List Request) → map (λ (a : WholeRequest). a.request) arrived ≡ requests → shown ≡ requests
+    → refusals_text size shown e ≡ replies_text (refused_requests size arrived e)
+text_refused size arrived e requests shown are same = ap (λ (l : List Request). refusals_text size l e) (same ∙ sym are) ∙ sym (refused_text size arrived e)
 
-pub text_answered : (block size : ℕ) (asked : List WholeRequest) (requests shown : List Request) (given shown' : List (List ℕ)) → map (λ (a : WholeRequest). a.request) asked ≡ requests → shown ≡ requests → shown' ≡ given
-    → answers_text block size shown shown' ≡ replies_text (answered_requests block size asked given)
-text_answered block size asked requests shown given shown' are same same' =
-    ap (λ (l : List Request). answers_text block size l shown') (same ∙ sym are) ∙ ap (answers_text block size (map (λ (a : WholeRequest). a.request) asked)) same' ∙ sym (answered_text block size asked given)
+pub text_answered : (block size : ℕ) (arrived : List WholeRequest) (requests shown : List Request) (given shown' : List (List ℕ)) → map (λ (a : WholeRequest). a.request) arrived ≡ requests → shown ≡ requests → shown' ≡ given
+    → answers_text block size shown shown' ≡ replies_text (answered_requests block size arrived given)
+text_answered block size arrived requests shown given shown' are same same' =
+    ap (λ (l : List Request). answers_text block size l shown') (same ∙ sym are) ∙ ap (answers_text block size (map (λ (a : WholeRequest). a.request) arrived)) same' ∙ sym (answered_text block size arrived given)
 
-pub collected_as : (block size : ℕ) (asked : List WholeRequest) (requests : List Request) (operations shown : List Operation) → shown ≡ operations → AreCollected block size asked requests operations → AreCollected block size asked requests shown
-collected_as block size asked requests operations shown same collected = subst (λ (ops : List Operation). AreCollected block size asked requests ops) (sym same) collected
+pub collected_as : (block size : ℕ) (arrived : List WholeRequest) (requests : List Request) (operations shown : List Operation) → shown ≡ operations → AreCollected block size arrived requests operations → AreCollected block size arrived requests shown
+collected_as block size arrived requests operations shown same collected = subst (λ (ops : List Operation). AreCollected block size arrived requests ops) (sym same) collected
 
 -- as many bytes were given as there are requests
-pub many_given : (block size : ℕ) (asked : List WholeRequest) (requests : List Request) (ops : List Operation) (given : List (List ℕ)) → AreCollected block size asked requests ops → map length given ≡ map read_len ops → length given ≡ length requests
-many_given block size asked requests ops given collected lens =
-    sym (length-map given length) ∙ ap length lens ∙ length-map ops read_len ∙ as_many block size asked ops collected.served ∙ sym (length-map asked (λ (a : WholeRequest). a.request)) ∙ ap length collected.same
+pub many_given : (block size : ℕ) (arrived : List WholeRequest) (requests : List Request) (ops : List Operation) (given : List (List ℕ)) → AreCollected block size arrived requests ops → map length given ≡ map read_len ops → length given ≡ length requests
+many_given block size arrived requests ops given collected lens =
+    sym (length-map given length) ∙ ap length lens ∙ length-map ops read_len ∙ as_many block size arrived ops collected.served ∙ sym (length-map arrived (λ (a : WholeRequest). a.request)) ∙ ap length collected.same

@@ -22,7 +22,7 @@ go_row : option_text option.Go (wanted_text [] 1 (0 ∷ 3 ∷ [])) ≡ 73 ∷ 72
 go_row = refl
 
 wanted_row : Wants (0 ∷ 0 ∷ 0 ∷ 1 ∷ 100 ∷ 0 ∷ 1 ∷ 0 ∷ 3 ∷ []) (100 ∷ [])
-wanted_row = record { count = 1; asked = 0 ∷ 3 ∷ []; few = omega arith; whole = refl; short = omega arith; text = refl }
+wanted_row = record { count = 1; requested = 0 ∷ 3 ∷ []; few = omega arith; whole = refl; short = omega arith; text = refl }
 
 -- its answer: size and flags, sizes of requests, and ACK
 described_row : described 1048576 4096 option.Go

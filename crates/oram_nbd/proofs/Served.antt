@@ -3,7 +3,7 @@ use Rattle.std.proofs.Common.{◌≡◌, ◌⊎◌, inl, inr, Bool, true, false,
 use Rattle.std.proofs.lemmas.List.{append-nil}
 use Rattle.std.proofs.lemmas.List.Elements.{All-append, All-nil}
 use Rattle.std.proofs.lemmas.Grind.{flat_map-append}
-use Rattle.std.specs.List.{FoldsTo, flat_map}
+use Rattle.std.specs.List.{flat_map}
 use Rattle.std.specs.Io.KnownBytes.{Appends, Consumes}
 use Rattle.std.proofs.KnownBytes.{Appends-nil, Appends-trans, Consumes-nil, Consumes-trans}
 use Rattle.oram_nbd.specs.Batches.{HasRepliedToAll, HasBegun}
@@ -132,17 +132,17 @@ module _ {D W E : Type 0} (kind : DeviceKind D W E) (old : D) where
     }
 
     -- a batch of what was read is answered
-    pub all_served : (new : D) (asked : List WholeRequest) (answered : List AnsweredRequest) → HasRepliedToAll kind (kind.size old) mid new asked answered
+    pub all_served : (new : D) (arrived : List WholeRequest) (answered : List AnsweredRequest) → HasRepliedToAll kind (kind.size old) mid new arrived answered
         → HasServed kind (kind.size old) old new (s.answered ++ answered)
-    all_served new asked answered a = served_join mid new s.answered answered s.served (λ e. elim e [ inl f ↦ s.still f | inr says ↦ s.reported says ]) a.served
+    all_served new arrived answered a = served_join mid new s.answered answered s.served (λ e. elim e [ inl f ↦ s.still f | inr says ↦ s.reported says ]) a.served
 
-    unfoldable pub batch_answered : (new : D) (written : Option (List ℕ)) (asked : List WholeRequest) (answered : List AnsweredRequest) (rest : List ℕ) → part ≡ whole_requests_text asked ++ rest → (kind.failed mid → kind.failed new)
-        → HasRepliedToAll kind (kind.size old) mid new asked answered → Appends now.written written (replies_text answered)
+    unfoldable pub batch_answered : (new : D) (written : Option (List ℕ)) (arrived : List WholeRequest) (answered : List AnsweredRequest) (rest : List ℕ) → part ≡ whole_requests_text arrived ++ rest → (kind.failed mid → kind.failed new)
+        → HasRepliedToAll kind (kind.size old) mid new arrived answered → Appends now.written written (replies_text answered)
         → Served from (count + length answered) new (streams now.unread written) rest
-    batch_answered new written asked answered rest split still a wrote = record {
+    batch_answered new written arrived answered rest split still a wrote = record {
       answered = s.answered ++ answered;
       many = length-append s.answered answered ∙ ap (λ (n : ℕ). n + length answered) s.many;
-      served = all_served new asked answered a;
+      served = all_served new arrived answered a;
       still = λ f. still (s.still f);
       reported = λ e. elim (says_either s.answered answered e) [ inl before ↦ still (s.reported before) | inr says ↦ a.reported says ];
       read = subst (Consumes from.unread now.unread)
@@ -155,15 +155,15 @@ module _ {D W E : Type 0} (kind : DeviceKind D W E) (old : D) where
     exchanged = record { read = s.read; wrote = subst (Appends from.written now.written) (sym (append-nil (replies_text s.answered))) s.wrote }
 
     -- only a beginning of the replies to a batch was written
-    pub stopped_at_replies : (new : D) (written : Option (List ℕ)) (asked : List WholeRequest) (answered : List AnsweredRequest) (rest : List ℕ) (count' : ℕ) → part ≡ whole_requests_text asked ++ rest → IsBehind rest
-        → HasRepliedToAll kind (kind.size old) mid new asked answered → Appends now.written written (take count' (replies_text answered))
+    pub stopped_at_replies : (new : D) (written : Option (List ℕ)) (arrived : List WholeRequest) (answered : List AnsweredRequest) (rest : List ℕ) (count' : ℕ) → part ≡ whole_requests_text arrived ++ rest → IsBehind rest
+        → HasRepliedToAll kind (kind.size old) mid new arrived answered → Appends now.written written (take count' (replies_text answered))
         → StopsServing kind old new fault.Write from (streams now.unread written)
-    stopped_at_replies new written asked answered rest count' split behind a wrote = (
+    stopped_at_replies new written arrived answered rest count' split behind a wrote = (
       s.answered,
       answered,
       rest,
       count',
-      all_served new asked answered a,
+      all_served new arrived answered a,
       behind,
       record {
         read = subst (Consumes from.unread now.unread) (ap (λ (l : List ℕ). requests_text s.answered ++ l) (split ∙ ap (λ (l : List ℕ). l ++ rest) (sym (asked_of_answered answered ∙ ap whole_requests_text a.same)))) s.read;
@@ -184,11 +184,11 @@ module _ {D W E : Type 0} (kind : DeviceKind D W E) (old : D) where
     )
 
     -- the device stopped at a batch
-    pub stopped_at_batch : (new : D) (asked : List WholeRequest) (rest : List ℕ) → part ≡ whole_requests_text asked ++ rest → IsBehind rest → All IsWholeRequest asked → HasBegun kind (kind.size old) mid new asked
+    pub stopped_at_batch : (new : D) (arrived : List WholeRequest) (rest : List ℕ) → part ≡ whole_requests_text arrived ++ rest → IsBehind rest → All IsWholeRequest arrived → HasBegun kind (kind.size old) mid new arrived
         → StopsServing kind old new fault.Stopped from now
-    stopped_at_batch new asked rest split behind are h = (
+    stopped_at_batch new arrived rest split behind are h = (
       s.answered,
-      asked,
+      arrived,
       rest,
       record {
         mid = mid;

@@ -14,15 +14,15 @@ front_4 a b x y p q e =
     (sym (from_be_bytes-to_be_bytes_4 a p) ∙ ap (λ (l : List ℕ). from_be_bytes w32 (take 4 l)) e ∙ from_be_bytes-to_be_bytes_4 b q, ap (drop 4) e)
 
 -- the name that is read is the one that is asked for
-pub wants : (content : List ℕ) (n : ℕ) (rest name back : List ℕ) (count : ℕ) (asked : List ℕ) → n < 2 ^ 32 → count < 2 ^ 16 → content ≡ to_be_bytes w32 n ++ rest → n ≤ length rest →
-    name ≡ take n rest → back ≡ drop n rest → back ≡ to_be_bytes w16 count ++ asked → length asked ≡ 2 * count → Wants content name
-wants content n rest name back count asked fits few whole within front behind text all =
+pub wants : (content : List ℕ) (n : ℕ) (rest name back : List ℕ) (count : ℕ) (requested : List ℕ) → n < 2 ^ 32 → count < 2 ^ 16 → content ≡ to_be_bytes w32 n ++ rest → n ≤ length rest →
+    name ≡ take n rest → back ≡ drop n rest → back ≡ to_be_bytes w16 count ++ requested → length requested ≡ 2 * count → Wants content name
+wants content n rest name back count requested fits few whole within front behind text all =
     let long : length name ≡ n = ap length front ∙ length-take-le n rest within in
-    let parts : rest ≡ (name ++ to_be_bytes w16 count) ++ asked =
-    sym (take-append-drop n rest) ∙ ap (λ (l : List ℕ). l ++ drop n rest) (sym front) ∙ ap (λ (l : List ℕ). name ++ l) (sym behind ∙ text) ∙ sym (append_assoc name (to_be_bytes w16 count) asked) in
+    let parts : rest ≡ (name ++ to_be_bytes w16 count) ++ requested =
+    sym (take-append-drop n rest) ∙ ap (λ (l : List ℕ). l ++ drop n rest) (sym front) ∙ ap (λ (l : List ℕ). name ++ l) (sym behind ∙ text) ∙ sym (append_assoc name (to_be_bytes w16 count) requested) in
     record {
       count = count;
-      asked = asked;
+      requested = requested;
       few = few;
       whole = all;
       short = subst (λ (m : ℕ). m < 2 ^ 32) (sym long) fits;
@@ -36,27 +36,27 @@ no_length content few = λ name w.
     omega (arith, ap length w.text)
 
 after_length : (content name : List ℕ) (n : ℕ) (rest : List ℕ) → n < 2 ^ 32 → content ≡ to_be_bytes w32 n ++ rest → (w : Wants content name) →
-    (n ≡ length name) × (rest ≡ name ++ (to_be_bytes w16 w.count ++ w.asked))
+    (n ≡ length name) × (rest ≡ name ++ (to_be_bytes w16 w.count ++ w.requested))
 after_length content name n rest fits whole w =
-    let both = front_4 n (length name) rest ((name ++ to_be_bytes w16 w.count) ++ w.asked) fits w.short (sym whole ∙ w.text) in
-    (both.0, both.1 ∙ append_assoc name (to_be_bytes w16 w.count) w.asked)
+    let both = front_4 n (length name) rest ((name ++ to_be_bytes w16 w.count) ++ w.requested) fits w.short (sym whole ∙ w.text) in
+    (both.0, both.1 ∙ append_assoc name (to_be_bytes w16 w.count) w.requested)
 
 pub no_name : (content : List ℕ) (n : ℕ) (rest : List ℕ) → n < 2 ^ 32 → content ≡ to_be_bytes w32 n ++ rest → length rest < n → IsMalformed content
 no_name content n rest fits whole cut = λ name w.
     let both = after_length content name n rest fits whole w in
-    omega (arith, both.0, ap length both.1, length-append name (to_be_bytes w16 w.count ++ w.asked))
+    omega (arith, both.0, ap length both.1, length-append name (to_be_bytes w16 w.count ++ w.requested))
 
-behind_name : (content name : List ℕ) (n : ℕ) (rest back : List ℕ) → n < 2 ^ 32 → content ≡ to_be_bytes w32 n ++ rest → back ≡ drop n rest → (w : Wants content name) → back ≡ to_be_bytes w16 w.count ++ w.asked
+behind_name : (content name : List ℕ) (n : ℕ) (rest back : List ℕ) → n < 2 ^ 32 → content ≡ to_be_bytes w32 n ++ rest → back ≡ drop n rest → (w : Wants content name) → back ≡ to_be_bytes w16 w.count ++ w.requested
 behind_name content name n rest back fits whole behind w =
     let both = after_length content name n rest fits whole w in
-    behind ∙ ap (drop n) both.1 ∙ drop_at name (to_be_bytes w16 w.count ++ w.asked) n (sym both.0)
+    behind ∙ ap (drop n) both.1 ∙ drop_at name (to_be_bytes w16 w.count ++ w.requested) n (sym both.0)
 
 pub no_count : (content : List ℕ) (n : ℕ) (rest back : List ℕ) → n < 2 ^ 32 → content ≡ to_be_bytes w32 n ++ rest → back ≡ drop n rest → length back < 2 → IsMalformed content
 no_count content n rest back fits whole behind cut = λ name w.
     omega (arith, ap length (behind_name content name n rest back fits whole behind w))
 
-pub other_count : (content : List ℕ) (n : ℕ) (rest back : List ℕ) (count : ℕ) (asked : List ℕ) → n < 2 ^ 32 → count < 2 ^ 16 → content ≡ to_be_bytes w32 n ++ rest → back ≡ drop n rest →
-    back ≡ to_be_bytes w16 count ++ asked → length asked ≢ 2 * count → IsMalformed content
-other_count content n rest back count asked fits few whole behind text other = λ name w.
-    let both = front_2 count w.count asked w.asked few w.few (sym text ∙ behind_name content name n rest back fits whole behind w) in
+pub other_count : (content : List ℕ) (n : ℕ) (rest back : List ℕ) (count : ℕ) (requested : List ℕ) → n < 2 ^ 32 → count < 2 ^ 16 → content ≡ to_be_bytes w32 n ++ rest → back ≡ drop n rest →
+    back ≡ to_be_bytes w16 count ++ requested → length requested ≢ 2 * count → IsMalformed content
+other_count content n rest back count requested fits few whole behind text other = λ name w.
+    let both = front_2 count w.count requested w.requested few w.few (sym text ∙ behind_name content name n rest back fits whole behind w) in
     other (ap length both.1 ∙ w.whole ∙ ap (λ (m : ℕ). 2 * m) (sym both.0))

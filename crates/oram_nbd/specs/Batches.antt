@@ -50,14 +50,14 @@ DoesIfAccepted None block size a op = DoesRequest block size a op
 abbrev pub AreServedBy : ℕ → ℕ → List WholeRequest → List Operation → Type 0
 AreServedBy block size [] [] = Unit {0}
 AreServedBy block size [] (op ∷ ops) = ⊥
-AreServedBy block size (a ∷ asked) [] = ⊥
-AreServedBy block size (a ∷ asked) (op ∷ ops) = DoesIfAccepted (refusal_of size a.request) block size a op × AreServedBy block size asked ops
+AreServedBy block size (a ∷ arrived) [] = ⊥
+AreServedBy block size (a ∷ arrived) (op ∷ ops) = DoesIfAccepted (refusal_of size a.request) block size a op × AreServedBy block size arrived ops
 
 -- the batch has these requests and operations for what the client sent
-pub record AreCollected (block size : ℕ) (asked : List WholeRequest) (requests : List Request) (operations : List Operation) : Type 0 where
-  pub all : All IsWholeRequest asked
-  pub same : map (λ a. a.request) asked ≡ requests
-  pub served : AreServedBy block size asked operations
+pub record AreCollected (block size : ℕ) (arrived : List WholeRequest) (requests : List Request) (operations : List Operation) : Type 0 where
+  pub all : All IsWholeRequest arrived
+  pub same : map (λ a. a.request) arrived ≡ requests
+  pub served : AreServedBy block size arrived operations
 
 -- how a batch ends, by what was read behind it
 abbrev pub EndsBy : Close → List ℕ → Option (List ℕ) → Type 0
@@ -74,17 +74,17 @@ LeftBy Leaves rest new = IsLast new rest
 LeftBy (Breaks f) rest new = IsCutOff f rest new
 
 -- At most one request after the batch found no memory. It is refused; `rest` is what follows it.
-pub record IsWithoutMemory (close : Close) (part : List ℕ) (new : Option (List ℕ)) (asked : List WholeRequest) (rest : List ℕ) : Type 0 where
-  pub all : All IsWholeRequest asked
-  pub split : part ≡ whole_requests_text asked ++ rest
+pub record IsWithoutMemory (close : Close) (part : List ℕ) (new : Option (List ℕ)) (arrived : List WholeRequest) (rest : List ℕ) : Type 0 where
+  pub all : All IsWholeRequest arrived
+  pub split : part ≡ whole_requests_text arrived ++ rest
   pub left : LeftBy close rest new
 
 -- a batch was read
 pub record HasGathered (block size : ℕ) (requests : List Request) (operations : List Operation) (close : Close) (unread unread' : Option (List ℕ)) : Type 0 where
-  pub asked : List WholeRequest
+  pub arrived : List WholeRequest
   pub part : List ℕ
-  pub collected : AreCollected block size asked requests operations
-  pub read : Consumes unread unread' (whole_requests_text asked ++ part)
+  pub collected : AreCollected block size arrived requests operations
+  pub read : Consumes unread unread' (whole_requests_text arrived ++ part)
   pub ends : EndsBy close part unread'
 
 -- ---- replies
@@ -109,18 +109,18 @@ abbrev pub refusals_text : ℕ → List Request → NbdError → List ℕ
 refusals_text size requests e = flat_map (λ r. reply_text r.cookie (reply_if (refusal_of size r) (Refused e))) requests
 
 -- The result of a batch, for a device of this kind and of `size` bytes, which goes from one state to another.
-module _ {D W E : Type 0} (kind : DeviceKind D W E) (size : ℕ) (old new : D) (asked : List WholeRequest) where
+module _ {D W E : Type 0} (kind : DeviceKind D W E) (size : ℕ) (old new : D) (arrived : List WholeRequest) where
   -- Each request of the batch got its reply. If a reply says that the device has failed, it has.
   pub record HasRepliedToAll (answered : List AnsweredRequest) : Type 0 where
-    pub same : map asked_in answered ≡ asked
+    pub same : map asked_in answered ≡ arrived
     pub served : HasServed kind size old new answered
     pub reported : SaysFailed answered → kind.failed new
 
   -- The device stopped. Some request isn't refused.
   pub record HasBegun : Type 0 where
-    pub accepted : (before after : List WholeRequest) × (a : WholeRequest) × (asked ≡ before ++ a ∷ after) × (refusal_of size a.request ≡ None)
+    pub accepted : (before after : List WholeRequest) × (a : WholeRequest) × (arrived ≡ before ++ a ∷ after) × (refusal_of size a.request ≡ None)
     pub begun : GoesOn kind.had kind.hears (IsHeld kind.holds kind.kept) old
-        (λ may_lie before later. AreRequestsBegun asked before.now later.now × KeepsPart (AreRequestsBegun asked) before later) new
+        (λ may_lie before later. AreRequestsBegun arrived before.now later.now × KeepsPart (AreRequestsBegun arrived) before later) new
 
   -- All replies were written, or a beginning of them; or the device stopped, and nothing was written.
   abbrev pub EndsBatch : Option (List ℕ) → Option (List ℕ) → Type 0

@@ -1,5 +1,5 @@
 -- What a call of a device leaves behind.
-use Rattle.std.specs.Prelude.{◌≡◌, ◌⊎◌, ℕ, ◌<◌, Bool, true, List, length, Option, Some, Result, IsErrOf, MatchResult, OnErr, OnOk}
+use Rattle.std.specs.Prelude.{◌≡◌, ◌⊎◌, ℕ, ◌<◌, Bool, true, List, length, Some, Result, IsErrOf, MatchResult, OnErr, OnOk}
 use Rattle.oram_nbd.specs.Beside.{Held}
 use Rattle.oram_nbd.specs.Bytes.{IsBegun, written}
 use Rattle.oram_nbd.specs.declared.faults.DiskFault.{DiskFault}

@@ -48,7 +48,7 @@ refused o k = option_reply o k []
 
 -- the empty name is that of the only export
 abbrev pub IsNamed : List ℕ → List ℕ → Type 0
-IsNamed name asked = (asked ≡ []) ⊎ (asked ≡ name)
+IsNamed name wanted = (wanted ≡ []) ⊎ (wanted ≡ name)
 
 -- the description of an export of `size` bytes, for requests preferably of `preferred` bytes
 abbrev pub described : ℕ → ℕ → HandshakeOption → List ℕ
@@ -56,10 +56,10 @@ described size preferred o = option_reply o kind.Info (size_text size) ++ option
 
 -- the answer to INFO and GO, and whether they ask for the export
 abbrev pub Describes : ExportValue → HandshakeOption → List ℕ → List ℕ → Bool → Type 0
-Describes e o content text true = (asked : List ℕ) × Wants content asked × IsNamed e.name asked × (text ≡ described e.size e.preferred o)
+Describes e o content text true = (wanted : List ℕ) × Wants content wanted × IsNamed e.name wanted × (text ≡ described e.size e.preferred o)
 Describes e o content text false =
     (IsMalformed content × (text ≡ refused o kind.Invalid))
-    ⊎ ((asked : List ℕ) × Wants content asked × (IsNamed e.name asked → ⊥) × (text ≡ refused o kind.Unknown))
+    ⊎ ((wanted : List ℕ) × Wants content wanted × (IsNamed e.name wanted → ⊥) × (text ≡ refused o kind.Unknown))
 
 abbrev pub name_text : List ℕ → List ℕ
 name_text name = to_be_bytes w32 (length name) ++ name

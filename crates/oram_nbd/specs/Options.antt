@@ -53,15 +53,15 @@ option_reply o k body = option_reply_head o k (length body) ++ body
 
 -- what INFO and GO carry: a name, and two bytes for each piece of information that is requested
 abbrev pub wanted_text : List ℕ → ℕ → List ℕ → List ℕ
-wanted_text name count asked = to_be_bytes w32 (length name) ++ name ++ to_be_bytes w16 count ++ asked
+wanted_text name count requested = to_be_bytes w32 (length name) ++ name ++ to_be_bytes w16 count ++ requested
 
 pub record Wants (content name : List ℕ) : Type 0 where
   pub count : ℕ
-  pub asked : List ℕ
+  pub requested : List ℕ
   pub few : count < 2 ^ 16
-  pub whole : length asked ≡ 2 * count
+  pub whole : length requested ≡ 2 * count
   pub short : length name < 2 ^ 32
-  pub text : content ≡ wanted_text name count asked
+  pub text : content ≡ wanted_text name count requested
 
 abbrev pub IsMalformed : List ℕ → Type 0
 IsMalformed content = (name : List ℕ) → Wants content name → ⊥

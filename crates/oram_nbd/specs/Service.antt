@@ -99,7 +99,7 @@ pub record BeginsWithRequest (bytes : List ℕ) : Type 0 where
 
 -- what the client sends for these requests
 abbrev pub whole_requests_text : List WholeRequest → List ℕ
-whole_requests_text asked = flat_map (λ a. request_text a.request ++ a.payload) asked
+whole_requests_text arrived = flat_map (λ a. request_text a.request ++ a.payload) arrived
 
 -- the array after a request, and the array if it came as far as some byte of its range: one that is refused leaves it as it is
 abbrev pub left_if : Option NbdError → List ℕ → List ℕ → List ℕ
@@ -112,7 +112,7 @@ array_after_request a old = left_if (refusal_of (length old) a.request) old (aft
 -- the array after all of these requests, one after the other
 abbrev pub array_after_requests : List WholeRequest → List ℕ → List ℕ
 array_after_requests [] old = old
-array_after_requests (a ∷ asked) old = array_after_requests asked (array_after_request a old)
+array_after_requests (a ∷ arrived) old = array_after_requests arrived (array_after_request a old)
 
 -- how many bytes a request touches: one that is refused touches none
 abbrev pub touched_if : Option NbdError → ℕ → ℕ
@@ -122,8 +122,8 @@ touched_if None n = n
 -- at least one of these requests reads or writes a byte of a device of `size` bytes
 abbrev pub RequestsTouchSomeByte : ℕ → List WholeRequest → Type 0
 RequestsTouchSomeByte size [] = ⊥
-RequestsTouchSomeByte size (a ∷ asked) =
-    (0 < touched_if (refusal_of size a.request) (touched_len a.request.command a.request.length)) ⊎ RequestsTouchSomeByte size asked
+RequestsTouchSomeByte size (a ∷ arrived) =
+    (0 < touched_if (refusal_of size a.request) (touched_len a.request.command a.request.length)) ⊎ RequestsTouchSomeByte size arrived
 
 abbrev pub IsLeftIf : Option NbdError → List ℕ → Type 0 → List ℕ → Type 0
 IsLeftIf (Some e) old partly new = new ≡ old
@@ -135,7 +135,7 @@ IsLeftBy a old new = IsLeftIf (refusal_of (length old) a.request) old (IsPartly 
 -- The first of these requests are done, one may be done in part, and the others aren't begun.
 abbrev pub AreRequestsBegun : List WholeRequest → List ℕ → List ℕ → Type 0
 AreRequestsBegun [] old new = new ≡ old
-AreRequestsBegun (a ∷ asked) old new = IsLeftBy a old new ⊎ AreRequestsBegun asked (array_after_request a old) new
+AreRequestsBegun (a ∷ arrived) old new = IsLeftBy a old new ⊎ AreRequestsBegun arrived (array_after_request a old) new
 
 -- a request, the bytes after it, and the reply to it
 pub record AnsweredRequest : Type 0 where

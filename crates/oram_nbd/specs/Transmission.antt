@@ -104,8 +104,8 @@ module _ {D W E : Type 0} (kind : DeviceKind D W E) (old new : D) where
       (answered batch : List AnsweredRequest) × (part : List ℕ) × (count : ℕ) × HasServed kind (kind.size old) old new (answered ++ batch) × IsBehind part
       × HasExchanged answered (requests_text batch ++ part) (take count (replies_text batch)) before after
   StopsServing Stopped before after =
-      (answered : List AnsweredRequest) × (asked : List WholeRequest) × (part : List ℕ) × HasStopped kind (kind.size old) old new answered asked × IsBehind part
-      × HasExchanged answered (whole_requests_text asked ++ part) [] before after
+      (answered : List AnsweredRequest) × (arrived : List WholeRequest) × (part : List ℕ) × HasStopped kind (kind.size old) old new answered arrived × IsBehind part
+      × HasExchanged answered (whole_requests_text arrived ++ part) [] before after
   StopsServing fault before after =
       (answered : List AnsweredRequest) × (part : List ℕ) × HasServed kind (kind.size old) old new answered × HasExchanged answered part [] before after
       × IsCutOff fault part after.unread

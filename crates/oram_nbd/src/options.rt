@@ -134,8 +134,8 @@ pub fn wanted_name(content: &[u8]) -> Option<&[u8]>
         return None;
     }
     let (name, rest) = rest.split_at(length);
-    let (count, asked) = front_u16(rest)?;
-    if asked.len() != 2 * usize::from(count) {
+    let (count, requested) = front_u16(rest)?;
+    if requested.len() != 2 * usize::from(count) {
         return None;
     }
     Some(name)

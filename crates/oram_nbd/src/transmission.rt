@@ -38,11 +38,11 @@ fn carry_out_batch<W: Write, D: BlockDevice>(
     requires block { sizes.block ≡ D.block_len disk.old }
     requires size { sizes.size ≡ D.size disk.old }
     requires sizes { AreDiskSizes sizes.block sizes.size }
-    requires collected { (asked : List WholeRequest) × AreCollected sizes.block sizes.size asked batch.now.requests.items batch.now.operations.items }
-    ensures ok { OnOk result ((asked : List WholeRequest) → AreCollected sizes.block sizes.size asked batch.now.requests.items batch.now.operations.items →
-        EndsBatch (device_kind D.block_len D.size D.failed D.had D.hears D.holds D.kept) sizes.size disk.old disk.new asked (W.contents writer.old) (W.contents writer.new)) }
-    ensures err { IfErr result (λ fault. (asked : List WholeRequest) → AreCollected sizes.block sizes.size asked batch.now.requests.items batch.now.operations.items →
-        BreaksBatch (device_kind D.block_len D.size D.failed D.had D.hears D.holds D.kept) sizes.size disk.old disk.new asked fault (W.contents writer.old) (W.contents writer.new)) }
+    requires collected { (arrived : List WholeRequest) × AreCollected sizes.block sizes.size arrived batch.now.requests.items batch.now.operations.items }
+    ensures ok { OnOk result ((arrived : List WholeRequest) → AreCollected sizes.block sizes.size arrived batch.now.requests.items batch.now.operations.items →
+        EndsBatch (device_kind D.block_len D.size D.failed D.had D.hears D.holds D.kept) sizes.size disk.old disk.new arrived (W.contents writer.old) (W.contents writer.new)) }
+    ensures err { IfErr result (λ fault. (arrived : List WholeRequest) → AreCollected sizes.block sizes.size arrived batch.now.requests.items batch.now.operations.items →
+        BreaksBatch (device_kind D.block_len D.size D.failed D.had D.hears D.holds D.kept) sizes.size disk.old disk.new arrived fault (W.contents writer.old) (W.contents writer.new)) }
     ensures stopped { IfErr result (λ fault. fault ≡ NbdFault.Stopped → IsStopped D.stops disk.new) }
     ensures stays { Stays D.block_len D.size D.failed disk.old disk.new }
 {
@@ -65,11 +65,11 @@ fn carry_out_batch<W: Write, D: BlockDevice>(
 
 /// Refuses the request for which there was no memory, if there is one, and returns their number.
 fn refuse_without_memory<W: Write>(writer: &mut W, size: u64, close: Close) -> Result<u64, NbdFault>
-    ensures ok { IfOk result (λ count. (part : List ℕ) (unread : Option (List ℕ)) → EndsBy close part unread → (asked : List WholeRequest) × (rest : List ℕ) × IsWithoutMemory close part unread asked rest
-        × (length asked ≡ count) × Appends (W.contents writer.old) (W.contents writer.new) (refusals_text size (map (λ a. a.request) asked) NbdError.NoMemory)) }
+    ensures ok { IfOk result (λ count. (part : List ℕ) (unread : Option (List ℕ)) → EndsBy close part unread → (arrived : List WholeRequest) × (rest : List ℕ) × IsWithoutMemory close part unread arrived rest
+        × (length arrived ≡ count) × Appends (W.contents writer.old) (W.contents writer.new) (refusals_text size (map (λ a. a.request) arrived) NbdError.NoMemory)) }
     ensures few { IfOk result (λ count. count ≤ 1) }
-    ensures err { IfErr result (λ fault. (fault ≡ NbdFault.Write) × ((part : List ℕ) (unread : Option (List ℕ)) → EndsBy close part unread → (asked : List WholeRequest) × (rest : List ℕ) × IsWithoutMemory close part unread asked rest
-        × IsBegunText (W.contents writer.old) (W.contents writer.new) (refusals_text size (map (λ a. a.request) asked) NbdError.NoMemory))) }
+    ensures err { IfErr result (λ fault. (fault ≡ NbdFault.Write) × ((part : List ℕ) (unread : Option (List ℕ)) → EndsBy close part unread → (arrived : List WholeRequest) × (rest : List ℕ) × IsWithoutMemory close part unread arrived rest
+        × IsBegunText (W.contents writer.old) (W.contents writer.new) (refusals_text size (map (λ a. a.request) arrived) NbdError.NoMemory))) }
 {
     match close {
         Close::NoRoom(request) => {

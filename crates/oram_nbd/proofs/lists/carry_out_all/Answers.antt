@@ -1,7 +1,6 @@
 use Rattle.std.proofs.Common.{◌≡◌, ◌-◌, ◌≤◌, ℕ, List, [], ◌++◌, Bool, length, map, take, drop, sym, ap, ◌∙◌, subst, rules, arith}
 use Rattle.std.proofs.lemmas.Result.{err_from_is_err_and}
 use Rattle.oram_nbd.specs.Operations.{AreBegun, TouchSomeByte, read_len}
-use Rattle.oram_nbd.specs.declared.operations.Operation.{Operation}
 use Rattle.oram_nbd.proofs.Beside.{at_rest as calls_none, joined_calls}
 use Rattle.oram_nbd.proofs.Calls.{at_rest, stays_on}
 use Rattle.oram_nbd.proofs.Keeping.{all_at_rest, all_joined, part_after_all, part_at_rest, part_behind}

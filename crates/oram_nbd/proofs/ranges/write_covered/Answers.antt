@@ -9,9 +9,12 @@ use Rattle.oram_nbd.proofs.ranges.write_covered.Goals as goal
 pub returns-in_err-old-clause-goes : goal.returns-in_err-old-clause-goes
 returns-in_err-old-clause-goes g c =
     let p = err_from_is_err_and c.from_residual-in_err-old.result c.from_residual-in_err-old.ensures.1 in
-    rw p.1 (weaker c.in_err-old.ensures.goes (λ may_lie world old new h step.
-    (tt, subst (IsBegun old.now _ c.args.payload.now) (sym step.0.0) (begun_none old.now _ c.args.payload.now), λ e. step.2 cc,
-    part_weaker step.0.1 (λ x same. subst (IsBegun old.now _ c.args.payload.now) (sym same) (begun_none old.now _ c.args.payload.now)))))
+    rw p.1 (weaker c.in_err-old.ensures.goes (λ may_lie world old new h step. (
+      tt,
+      subst (IsBegun old.now _ c.args.payload.now) (sym step.0.0) (begun_none old.now _ c.args.payload.now),
+      λ e. step.2 cc,
+      part_weaker step.0.1 (λ x same. subst (IsBegun old.now _ c.args.payload.now) (sym same) (begun_none old.now _ c.args.payload.now)),
+    )))
 
 pub returns-in_err-copied-clause-goes : goal.returns-in_err-copied-clause-goes
 returns-in_err-copied-clause-goes g c =
@@ -21,9 +24,12 @@ returns-in_err-copied-clause-goes g c =
 pub returns-in_err-whole-clause-goes : goal.returns-in_err-whole-clause-goes
 returns-in_err-whole-clause-goes g c =
     let p = err_from_is_err_and c.from_residual-in_err-whole.result c.from_residual-in_err-whole.ensures.1 in
-    rw p.1 (weaker c.in_ok-old.ensures.goes (λ may_lie world old new h step.
-    (tt, subst (IsBegun old.now _ c.args.payload.now) (sym step.0.0) (begun_none old.now _ c.args.payload.now), λ e. cc,
-    part_after_all step.0.1 (subst (IsBegun old.now _ c.args.payload.now) (sym step.0.0) (begun_none old.now _ c.args.payload.now)))))
+    rw p.1 (weaker c.in_ok-old.ensures.goes (λ may_lie world old new h step. (
+      tt,
+      subst (IsBegun old.now _ c.args.payload.now) (sym step.0.0) (begun_none old.now _ c.args.payload.now),
+      λ e. cc,
+      part_after_all step.0.1 (subst (IsBegun old.now _ c.args.payload.now) (sym step.0.0) (begun_none old.now _ c.args.payload.now)),
+    )))
 
 pub returns-clause-goes : goal.returns-clause-goes
 returns-clause-goes g c = joined_calls c.in_ok-old.ensures.goes c.write_blocks-2.ensures.goes (λ may_lie world old mid new h first second.

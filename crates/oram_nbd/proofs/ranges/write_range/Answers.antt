@@ -17,9 +17,12 @@ returns-in_err-edges-clause-goes g c =
 pub returns-in_err-whole-clause-goes : goal.returns-in_err-whole-clause-goes
 returns-in_err-whole-clause-goes g c =
     let p = err_from_is_err_and c.from_residual-in_err-whole.result c.from_residual-in_err-whole.ensures.1 in
-    rw p.1 (weaker c.in_ok-edges.ensures.goes (λ may_lie world old new h step.
-    (tt, subst (IsBegun old.now c.args.offset c.args.payload.now) (sym step.0.0) (begun_none old.now c.args.offset c.args.payload.now), λ e. cc,
-    part_after_all step.0.1 (subst (IsBegun old.now c.args.offset c.args.payload.now) (sym step.0.0) (begun_none old.now c.args.offset c.args.payload.now)))))
+    rw p.1 (weaker c.in_ok-edges.ensures.goes (λ may_lie world old new h step. (
+      tt,
+      subst (IsBegun old.now c.args.offset c.args.payload.now) (sym step.0.0) (begun_none old.now c.args.offset c.args.payload.now),
+      λ e. cc,
+      part_after_all step.0.1 (subst (IsBegun old.now c.args.offset c.args.payload.now) (sym step.0.0) (begun_none old.now c.args.offset c.args.payload.now)),
+    )))
 
 pub returns-clause-goes : goal.returns-clause-goes
 returns-clause-goes g c = joined_calls c.in_ok-edges.ensures.goes c.write_blocks.ensures.goes (λ may_lie world old mid new h first second.

@@ -159,6 +159,9 @@ returns-clause-goes g c =
     ap (λ (n : ℕ). zeroing n first count a z c.from_vec.result c.from_vec-2.result) same ∙ ap (λ (l : List ℕ). zeroing b first count a z l c.from_vec-2.result) is
     ∙ ap (λ (l : List ℕ). zeroing b first count a z x l) is' in
     weaker c.in_ok-carry_out.ensures.goes (λ may_lie world old new h step.
-    let within : b * first + b * count ≤ length old.now = subst (λ (n : ℕ). b * first + b * count ≤ n) (sym (c.blocks-blocks.ensures.held may_lie world old.now h.0)) c.requires.within in
-    (step.0.1 ∙ ap (λ (l : List Operation). all_done l old.now) ops ∙ zeroing_done b first count before after c.args.len a z positive c.requires.some edges old.now within, tt, λ e. cc,
-    all_weaker step.2 (λ some. subst TouchSomeByte (sym ops) (zeroing_touches b first count before after c.args.len a z positive c.requires.some edges))))
+    let within : b * first + b * count ≤ length old.now = subst (λ (n : ℕ). b * first + b * count ≤ n) (sym (c.blocks-blocks.ensures.held may_lie world old.now h.0)) c.requires.within in (
+      step.0.1 ∙ ap (λ (l : List Operation). all_done l old.now) ops ∙ zeroing_done b first count before after c.args.len a z positive c.requires.some edges old.now within,
+      tt,
+      λ e. cc,
+      all_weaker step.2 (λ some. subst TouchSomeByte (sym ops) (zeroing_touches b first count before after c.args.len a z positive c.requires.some edges)),
+    ))

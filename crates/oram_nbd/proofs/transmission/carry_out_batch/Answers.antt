@@ -15,10 +15,10 @@ returns-then-not-is_any_accepted-clause-ok g c =
     let n = c.args.sizes.size in
     let reqs = c.args.batch.now.requests.items in
     let ops = c.args.batch.now.operations.items in
-    on_ok_weaker c.put_refusals.result (λ wrote asked collected. (
-      refused_requests n asked NoMemory,
-      refused_at_rest n c.args.disk.now asked (λ may_lie world bytes h. c.blocks-blocks.ensures.held may_lie world bytes h ∙ sym c.requires.size) collected.all,
-      subst (Appends (g.W.Write.contents c.args.writer.now) (g.W.Write.contents c.put_refusals.new.writer)) (text_refused n asked NoMemory reqs _ collected.same c.deref-then-not-is_any_accepted.ensures.value) wrote,
+    on_ok_weaker c.put_refusals.result (λ wrote arrived collected. (
+      refused_requests n arrived NoMemory,
+      refused_at_rest n c.args.disk.now arrived (λ may_lie world bytes h. c.blocks-blocks.ensures.held may_lie world bytes h ∙ sym c.requires.size) collected.all,
+      subst (Appends (g.W.Write.contents c.args.writer.now) (g.W.Write.contents c.put_refusals.new.writer)) (text_refused n arrived NoMemory reqs _ collected.same c.deref-then-not-is_any_accepted.ensures.value) wrote,
     )) c.put_refusals.ensures.ok
 
 pub returns-then-not-is_any_accepted-clause-err : goal.returns-then-not-is_any_accepted-clause-err
@@ -27,12 +27,12 @@ returns-then-not-is_any_accepted-clause-err g c =
     let n = c.args.sizes.size in
     let reqs = c.args.batch.now.requests.items in
     let ops = c.args.batch.now.operations.items in
-    MatchResult-weaker c.put_refusals.result c.put_refusals.ensures.err (λ x h. tt) (λ f wrote asked collected. inl (
+    MatchResult-weaker c.put_refusals.result c.put_refusals.ensures.err (λ x h. tt) (λ f wrote arrived collected. inl (
       wrote.0,
       (
-        refused_requests n asked NoMemory,
-        refused_at_rest n c.args.disk.now asked (λ may_lie world bytes h. c.blocks-blocks.ensures.held may_lie world bytes h ∙ sym c.requires.size) collected.all,
-        subst (IsBegunText (g.W.Write.contents c.args.writer.now) (g.W.Write.contents c.put_refusals.new.writer)) (text_refused n asked NoMemory reqs _ collected.same c.deref-then-not-is_any_accepted.ensures.value) wrote.1,
+        refused_requests n arrived NoMemory,
+        refused_at_rest n c.args.disk.now arrived (λ may_lie world bytes h. c.blocks-blocks.ensures.held may_lie world bytes h ∙ sym c.requires.size) collected.all,
+        subst (IsBegunText (g.W.Write.contents c.args.writer.now) (g.W.Write.contents c.put_refusals.new.writer)) (text_refused n arrived NoMemory reqs _ collected.same c.deref-then-not-is_any_accepted.ensures.value) wrote.1,
       ),
     ))
 
@@ -60,11 +60,11 @@ returns-in-Ok-clause-ok g c =
     let n = c.args.sizes.size in
     let reqs = c.args.batch.now.requests.items in
     let ops = c.args.batch.now.operations.items in
-    on_ok_weaker c.put_answers.result (λ wrote asked collected. (
-      answered_requests b n asked c.in-Ok.given.items,
-      all_answered b n c.args.disk.now c.carry_out_all.new.disk asked (λ may_lie world bytes h. c.blocks-blocks.ensures.held may_lie world bytes h ∙ sym c.requires.size) reqs c.deref-2.result.now
-          c.in-Ok.given.items (collected_as b n asked reqs ops _ c.deref-2.ensures.value collected) c.in-Ok.ensures.len c.in-Ok.ensures.refused (weaker c.in-Ok.ensures.goes (λ may_lie world old new h step. (step.0.0, step.0.1, step.2))),
-      subst (Appends (g.W.Write.contents c.args.writer.now) (g.W.Write.contents c.put_answers.new.writer)) (text_answered b n asked reqs _ c.in-Ok.given.items _ collected.same c.deref-in-Ok.ensures.value c.deref-in-Ok-2.ensures.value) wrote,
+    on_ok_weaker c.put_answers.result (λ wrote arrived collected. (
+      answered_requests b n arrived c.in-Ok.given.items,
+      all_answered b n c.args.disk.now c.carry_out_all.new.disk arrived (λ may_lie world bytes h. c.blocks-blocks.ensures.held may_lie world bytes h ∙ sym c.requires.size) reqs c.deref-2.result.now
+          c.in-Ok.given.items (collected_as b n arrived reqs ops _ c.deref-2.ensures.value collected) c.in-Ok.ensures.len c.in-Ok.ensures.refused (weaker c.in-Ok.ensures.goes (λ may_lie world old new h step. (step.0.0, step.0.1, step.2))),
+      subst (Appends (g.W.Write.contents c.args.writer.now) (g.W.Write.contents c.put_answers.new.writer)) (text_answered b n arrived reqs _ c.in-Ok.given.items _ collected.same c.deref-in-Ok.ensures.value c.deref-in-Ok-2.ensures.value) wrote,
     )) c.put_answers.ensures.ok
 
 pub returns-in-Ok-clause-err : goal.returns-in-Ok-clause-err
@@ -73,13 +73,13 @@ returns-in-Ok-clause-err g c =
     let n = c.args.sizes.size in
     let reqs = c.args.batch.now.requests.items in
     let ops = c.args.batch.now.operations.items in
-    MatchResult-weaker c.put_answers.result c.put_answers.ensures.err (λ x h. tt) (λ f wrote asked collected. inl (
+    MatchResult-weaker c.put_answers.result c.put_answers.ensures.err (λ x h. tt) (λ f wrote arrived collected. inl (
       wrote.0,
       (
-        answered_requests b n asked c.in-Ok.given.items,
-        all_answered b n c.args.disk.now c.carry_out_all.new.disk asked (λ may_lie world bytes h. c.blocks-blocks.ensures.held may_lie world bytes h ∙ sym c.requires.size) reqs c.deref-2.result.now
-            c.in-Ok.given.items (collected_as b n asked reqs ops _ c.deref-2.ensures.value collected) c.in-Ok.ensures.len c.in-Ok.ensures.refused (weaker c.in-Ok.ensures.goes (λ may_lie world old new h step. (step.0.0, step.0.1, step.2))),
-        subst (IsBegunText (g.W.Write.contents c.args.writer.now) (g.W.Write.contents c.put_answers.new.writer)) (text_answered b n asked reqs _ c.in-Ok.given.items _ collected.same c.deref-in-Ok.ensures.value c.deref-in-Ok-2.ensures.value) wrote.1,
+        answered_requests b n arrived c.in-Ok.given.items,
+        all_answered b n c.args.disk.now c.carry_out_all.new.disk arrived (λ may_lie world bytes h. c.blocks-blocks.ensures.held may_lie world bytes h ∙ sym c.requires.size) reqs c.deref-2.result.now
+            c.in-Ok.given.items (collected_as b n arrived reqs ops _ c.deref-2.ensures.value collected) c.in-Ok.ensures.len c.in-Ok.ensures.refused (weaker c.in-Ok.ensures.goes (λ may_lie world old new h step. (step.0.0, step.0.1, step.2))),
+        subst (IsBegunText (g.W.Write.contents c.args.writer.now) (g.W.Write.contents c.put_answers.new.writer)) (text_answered b n arrived reqs _ c.in-Ok.given.items _ collected.same c.deref-in-Ok.ensures.value c.deref-in-Ok-2.ensures.value) wrote.1,
       ),
     ))
 
@@ -90,11 +90,11 @@ returns-in-Err-Failed-clause-ok g c =
     let n = c.args.sizes.size in
     let reqs = c.args.batch.now.requests.items in
     let ops = c.args.batch.now.operations.items in
-    on_ok_weaker c.put_refusals-in-Err-Failed.result (λ wrote asked collected. (
-      refused_requests n asked Io,
-      all_refused b n c.args.disk.now c.carry_out_all.new.disk asked (λ may_lie world bytes h. c.blocks-blocks.ensures.held may_lie world bytes h ∙ sym c.requires.size) reqs c.deref-2.result.now
-          Io (collected_as b n asked reqs ops _ c.deref-2.ensures.value collected) (inl refl) (λ io. c.in-Err-Failed.ensures.call.has_failed cc) some.0 some.1 some.2 (sym c.deref.ensures.value ∙ some.3) some.4 (weaker c.in-Err-Failed.ensures.goes (λ may_lie world old new h step. ((step.0, step.2), λ io. step.1 cc))),
-      subst (Appends (g.W.Write.contents c.args.writer.now) (g.W.Write.contents c.put_refusals-in-Err-Failed.new.writer)) (text_refused n asked Io reqs _ collected.same c.deref-in-Err-Failed.ensures.value) wrote,
+    on_ok_weaker c.put_refusals-in-Err-Failed.result (λ wrote arrived collected. (
+      refused_requests n arrived Io,
+      all_refused b n c.args.disk.now c.carry_out_all.new.disk arrived (λ may_lie world bytes h. c.blocks-blocks.ensures.held may_lie world bytes h ∙ sym c.requires.size) reqs c.deref-2.result.now
+          Io (collected_as b n arrived reqs ops _ c.deref-2.ensures.value collected) (inl refl) (λ io. c.in-Err-Failed.ensures.call.has_failed cc) some.0 some.1 some.2 (sym c.deref.ensures.value ∙ some.3) some.4 (weaker c.in-Err-Failed.ensures.goes (λ may_lie world old new h step. ((step.0, step.2), λ io. step.1 cc))),
+      subst (Appends (g.W.Write.contents c.args.writer.now) (g.W.Write.contents c.put_refusals-in-Err-Failed.new.writer)) (text_refused n arrived Io reqs _ collected.same c.deref-in-Err-Failed.ensures.value) wrote,
     )) c.put_refusals-in-Err-Failed.ensures.ok
 
 pub returns-in-Err-Failed-clause-err : goal.returns-in-Err-Failed-clause-err
@@ -104,13 +104,13 @@ returns-in-Err-Failed-clause-err g c =
     let n = c.args.sizes.size in
     let reqs = c.args.batch.now.requests.items in
     let ops = c.args.batch.now.operations.items in
-    MatchResult-weaker c.put_refusals-in-Err-Failed.result c.put_refusals-in-Err-Failed.ensures.err (λ x h. tt) (λ f wrote asked collected. inl (
+    MatchResult-weaker c.put_refusals-in-Err-Failed.result c.put_refusals-in-Err-Failed.ensures.err (λ x h. tt) (λ f wrote arrived collected. inl (
       wrote.0,
       (
-        refused_requests n asked Io,
-        all_refused b n c.args.disk.now c.carry_out_all.new.disk asked (λ may_lie world bytes h. c.blocks-blocks.ensures.held may_lie world bytes h ∙ sym c.requires.size) reqs c.deref-2.result.now
-            Io (collected_as b n asked reqs ops _ c.deref-2.ensures.value collected) (inl refl) (λ io. c.in-Err-Failed.ensures.call.has_failed cc) some.0 some.1 some.2 (sym c.deref.ensures.value ∙ some.3) some.4 (weaker c.in-Err-Failed.ensures.goes (λ may_lie world old new h step. ((step.0, step.2), λ io. step.1 cc))),
-        subst (IsBegunText (g.W.Write.contents c.args.writer.now) (g.W.Write.contents c.put_refusals-in-Err-Failed.new.writer)) (text_refused n asked Io reqs _ collected.same c.deref-in-Err-Failed.ensures.value) wrote.1,
+        refused_requests n arrived Io,
+        all_refused b n c.args.disk.now c.carry_out_all.new.disk arrived (λ may_lie world bytes h. c.blocks-blocks.ensures.held may_lie world bytes h ∙ sym c.requires.size) reqs c.deref-2.result.now
+            Io (collected_as b n arrived reqs ops _ c.deref-2.ensures.value collected) (inl refl) (λ io. c.in-Err-Failed.ensures.call.has_failed cc) some.0 some.1 some.2 (sym c.deref.ensures.value ∙ some.3) some.4 (weaker c.in-Err-Failed.ensures.goes (λ may_lie world old new h step. ((step.0, step.2), λ io. step.1 cc))),
+        subst (IsBegunText (g.W.Write.contents c.args.writer.now) (g.W.Write.contents c.put_refusals-in-Err-Failed.new.writer)) (text_refused n arrived Io reqs _ collected.same c.deref-in-Err-Failed.ensures.value) wrote.1,
       ),
     ))
 
@@ -121,11 +121,11 @@ returns-in-Err-OutOfMemory-clause-ok g c =
     let n = c.args.sizes.size in
     let reqs = c.args.batch.now.requests.items in
     let ops = c.args.batch.now.operations.items in
-    on_ok_weaker c.put_refusals-in-Err-OutOfMemory.result (λ wrote asked collected. (
-      refused_requests n asked NoMemory,
-      all_refused b n c.args.disk.now c.carry_out_all.new.disk asked (λ may_lie world bytes h. c.blocks-blocks.ensures.held may_lie world bytes h ∙ sym c.requires.size) reqs c.deref-2.result.now
-          NoMemory (collected_as b n asked reqs ops _ c.deref-2.ensures.value collected) (inr refl) (λ io. absurd cc) some.0 some.1 some.2 (sym c.deref.ensures.value ∙ some.3) some.4 (weaker c.in-Err-OutOfMemory.ensures.goes (λ may_lie world old new h step. ((step.0, step.2), λ io. cc))),
-      subst (Appends (g.W.Write.contents c.args.writer.now) (g.W.Write.contents c.put_refusals-in-Err-OutOfMemory.new.writer)) (text_refused n asked NoMemory reqs _ collected.same c.deref-in-Err-OutOfMemory.ensures.value) wrote,
+    on_ok_weaker c.put_refusals-in-Err-OutOfMemory.result (λ wrote arrived collected. (
+      refused_requests n arrived NoMemory,
+      all_refused b n c.args.disk.now c.carry_out_all.new.disk arrived (λ may_lie world bytes h. c.blocks-blocks.ensures.held may_lie world bytes h ∙ sym c.requires.size) reqs c.deref-2.result.now
+          NoMemory (collected_as b n arrived reqs ops _ c.deref-2.ensures.value collected) (inr refl) (λ io. absurd cc) some.0 some.1 some.2 (sym c.deref.ensures.value ∙ some.3) some.4 (weaker c.in-Err-OutOfMemory.ensures.goes (λ may_lie world old new h step. ((step.0, step.2), λ io. cc))),
+      subst (Appends (g.W.Write.contents c.args.writer.now) (g.W.Write.contents c.put_refusals-in-Err-OutOfMemory.new.writer)) (text_refused n arrived NoMemory reqs _ collected.same c.deref-in-Err-OutOfMemory.ensures.value) wrote,
     )) c.put_refusals-in-Err-OutOfMemory.ensures.ok
 
 pub returns-in-Err-OutOfMemory-clause-err : goal.returns-in-Err-OutOfMemory-clause-err
@@ -135,18 +135,18 @@ returns-in-Err-OutOfMemory-clause-err g c =
     let n = c.args.sizes.size in
     let reqs = c.args.batch.now.requests.items in
     let ops = c.args.batch.now.operations.items in
-    MatchResult-weaker c.put_refusals-in-Err-OutOfMemory.result c.put_refusals-in-Err-OutOfMemory.ensures.err (λ x h. tt) (λ f wrote asked collected. inl (
+    MatchResult-weaker c.put_refusals-in-Err-OutOfMemory.result c.put_refusals-in-Err-OutOfMemory.ensures.err (λ x h. tt) (λ f wrote arrived collected. inl (
       wrote.0,
       (
-        refused_requests n asked NoMemory,
-        all_refused b n c.args.disk.now c.carry_out_all.new.disk asked (λ may_lie world bytes h. c.blocks-blocks.ensures.held may_lie world bytes h ∙ sym c.requires.size) reqs c.deref-2.result.now
-            NoMemory (collected_as b n asked reqs ops _ c.deref-2.ensures.value collected) (inr refl) (λ io. absurd cc) some.0 some.1 some.2 (sym c.deref.ensures.value ∙ some.3) some.4 (weaker c.in-Err-OutOfMemory.ensures.goes (λ may_lie world old new h step. ((step.0, step.2), λ io. cc))),
-        subst (IsBegunText (g.W.Write.contents c.args.writer.now) (g.W.Write.contents c.put_refusals-in-Err-OutOfMemory.new.writer)) (text_refused n asked NoMemory reqs _ collected.same c.deref-in-Err-OutOfMemory.ensures.value) wrote.1,
+        refused_requests n arrived NoMemory,
+        all_refused b n c.args.disk.now c.carry_out_all.new.disk arrived (λ may_lie world bytes h. c.blocks-blocks.ensures.held may_lie world bytes h ∙ sym c.requires.size) reqs c.deref-2.result.now
+            NoMemory (collected_as b n arrived reqs ops _ c.deref-2.ensures.value collected) (inr refl) (λ io. absurd cc) some.0 some.1 some.2 (sym c.deref.ensures.value ∙ some.3) some.4 (weaker c.in-Err-OutOfMemory.ensures.goes (λ may_lie world old new h step. ((step.0, step.2), λ io. cc))),
+        subst (IsBegunText (g.W.Write.contents c.args.writer.now) (g.W.Write.contents c.put_refusals-in-Err-OutOfMemory.new.writer)) (text_refused n arrived NoMemory reqs _ collected.same c.deref-in-Err-OutOfMemory.ensures.value) wrote.1,
       ),
     ))
 
 pub returns-in-Err-Stopped-clause-err : goal.returns-in-Err-Stopped-clause-err
-returns-in-Err-Stopped-clause-err g c = λ asked collected.
+returns-in-Err-Stopped-clause-err g c = λ arrived collected.
     let b = c.args.sizes.block in
     let n = c.args.sizes.size in
     let reqs = c.args.batch.now.requests.items in
@@ -155,8 +155,8 @@ returns-in-Err-Stopped-clause-err g c = λ asked collected.
     inr (
       refl,
       (
-        all_begun b n c.args.disk.now c.carry_out_all.new.disk asked (λ may_lie world bytes h. c.blocks-blocks.ensures.held may_lie world bytes h ∙ sym c.requires.size) reqs c.deref-2.result.now
-            (collected_as b n asked reqs ops _ c.deref-2.ensures.value collected) some.0 some.1 some.2 (sym c.deref.ensures.value ∙ some.3) some.4 (weaker c.in-Err-Stopped.ensures.goes (λ may_lie world old new h step. (step.0, step.2))),
+        all_begun b n c.args.disk.now c.carry_out_all.new.disk arrived (λ may_lie world bytes h. c.blocks-blocks.ensures.held may_lie world bytes h ∙ sym c.requires.size) reqs c.deref-2.result.now
+            (collected_as b n arrived reqs ops _ c.deref-2.ensures.value collected) some.0 some.1 some.2 (sym c.deref.ensures.value ∙ some.3) some.4 (weaker c.in-Err-Stopped.ensures.goes (λ may_lie world old new h step. (step.0, step.2))),
         refl,
       ),
     )

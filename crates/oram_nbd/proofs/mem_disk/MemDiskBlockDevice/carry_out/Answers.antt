@@ -1,6 +1,6 @@
-use Rattle.std.proofs.Common.{◌≡◌, [], Bool, List, ℕ, Option, Some, length, map, refl, sym, ap, ◌∙◌, subst, arith, inl, inr}
+use Rattle.std.proofs.Common.{[], List, ℕ, Some, length, map, refl, sym, ap, ◌∙◌, subst, arith, inl, inr}
 use Rattle.std.proofs.lemmas.Result.{err_from_is_err_and}
-use Rattle.oram_nbd.specs.Beside.{GoesOn, Held, IsHeld}
+use Rattle.oram_nbd.specs.Beside.{Held}
 use Rattle.oram_nbd.specs.MemBlocks.{MemBlocks}
 use Rattle.oram_nbd.specs.Operations.{AreBegun, all_done, all_given}
 use Rattle.oram_nbd.proofs.Beside.{at_rest, one_call}
