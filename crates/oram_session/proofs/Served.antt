@@ -5,7 +5,7 @@ use Rattle.oram_wire.specs.FrameStream.{IsBody, frame}
 use Rattle.oram_semantics.specs.Scheme.{Scheme}
 use Rattle.oram_semantics.specs.State.{State}
 use Rattle.oram_session.specs.Outcome.{Outcome}
-use Rattle.oram_session.specs.Sessions.{reply_body, reply_frame, HasServed}
+use Rattle.oram_session.specs.Sessions.{reply_body, reply_frame, HasServedSession}
 use Rattle.oram_session.specs.Turns.{Turn, IsTurn}
 use Rattle.oram_host.proofs.Answered.{Answered, answered_more, answered_then}
 
@@ -21,7 +21,7 @@ module _ (v : Scheme) {L : Type 0} (calls : L → List ℕ → Outcome → L →
   -- and then further bytes were read and written
   pub served_then : (p : State × L) (r w : Option (List ℕ)) (n : ℕ) (q : State × L) (r' w' r'' w'' : Option (List ℕ)) (part more : List ℕ) →
       (k : Served p r w n q r' w') → Consumes r' r'' part → Appends w' w'' more
-      → HasServed v calls words session (record { before = p; turns = k.all; after = q; input = r; part = part; rest = r''; output = w; more = more; written = w'' })
+      → HasServedSession v calls words session (record { before = p; turns = k.all; after = q; input = r; part = part; rest = r''; output = w; more = more; written = w'' })
   served_then = answered_then {P = State × L} (IsTurn v calls words session) (λ x. x.body) reply_body
 
 -- under another scheme and another tape that are equal to these

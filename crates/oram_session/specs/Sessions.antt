@@ -44,8 +44,8 @@ pub record SessionRun (L : Type 0) : Type 0 where
 module _ (v : Scheme) {L : Type 0} (calls : L → List ℕ → Outcome → L → Type 0) (words : ℕ → ℕ → List ℕ) (session : ℕ) where
   -- The turns lead core and link from the one state to the other. The frames of their bodies were read, and then `part`; the
   -- frames of their replies were written, and then `more`.
-  abbrev pub HasServed : SessionRun L → Type 0
-  HasServed s = HasAnswered {P = State × L} (IsTurn v calls words session) (λ x. x.body) reply_body s.before s.turns s.after s.part s.input s.rest s.more s.output s.written
+  abbrev pub HasServedSession : SessionRun L → Type 0
+  HasServedSession s = HasAnswered {P = State × L} (IsTurn v calls words session) (λ x. x.body) reply_body s.before s.turns s.after s.part s.input s.rest s.more s.output s.written
 
   -- What is left of a turn at which memory ran out. Only the length of the frame was read; or the frame was read, and
   -- nothing happened, or the request was cut off, or everything was done except the reply.

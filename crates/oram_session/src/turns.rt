@@ -13,7 +13,7 @@ ghost use Rattle.oram_core.specs.PlainSteps.{done};
 ghost use Rattle.oram_core.specs.Steps.{Steps};
 ghost use Rattle.oram_session.specs.CoreWork.{HasNoWork, IsBegun};
 ghost use Rattle.oram_session.specs.Turns.{Turn, IsTurn, IsStuck, IsCutTurn};
-ghost use Rattle.oram_session.specs.Sessions.{HasServed, IsLeft, LeavesCore, reply_frame};
+ghost use Rattle.oram_session.specs.Sessions.{HasServedSession, IsLeft, LeavesCore, reply_frame};
 
 use crate::exchanges::carry_out;
 use crate::link::Link;
@@ -138,7 +138,7 @@ pub fn serve<S: Sealer, R: Read, W: Write, L: Link, T: Tape>(
     ensures tape { T.words tape.new ≡ T.words tape.old }
     ensures ok { let v = scheme_of S.cipher core.old in
         IfOk result (λ k. (turns : List Turn) × (length turns ≡ k)
-        × HasServed v L.calls (T.words tape.old) session (record {
+        × HasServedSession v L.calls (T.words tape.old) session (record {
           before = (core.old.state, link.old);
           turns = turns;
           after = (core.new.state, link.new);
@@ -154,7 +154,7 @@ pub fn serve<S: Sealer, R: Read, W: Write, L: Link, T: Tape>(
     // A frame's length is too great, the input ends inside a frame, or the reader fails before a frame is whole.
     ensures frame { let v = scheme_of S.cipher core.old in
         IsErrOf result ServeFault.Frame → (turns : List Turn) × (head : List ℕ) × (length head ≡ 4) × IsBroken head
-        × HasServed v L.calls (T.words tape.old) session (record {
+        × HasServedSession v L.calls (T.words tape.old) session (record {
           before = (core.old.state, link.old);
           turns = turns;
           after = (core.new.state, link.new);
@@ -167,7 +167,7 @@ pub fn serve<S: Sealer, R: Read, W: Write, L: Link, T: Tape>(
         }) }
     ensures truncated { let v = scheme_of S.cipher core.old in
         IsErrOf result ServeFault.Truncated → (turns : List Turn) × (part : List ℕ) × (0 < length part) × IsUnfinished part
-        × HasServed v L.calls (T.words tape.old) session (record {
+        × HasServedSession v L.calls (T.words tape.old) session (record {
           before = (core.old.state, link.old);
           turns = turns;
           after = (core.new.state, link.new);
@@ -181,7 +181,7 @@ pub fn serve<S: Sealer, R: Read, W: Write, L: Link, T: Tape>(
         × IsAtEnd (R.remaining reader.new) }
     ensures read { let v = scheme_of S.cipher core.old in
         IsErrOf result ServeFault.Read → (turns : List Turn) × (part : List ℕ) × IsUnfinished part
-        × HasServed v L.calls (T.words tape.old) session (record {
+        × HasServedSession v L.calls (T.words tape.old) session (record {
           before = (core.old.state, link.old);
           turns = turns;
           after = (core.new.state, link.new);
@@ -197,7 +197,7 @@ pub fn serve<S: Sealer, R: Read, W: Write, L: Link, T: Tape>(
     ensures write { let v = scheme_of S.cipher core.old in
         IsErrOf result ServeFault.Write → (turns : List Turn) × (mid : State × L) × (last : Turn) × (count : ℕ) × IsBody last.body
         × IsTurn v L.calls (T.words tape.old) session mid last (core.new.state, link.new)
-        × HasServed v L.calls (T.words tape.old) session (record {
+        × HasServedSession v L.calls (T.words tape.old) session (record {
           before = (core.old.state, link.old);
           turns = turns;
           after = mid;
@@ -213,7 +213,7 @@ pub fn serve<S: Sealer, R: Read, W: Write, L: Link, T: Tape>(
     ensures stalled { let v = scheme_of S.cipher core.old in
         IsErrOf result ServeFault.Stalled → (turns : List Turn) × (mid : State × L) × (body : List ℕ) × IsBody body
         × IsStuck v L.calls (T.words tape.old) session mid body (core.new.state, link.new)
-        × HasServed v L.calls (T.words tape.old) session (record {
+        × HasServedSession v L.calls (T.words tape.old) session (record {
           before = (core.old.state, link.old);
           turns = turns;
           after = mid;
@@ -229,7 +229,7 @@ pub fn serve<S: Sealer, R: Read, W: Write, L: Link, T: Tape>(
     ensures memory { let v = scheme_of S.cipher core.old in
         IsErrOf result ServeFault.OutOfMemory → (turns : List Turn) × (mid : State × L) × (part : List ℕ)
         × IsLeft v L.calls (T.words tape.old) session mid part (core.new.state, link.new)
-        × HasServed v L.calls (T.words tape.old) session (record {
+        × HasServedSession v L.calls (T.words tape.old) session (record {
           before = (core.old.state, link.old);
           turns = turns;
           after = mid;

@@ -9,7 +9,7 @@ use Rattle.oram_wire.specs.FrameStream.{IsBroken, IsUnfinished}
 use Rattle.oram_semantics.specs.Scheme.{Scheme}
 use Rattle.oram_semantics.specs.State.{State}
 use Rattle.oram_session.specs.Outcome.{Outcome}
-use Rattle.oram_session.specs.Sessions.{HasServed, SessionRun}
+use Rattle.oram_session.specs.Sessions.{HasServedSession, SessionRun}
 use Rattle.oram_session.specs.Tapes.{chacha_words}
 use Rattle.oram_session.specs.Turns.{Turn}
 use Rattle.oram_host.specs.declared.serve_fault.ServeFault.{ServeFault}
@@ -49,7 +49,7 @@ module _ {L : Type 0} (calls : L → List ℕ → Outcome → L → Type 0) (d :
 
   -- the turns that a device of these sizes answered
   abbrev pub Served : List Turn → List ℕ → Type 0
-  Served turns part = HasServed (scheme_at d) calls (chacha_words key trees) 0 (run turns part)
+  Served turns part = HasServedSession (scheme_at d) calls (chacha_words key trees) 0 (run turns part)
 
   abbrev pub Answered : List ℕ → Type 0
   Answered part = HasAnswered calls from frames part replies replies' unread to
@@ -57,8 +57,8 @@ module _ {L : Type 0} (calls : L → List ℕ → Outcome → L → Type 0) (d :
   module _ (sized : d ≡ loop_sizes) (zero_key : key ≡ replicate 32 0) (count : trees ≡ trees_of d) (formatted : IsFormatted (scheme_at d) calls from new mid) where
     pub answered : (turns : List Turn) (part : List ℕ) → Served turns part → Answered part
     answered turns part served =
-        let P : Scheme → Type 0 = λ v. HasServed v calls (chacha_words key trees) 0 (run turns part) in
-        let Q : (ℕ → ℕ → List ℕ) → Type 0 = λ words. HasServed loop_scheme calls words 0 (run turns part) in
+        let P : Scheme → Type 0 = λ v. HasServedSession v calls (chacha_words key trees) 0 (run turns part) in
+        let Q : (ℕ → ℕ → List ℕ) → Type 0 = λ words. HasServedSession loop_scheme calls words 0 (run turns part) in
         let words : chacha_words key trees ≡ loop_words = ap₂ chacha_words zero_key (count ∙ ap trees_of sized) in
         record {
           new = new;

@@ -6,7 +6,7 @@ use Rattle.oram_bucket.specs.Cipher.{plain_cipher}
 use Rattle.oram_semantics.specs.Scheme.{Scheme}
 use Rattle.oram_semantics.specs.State.{State}
 use Rattle.oram_session.specs.Outcome.{Outcome}
-use Rattle.oram_session.specs.Sessions.{HasServed}
+use Rattle.oram_session.specs.Sessions.{HasServedSession}
 use Rattle.oram_session.specs.Tapes.{chacha_words}
 use Rattle.oram_session.specs.Turns.{Turn}
 use Rattle.oram_host.specs.declared.serve_fault.ServeFault.{ServeFault}
@@ -52,7 +52,7 @@ pub record HasAnswered {L : Type 0} (calls : L → List ℕ → Outcome → L �
   pub formatted : IsFormatted loop_scheme calls from new mid
   pub turns : List Turn
   pub after : State
-  pub served : HasServed loop_scheme calls loop_words 0 (record {
+  pub served : HasServedSession loop_scheme calls loop_words 0 (record {
     before = (new, mid);
     turns = turns;
     after = (after, to);

@@ -53,7 +53,7 @@ impl<'a> Dial for Connections<'a> {
     }
 }
 
-/// Is told of no trouble.
+/// Notes no trouble.
 #[derive(Drop)]
 struct NoWatch;
 

@@ -16,7 +16,7 @@ const ROOM: usize = 65_536;
 #[derive(Drop)]
 pub struct Connections {
     said: Vec<u8>,
-    told: Vec<u8>,
+    replies: Vec<u8>,
 }
 
 /// How a connection ended, and the writer that has what the client received.
@@ -99,7 +99,7 @@ impl Connections {
     pub fn new(alloc: Global) -> Connections {
         Connections {
             said: Vec::new(alloc),
-            told: Vec::new(alloc),
+            replies: Vec::new(alloc),
         }
     }
 
@@ -115,7 +115,7 @@ impl Connections {
             reader: Source::new(&self.said, Pace::smooth(false)),
         };
         let talk = talked(alloc, &mut source, ROOM, Pace::smooth(true))?;
-        self.told = talk.1.bytes().to_vec(alloc)?;
+        self.replies = talk.1.bytes().to_vec(alloc)?;
         write_talk(page, &talk)
     }
 
@@ -143,7 +143,7 @@ impl Connections {
             reader: Source::new(said, pace),
         };
         let (ended, target) = talked(alloc, &mut source, ROOM, Pace::smooth(true))?;
-        if !self.told.as_slice().starts_with(target.bytes()) {
+        if !self.replies.as_slice().starts_with(target.bytes()) {
             return Err(RowFault::NoRow);
         }
         Ok((ended, target.bytes().len()))
@@ -179,7 +179,7 @@ impl Connections {
             reader: Source::new(&self.said, Pace::smooth(false)),
         };
         let (ended, target) = talked(alloc, &mut source, room, pace)?;
-        Ok(ended == Err(NbdFault::Write) && self.told.get(..room) == Some(target.bytes()))
+        Ok(ended == Err(NbdFault::Write) && self.replies.get(..room) == Some(target.bytes()))
     }
 
     /// `nbd rooms FROM TO ends|fails`: tries every amount of room from `FROM` up to but not including `TO`. It writes

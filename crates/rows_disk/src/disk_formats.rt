@@ -13,14 +13,14 @@ const IDENTITY: Identity = Identity([0x1d; 32]);
 
 /// The progress that was reported last.
 #[derive(Drop)]
-struct Told {
+struct Reported {
     messages: Cell<u64>,
     of: Cell<u64>,
 }
 
 /// Keeps the progress that it receives.
 #[derive(Drop)]
-struct Hearer<'a>(&'a Told);
+struct Hearer<'a>(&'a Reported);
 
 impl<'a> Progress for Hearer<'a> {
     fn answered(&mut self, messages: u64, of: u64) {
@@ -44,10 +44,10 @@ fn connection<'a>(
     alloc: Global,
     device: &Device,
     far: &'a RefCell<FarEnd>,
-    told: &'a Told,
+    reported: &'a Reported,
 ) -> Result<Connection<'a>, RowFault> {
     match BufWriter::new(alloc, Messages(far)) {
-        Ok(writer) => Ok(Ahead::new(alloc, device, Answers(far), writer, Hearer(told))),
+        Ok(writer) => Ok(Ahead::new(alloc, device, Answers(far), writer, Hearer(reported))),
         Err(_) => Err(RowFault::OutOfMemory),
     }
 }
@@ -92,16 +92,16 @@ fn write_formatted(
     far: &RefCell<FarEnd>,
     times: u32,
 ) -> Result<(), RowFault> {
-    let told = Told {
+    let reported = Reported {
         messages: Cell::new(0),
         of: Cell::new(0),
     };
-    let mut ahead = connection(alloc, device, far, &told)?;
+    let mut ahead = connection(alloc, device, far, &reported)?;
     let made = formatted(alloc, device, &mut ahead, times);
     let lacks_memory = far.try_borrow().is_ok_and(|far| far.lacks_memory());
     write_made(page, made, lacks_memory)?;
-    page.number(told.messages.get());
-    page.number(told.of.get());
+    page.number(reported.messages.get());
+    page.number(reported.of.get());
     Ok(())
 }
 

@@ -10,9 +10,9 @@ const NO_MEMORY: [u8; 8] = [0x67, 0x44, 0x66, 0x98, 0, 0, 0, 12];
 /// Returns how a connection ended. Fails with [`RowFault::OutOfMemory`] if memory ran out in it.
 pub fn with_memory(
     ended: Result<u64, NbdFault>,
-    told: &[u8],
+    replies: &[u8],
 ) -> Result<Result<u64, NbdFault>, RowFault> {
-    let is_refused = told
+    let is_refused = replies
         .windows(NO_MEMORY.len())
         .any(|part| part == NO_MEMORY.as_slice());
     if is_refused || ended == Err(NbdFault::OutOfMemory) {

@@ -32,11 +32,11 @@ pub fn command_line(alloc: Global, words: &mut RowWords, page: &mut Page) -> Res
         }
         texts.push(words.text())?;
     }
-    put_told(&read_command_line(alloc, &texts), page)
+    put_request(&read_command_line(alloc, &texts), page)
 }
 
-fn put_told(told: &Result<Subcommand, NoRequest>, page: &mut Page) -> Result<(), RowFault> {
-    match told {
+fn put_request(read: &Result<Subcommand, NoRequest>, page: &mut Page) -> Result<(), RowFault> {
+    match read {
         Ok(subcommand) => put_subcommand(subcommand, page),
         Err(NoRequest::Help(_)) => page.word("help"),
         Err(NoRequest::Mistake(_)) => page.word("bad"),
