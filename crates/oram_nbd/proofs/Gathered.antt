@@ -13,7 +13,7 @@ use Rattle.oram_nbd.specs.Bytes.{bytes_at}
 use Rattle.oram_nbd.specs.Calls.{KeepsAll, KeepsPart}
 use Rattle.oram_nbd.specs.DeviceKind.{DeviceKind}
 use Rattle.oram_nbd.specs.Streams.{ComesShort, IsBegunText}
-use Rattle.oram_nbd.specs.Transmission.{HasServed, IsBehind, IsCutOff, ServesBatch}
+use Rattle.oram_nbd.specs.Transmission.{HasServedRequests, IsBehind, IsCutOff, ServesBatch}
 use Rattle.oram_nbd.specs.declared.batches.Close.{Close}
 use Rattle.oram_nbd.specs.declared.batches.Close.TheVariants.{Waits, NoRoom, Leaves, Breaks}
 use Rattle.oram_nbd.specs.declared.faults.NbdFault.{NbdFault}
@@ -352,7 +352,7 @@ module _ (block size : ℕ) (requests : List Request) (operations : List Operati
 
 -- one batch
 pub one_batch : {D W E : Type 0} {kind : DeviceKind D W E} {size : ℕ} {old new : D} {batch : List AnsweredRequest} → All (λ (t : AnsweredRequest). IsReplied size t) batch → FailsForGood (kind.failed old) batch → ServesBatch kind size old batch new
-    → HasServed kind size old new batch
+    → HasServedRequests kind size old new batch
 one_batch {new = new} {batch = batch} fits refused serves = record { fits = fits; refused = refused; batches = batch ∷ []; all = append-nil batch; served = (new, serves, refl) }
 
 -- operations were begun, and so much of them is kept

@@ -11,7 +11,7 @@ use Rattle.oram_nbd.specs.DeviceKind.{DeviceKind}
 use Rattle.oram_nbd.specs.Service.{asked_in, whole_requests_text, asking, greatest_flags, misfit, refusal_of, replying, requests_text, replies_text, WholeRequest, IsWholeRequest, IsPartly, IsReplied, FailsForGood, SaysFailed, AnsweredRequest}
 use Rattle.oram_nbd.specs.Messages.SimpleReply.{Refused}
 use Rattle.oram_nbd.specs.Streams.{streams, Streams}
-use Rattle.oram_nbd.specs.Transmission.{HasExchanged, HasServed, IsBehind, ServesBatch, StopsServing}
+use Rattle.oram_nbd.specs.Transmission.{HasExchanged, HasServedRequests, IsBehind, ServesBatch, StopsServing}
 use Rattle.oram_nbd.specs.declared.TheConstants.{LONGEST_PAYLOAD}
 use Rattle.oram_nbd.specs.declared.faults.NbdError.{NbdError}
 use Rattle.oram_nbd.specs.declared.faults.NbdError.TheVariants.{Io, Invalid, NoSpace}
@@ -89,12 +89,12 @@ asked_of_answered (t ∷ answered) = ap (λ (l : List ℕ). asking t ++ l) (aske
 
 -- for a device of this kind, from this state on
 module _ {D W E : Type 0} (kind : DeviceKind D W E) (old : D) where
-  pub served_none : HasServed kind (kind.size old) old old []
+  pub served_none : HasServedRequests kind (kind.size old) old old []
   served_none = record { fits = All-nil (λ a. IsReplied (kind.size old) a); refused = tt; batches = []; all = refl; served = refl }
 
   -- more requests
-  pub served_join : (mid new : D) (answered more : List AnsweredRequest) → HasServed kind (kind.size old) old mid answered → (kind.failed old ⊎ SaysFailed answered → kind.failed mid)
-      → HasServed kind (kind.size old) mid new more → HasServed kind (kind.size old) old new (answered ++ more)
+  pub served_join : (mid new : D) (answered more : List AnsweredRequest) → HasServedRequests kind (kind.size old) old mid answered → (kind.failed old ⊎ SaysFailed answered → kind.failed mid)
+      → HasServedRequests kind (kind.size old) mid new more → HasServedRequests kind (kind.size old) old new (answered ++ more)
   served_join mid new answered more s tells m = record {
     fits = All-append (λ (a : AnsweredRequest). IsReplied (kind.size old) a) answered more s.fits m.fits;
     refused = refuses_join (kind.failed old) (kind.failed mid) answered more s.refused tells m.refused;
@@ -108,7 +108,7 @@ module _ {D W E : Type 0} (kind : DeviceKind D W E) (old : D) where
   pub record Served (from : Streams) (count : ℕ) (mid : D) (now : Streams) (part : List ℕ) : Type 0 where
     pub answered : List AnsweredRequest
     pub many : length answered ≡ count
-    pub served : HasServed kind (kind.size old) old mid answered
+    pub served : HasServedRequests kind (kind.size old) old mid answered
     pub still : kind.failed old → kind.failed mid
     pub reported : SaysFailed answered → kind.failed mid
     pub read : Consumes from.unread now.unread (requests_text answered ++ part)
@@ -133,7 +133,7 @@ module _ {D W E : Type 0} (kind : DeviceKind D W E) (old : D) where
 
     -- a batch of what was read is answered
     pub all_served : (new : D) (arrived : List WholeRequest) (answered : List AnsweredRequest) → HasRepliedToAll kind (kind.size old) mid new arrived answered
-        → HasServed kind (kind.size old) old new (s.answered ++ answered)
+        → HasServedRequests kind (kind.size old) old new (s.answered ++ answered)
     all_served new arrived answered a = served_join mid new s.answered answered s.served (λ e. elim e [ inl f ↦ s.still f | inr says ↦ s.reported says ]) a.served
 
     unfoldable pub batch_answered : (new : D) (written : Option (List ℕ)) (arrived : List WholeRequest) (answered : List AnsweredRequest) (rest : List ℕ) → part ≡ whole_requests_text arrived ++ rest → (kind.failed mid → kind.failed new)
@@ -178,7 +178,7 @@ module _ {D W E : Type 0} (kind : DeviceKind D W E) (old : D) where
       [],
       part,
       0,
-      subst (λ (l : List AnsweredRequest). HasServed kind (kind.size old) old mid l) (sym (append-nil s.answered)) s.served,
+      subst (λ (l : List AnsweredRequest). HasServedRequests kind (kind.size old) old mid l) (sym (append-nil s.answered)) s.served,
       behind,
       exchanged,
     )

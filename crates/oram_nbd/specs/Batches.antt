@@ -10,7 +10,7 @@ use Rattle.oram_nbd.specs.Messages.{request_text, reply_text, SimpleReply}
 use Rattle.oram_nbd.specs.Messages.SimpleReply.{Done, Refused}
 use Rattle.oram_nbd.specs.Operations.{IsPartOf, IsWithin, ReadsWhole, done_by, given_by, len_of, read_len}
 use Rattle.oram_nbd.specs.Service.{after, asked_in, whole_requests_text, given, given_len, refusal_of, replies_text, touched_len, AnsweredRequest, AreRequestsBegun, IsPartly, IsWholeRequest, SaysFailed, WholeRequest}
-use Rattle.oram_nbd.specs.Transmission.{HasServed, IsCutOff, IsLast}
+use Rattle.oram_nbd.specs.Transmission.{HasServedRequests, IsCutOff, IsLast}
 use Rattle.oram_nbd.specs.declared.batches.Close.{Close}
 use Rattle.oram_nbd.specs.declared.batches.Close.TheVariants.{Waits, NoRoom, Leaves, Breaks}
 use Rattle.oram_nbd.specs.declared.faults.NbdError.{NbdError}
@@ -113,7 +113,7 @@ module _ {D W E : Type 0} (kind : DeviceKind D W E) (size : ℕ) (old new : D) (
   -- Each request of the batch got its reply. If a reply says that the device has failed, it has.
   pub record HasRepliedToAll (answered : List AnsweredRequest) : Type 0 where
     pub same : map asked_in answered ≡ arrived
-    pub served : HasServed kind size old new answered
+    pub served : HasServedRequests kind size old new answered
     pub reported : SaysFailed answered → kind.failed new
 
   -- The device stopped. Some request isn't refused.

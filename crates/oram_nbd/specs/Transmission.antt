@@ -67,7 +67,7 @@ module _ {D W E : Type 0} (kind : DeviceKind D W E) (size : ℕ) where
       (λ may_lie before later. IsService before.now batch later.now × (may_lie ≡ false → NeverFails batch) × KeepsBatch old batch new before later) new
 
   -- These requests were served, in batches, one after the other.
-  pub record HasServed (old new : D) (answered : List AnsweredRequest) : Type 0 where
+  pub record HasServedRequests (old new : D) (answered : List AnsweredRequest) : Type 0 where
     pub fits : All (λ a. IsReplied size a) answered
     pub refused : FailsForGood (kind.failed old) answered
     pub batches : List (List AnsweredRequest)
@@ -79,7 +79,7 @@ module _ {D W E : Type 0} (kind : DeviceKind D W E) (size : ℕ) where
   -- have held before, or what some beginning of the batch leaves.
   pub record HasStopped (old new : D) (answered : List AnsweredRequest) (requests : List WholeRequest) : Type 0 where
     pub mid : D
-    pub served : HasServed old mid answered
+    pub served : HasServedRequests old mid answered
     pub whole : All IsWholeRequest requests
     pub accepted : (before after : List WholeRequest) × (a : WholeRequest) × (requests ≡ before ++ a ∷ after) × (refusal_of size a.request ≡ None)
     pub begun : GoesOn kind.had kind.hears (IsHeld kind.holds kind.kept) mid
@@ -92,7 +92,7 @@ module _ {D W E : Type 0} (kind : DeviceKind D W E) (old new : D) where
     pub answered : List AnsweredRequest
     pub last : List ℕ
     pub all : length answered ≡ count
-    pub served : HasServed kind (kind.size old) old new answered
+    pub served : HasServedRequests kind (kind.size old) old new answered
     pub exchanged : HasExchanged answered last [] before after
     pub ended : IsLast after.unread last
 
@@ -101,11 +101,11 @@ module _ {D W E : Type 0} (kind : DeviceKind D W E) (old new : D) where
   -- wasn't served.
   abbrev pub StopsServing : NbdFault → Streams → Streams → Type 0
   StopsServing Write before after =
-      (answered batch : List AnsweredRequest) × (part : List ℕ) × (count : ℕ) × HasServed kind (kind.size old) old new (answered ++ batch) × IsBehind part
+      (answered batch : List AnsweredRequest) × (part : List ℕ) × (count : ℕ) × HasServedRequests kind (kind.size old) old new (answered ++ batch) × IsBehind part
       × HasExchanged answered (requests_text batch ++ part) (take count (replies_text batch)) before after
   StopsServing Stopped before after =
       (answered : List AnsweredRequest) × (arrived : List WholeRequest) × (part : List ℕ) × HasStopped kind (kind.size old) old new answered arrived × IsBehind part
       × HasExchanged answered (whole_requests_text arrived ++ part) [] before after
   StopsServing fault before after =
-      (answered : List AnsweredRequest) × (part : List ℕ) × HasServed kind (kind.size old) old new answered × HasExchanged answered part [] before after
+      (answered : List AnsweredRequest) × (part : List ℕ) × HasServedRequests kind (kind.size old) old new answered × HasExchanged answered part [] before after
       × IsCutOff fault part after.unread
