@@ -14,35 +14,35 @@ use Rattle.oram_nbd.specs.declared.faults.NbdFault.{NbdFault}
 use Rattle.oram_nbd.specs.declared.faults.NbdFault.TheVariants as fault
 use Rattle.oram_nbd.specs.declared.operations.Operation.{Operation}
 use Rattle.oram_nbd.specs.declared.requests.Request.{Request}
-use Rattle.oram_nbd.proofs.Gathered.{behind_ends, behind_left, length_same, refused_at_rest, refused_requests, text_refused}
+use Rattle.oram_nbd.proofs.Gathered.{at_size, begun_at_size, behind_ends, behind_left, length_same, refused_at_rest, refused_requests, text_refused}
 use Rattle.oram_nbd.proofs.Served.{Served, batch_answered, exchanged, read_on, stopped_at_batch, stopped_at_flush, stopped_at_replies}
 
 -- for a device of this kind, from this state on, at the beginning of these streams
 module _ {D W E : Type 0} (kind : DeviceKind D W E) (old : D) (from : Streams) where
   -- a batch was read
-  module _ (count : ℕ) (mid : D) (now : Streams) (unread : Option (List ℕ)) (block size : ℕ) (requests : List Request) (ops : List Operation) (close : Close) (s : Served kind old from count mid now []) (same : size ≡ kind.size old)
+  module _ (count : ℕ) (mid : D) (now : Streams) (unread : Option (List ℕ)) (block size : ℕ) (requests : List Request) (ops : List Operation) (close : Close) (s : Served kind old from count mid now []) (same : kind.size mid ≡ kind.size old)
       (h : HasGathered block size requests ops close now.unread unread) where
     was_read : Served kind old from count mid (streams unread now.written) (whole_requests_text h.arrived ++ h.part)
     was_read = read_on kind old from count mid now [] s unread (whole_requests_text h.arrived ++ h.part) refl h.read
 
     -- and answered
-    pub batch_served : (new : D) (written : Option (List ℕ)) → (kind.failed mid → kind.failed new) → EndsBatch kind size mid new h.arrived now.written written
+    pub batch_served : (new : D) (written : Option (List ℕ)) → (kind.failed mid → kind.failed new) → EndsBatch kind mid new h.arrived now.written written
         → Served kind old from (count + length requests) new (streams unread written) h.part
     batch_served new written still e =
-        let a : HasRepliedToAll kind (kind.size old) mid new h.arrived e.0 = subst (λ (n : ℕ). HasRepliedToAll kind n mid new h.arrived e.0) same e.1 in
+        let a : HasRepliedToAll kind (kind.size old) mid new h.arrived e.0 = at_size same e.1 in
         let many : length e.0 ≡ length requests = length_same h.arrived e.0 a.same ∙ sym (length-map h.arrived (λ (x : WholeRequest). x.request)) ∙ ap length h.collected.same in
         subst (λ (n : ℕ). Served kind old from (count + n) new (streams unread written) h.part) many
         (batch_answered kind old from count mid (streams unread now.written) (whole_requests_text h.arrived ++ h.part) was_read new written h.arrived e.0 h.part refl still a e.2)
 
     -- or its replies weren't written, or the device stopped
-    pub batch_broken : (new : D) (written : Option (List ℕ)) (f : NbdFault) → BreaksBatch kind size mid new h.arrived f now.written written
+    pub batch_broken : (new : D) (written : Option (List ℕ)) (f : NbdFault) → BreaksBatch kind mid new h.arrived f now.written written
         → StopsServing kind old new f from (streams unread written)
     batch_broken new written f (inl b) =
-        let a : HasRepliedToAll kind (kind.size old) mid new h.arrived b.1.0 = subst (λ (n : ℕ). HasRepliedToAll kind n mid new h.arrived b.1.0) same b.1.1 in
+        let a : HasRepliedToAll kind (kind.size old) mid new h.arrived b.1.0 = at_size same b.1.1 in
         subst (λ (g : NbdFault). StopsServing kind old new g from (streams unread written)) (sym b.0)
         (stopped_at_replies kind old from count mid (streams unread now.written) (whole_requests_text h.arrived ++ h.part) was_read new written h.arrived b.1.0 h.part b.1.2.0 refl (behind_ends close h.part unread h.ends) a b.1.2.1)
     batch_broken new written f (inr b) =
-        let begun : HasBegun kind (kind.size old) mid new h.arrived = subst (λ (n : ℕ). HasBegun kind n mid new h.arrived) same b.1.0 in
+        let begun : HasBegun kind (kind.size old) mid new h.arrived = begun_at_size same b.1.0 in
         subst (λ (g : NbdFault). StopsServing kind old new g from (streams unread written)) (sym b.0)
         (subst (λ (w : Option (List ℕ)). StopsServing kind old new fault.Stopped from (streams unread w)) (sym b.1.1)
         (stopped_at_batch kind old from count mid (streams unread now.written) (whole_requests_text h.arrived ++ h.part) was_read new h.arrived h.part refl (behind_ends close h.part unread h.ends) h.collected.all begun))

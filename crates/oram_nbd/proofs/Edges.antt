@@ -6,13 +6,13 @@ use Rattle.std.proofs.lemmas.Bool.{cases_lt}
 use Rattle.std.proofs.lemmas.List.Elements.{All-cons, All-nil}
 use Rattle.std.proofs.lemmas.Result.{on_err_weaker, on_ok_weaker}
 use Rattle.oram_nbd.specs.Bytes.{bytes_at, written, zeroes, IsBegun}
-use Rattle.oram_nbd.specs.Beside.{Held}
-use Rattle.oram_nbd.specs.Calls.{KeepsAll, Writes}
+use Rattle.oram_nbd.specs.Beside.{Arrays}
+use Rattle.oram_nbd.specs.Calls.{SavesAll, Writes}
 use Rattle.oram_nbd.specs.Operations.{AreBegun, IsWhole, IsWithin, TouchSomeByte, all_done, len_of, place_of}
 use Rattle.oram_nbd.specs.declared.faults.DiskFault.{DiskFault}
 use Rattle.oram_nbd.specs.declared.operations.Operation.{Operation}
 use Rattle.oram_nbd.specs.declared.operations.Operation.TheVariants.{Write, Zero}
-use Rattle.oram_nbd.proofs.Keeping.{keeps_behind}
+use Rattle.oram_nbd.proofs.Saving.{saves_behind}
 use Rattle.oram_nbd.proofs.Splices.{begun_front, begun_none, begun_more, begun_whole, covered_begun, covered_wrote, written_twice}
 
 -- ---- Numbers of bytes and of blocks
@@ -288,13 +288,13 @@ module _ (bytes before after whole part : List ℕ) (p p' n s at : ℕ) (within 
       (covered_begun bytes (bytes_at bytes p n) whole part p p' n s within fits place refl put_in later (subst (λ (l : List ℕ). IsBegun l p' whole later) same begun))
 
   -- the blocks around it were read before, and left the array as it was
-  pub around_writes : {T touched : Type 0} (result : Result T DiskFault) (may_lie : Bool) (old mid later : Held (List ℕ)) → old.now ≡ bytes → mid.now ≡ old.now → KeepsAll touched old mid → 0 < length whole
+  pub around_writes : {T touched : Type 0} (result : Result T DiskFault) (may_lie : Bool) (old mid later : Arrays (List ℕ)) → old.held ≡ bytes → mid.held ≡ old.held → SavesAll touched old mid → 0 < length whole
       → Writes p' whole result may_lie mid later → Writes at part result may_lie old later
   around_writes result may_lie old mid later is same all some w =
       let back = sym is in (
-        on_ok_weaker result (λ wrote. around_wrote mid.now later.now (same ∙ is) wrote ∙ ap (λ (l : List ℕ). written l at part) back) w.0,
-        on_err_weaker result (λ begun. subst (λ (l : List ℕ). IsBegun l at part later.now) back (around_begun mid.now later.now (same ∙ is) begun)) w.1,
+        on_ok_weaker result (λ wrote. around_wrote mid.held later.held (same ∙ is) wrote ∙ ap (λ (l : List ℕ). written l at part) back) w.0,
+        on_err_weaker result (λ begun. subst (λ (l : List ℕ). IsBegun l at part later.held) back (around_begun mid.held later.held (same ∙ is) begun)) w.1,
         w.2,
-        keeps_behind (0 < length part) (λ one x. IsBegun one p' whole x) (λ one x. IsBegun one at part x) later result all (subst (λ (l : List ℕ). IsBegun old.now at part l) (sym same) (begun_none old.now at part)) w.3 some
-            (λ x begun. subst (λ (l : List ℕ). IsBegun l at part x) back (around_begun mid.now x (same ∙ is) begun)),
+        saves_behind (0 < length part) (λ one x. IsBegun one p' whole x) (λ one x. IsBegun one at part x) later result all (subst (λ (l : List ℕ). IsBegun old.held at part l) (sym same) (begun_none old.held at part)) w.3 some
+            (λ x begun. subst (λ (l : List ℕ). IsBegun l at part x) back (around_begun mid.held x (same ∙ is) begun)),
       )

@@ -8,9 +8,9 @@ use Rattle.std.specs.Io.KnownBytes.{Appends, Consumes}
 use Rattle.std.proofs.KnownBytes.{Appends-nil, Appends-trans, Consumes-nil, Consumes-trans}
 use Rattle.std.proofs.lemmas.List.Elements.{All-append, All-cons, All-head, All-nil, All-tail}
 use Rattle.oram_nbd.specs.Batches.{answers_text, asked_part, refusals_text, reply_if, reply_of, AreCollected, AreServedBy, EndsBy, HasRepliedToAll, HasBegun, HasGathered, IsWithoutMemory, LeftBy, DoesRequest, DoesIfAccepted}
-use Rattle.oram_nbd.specs.Beside.{GoesOn, Held, IsHeld}
+use Rattle.oram_nbd.specs.Beside.{GoesOn, Arrays, HasArrays}
 use Rattle.oram_nbd.specs.Bytes.{bytes_at}
-use Rattle.oram_nbd.specs.Calls.{KeepsAll, KeepsPart}
+use Rattle.oram_nbd.specs.Calls.{SavesAll, SavesPart}
 use Rattle.oram_nbd.specs.DeviceKind.{DeviceKind}
 use Rattle.oram_nbd.specs.Streams.{ComesShort, IsBegunText}
 use Rattle.oram_nbd.specs.Transmission.{HasServedRequests, IsBehind, IsCutOff, ServesBatch}
@@ -30,7 +30,7 @@ use Rattle.oram_nbd.specs.declared.operations.Operation.{Operation}
 use Rattle.oram_nbd.specs.declared.operations.Operation.TheVariants.{Read}
 use Rattle.oram_nbd.specs.declared.requests.Request.{Request}
 use Rattle.oram_nbd.proofs.Beside.{at_rest, weaker}
-use Rattle.oram_nbd.proofs.Keeping.{all_weaker, part_weaker}
+use Rattle.oram_nbd.proofs.Saving.{all_weaker, part_weaker}
 use Rattle.oram_nbd.proofs.KeptBatches.{all_done_as_asked, done_as_asked, served_one, some_touches}
 use Rattle.oram_nbd.proofs.ListSteps.{length_done, length_part, part_whole}
 use Rattle.oram_nbd.proofs.Served.{partly_none, refusal_is_other}
@@ -356,15 +356,15 @@ pub one_batch : {D W E : Type 0} {kind : DeviceKind D W E} {size : ℕ} {old new
 one_batch {new = new} {batch = batch} fits refused serves = record { fits = fits; refused = refused; batches = batch ∷ []; all = append-nil batch; served = (new, serves, refl) }
 
 -- operations were begun, and so much of them is kept
-abbrev pub Begun : List Operation → Held (List ℕ) → Held (List ℕ) → Type 0
-Begun ops from to = AreBegun ops from.now to.now × KeepsPart (AreBegun ops) from to
+abbrev pub Begun : List Operation → Arrays (List ℕ) → Arrays (List ℕ) → Type 0
+Begun ops from to = AreBegun ops from.held to.held × SavesPart (AreBegun ops) from to
 
 module _ {D W E : Type 0} {kind : DeviceKind D W E} (block size : ℕ) (old new : D) (arrived : List WholeRequest)
     (sized : (may_lie : Bool) (world : W) (bytes : List ℕ) → kind.holds may_lie old world bytes → length bytes ≡ size) where
   -- all operations were done
   pub all_answered : (requests : List Request) (ops : List Operation) (given : List (List ℕ)) → AreCollected block size arrived requests ops → map length given ≡ map read_len ops → (kind.failed old → ⊥)
-      → GoesOn kind.had kind.hears (IsHeld kind.holds kind.kept) old
-      (λ may_lie before later. (given ≡ all_given ops before.now) × (later.now ≡ all_done ops before.now) × KeepsAll (TouchSomeByte ops) before later) new
+      → GoesOn kind.had kind.hears (HasArrays kind.holds kind.kept) old
+      (λ may_lie before later. (given ≡ all_given ops before.held) × (later.held ≡ all_done ops before.held) × SavesAll (TouchSomeByte ops) before later) new
       → HasRepliedToAll kind size old new arrived (answered_requests block size arrived given)
   all_answered requests ops given collected lens alive goes =
       let many : length given ≡ length arrived = sym (length-map given length) ∙ ap length lens ∙ length-map ops read_len ∙ as_many block size arrived ops collected.served in
@@ -373,13 +373,13 @@ module _ {D W E : Type 0} {kind : DeviceKind D W E} (block size : ℕ) (old new 
         same = same;
         served = one_batch (answered_fit block size arrived ops given collected.all collected.served lens) (answered_refuse block size (kind.failed old) arrived given alive)
             (weaker goes (λ may_lie world before later h step.
-            let long = sized may_lie world before.now h.0 in (
-              subst (λ (l : List ℕ). IsService before.now (answered_requests block size arrived given) l) (sym step.1)
-                  (subst (λ (gs : List (List ℕ)). IsService before.now (answered_requests block size arrived gs) (all_done ops before.now)) (sym step.0)
-                  (answered_service block size arrived ops before.now collected.all collected.served long)),
+            let long = sized may_lie world before.held h.0 in (
+              subst (λ (l : List ℕ). IsService before.held (answered_requests block size arrived given) l) (sym step.1)
+                  (subst (λ (gs : List (List ℕ)). IsService before.held (answered_requests block size arrived gs) (all_done ops before.held)) (sym step.0)
+                  (answered_service block size arrived ops before.held collected.all collected.served long)),
               λ honest. answered_never_fail block size arrived given,
-              inl (subst (λ (l : List WholeRequest). (later.now ≡ array_after_requests l before.now) × KeepsAll (RequestsTouchSomeByte size l) before later) (sym same)
-                  (step.1 ∙ all_done_as_asked block size arrived ops before.now collected.served long, all_weaker step.2 (some_touches block size arrived ops collected.served))),
+              inl (subst (λ (l : List WholeRequest). (later.held ≡ array_after_requests l before.held) × SavesAll (RequestsTouchSomeByte size l) before later) (sym same)
+                  (step.1 ∙ all_done_as_asked block size arrived ops before.held collected.served long, all_weaker step.2 (some_touches block size arrived ops collected.served))),
             )));
         reported = λ says. absurd (answered_tell_none block size arrived given says);
       }
@@ -387,21 +387,21 @@ module _ {D W E : Type 0} {kind : DeviceKind D W E} (block size : ℕ) (old new 
   -- the operations were begun, and all requests are refused
   pub all_refused : (requests : List Request) (ops : List Operation) (e : NbdError) → AreCollected block size arrived requests ops → (e ≡ Io) ⊎ (e ≡ NoMemory) → (e ≡ Io → kind.failed new)
       → (before after : List Request) (r : Request) → requests ≡ before ++ r ∷ after → refusal_of size r ≡ None
-      → GoesOn kind.had kind.hears (IsHeld kind.holds kind.kept) old (λ may_lie before later. Begun ops before later × (e ≡ Io → may_lie ≡ true)) new
+      → GoesOn kind.had kind.hears (HasArrays kind.holds kind.kept) old (λ may_lie before later. Begun ops before later × (e ≡ Io → may_lie ≡ true)) new
       → HasRepliedToAll kind size old new arrived (refused_requests size arrived e)
   all_refused requests ops e collected why fails before after r split none goes = record {
     same = refused_same size arrived e;
     served = one_batch (refused_fit size arrived e why collected.all) (refused_refuse size (kind.failed old) arrived e)
         (weaker goes (λ may_lie world from to h step.
-        let long = sized may_lie world from.now h.0 in (
-          refused_service block size arrived ops e from.now to.now why collected.all collected.served long step.0.0,
+        let long = sized may_lie world from.held h.0 in (
+          refused_service block size arrived ops e from.held to.held why collected.all collected.served long step.0.0,
           λ honest. refused_never_fail size arrived e (λ io. let lies : may_lie ≡ true = step.1 io in cc),
           inr (
             all_refusals size arrived e,
             inr (
               refused_says_fault size arrived e why (accepted_in size arrived before after r (collected.same ∙ split) none),
-              subst (λ (l : List WholeRequest). KeepsPart (AreRequestsBegun l) from to) (sym (refused_same size arrived e))
-                  (part_weaker step.0.1 (λ x begun. requests_begun block size arrived ops from.now x collected.served long begun)),
+              subst (λ (l : List WholeRequest). SavesPart (AreRequestsBegun l) from to) (sym (refused_same size arrived e))
+                  (part_weaker step.0.1 (λ x begun. requests_begun block size arrived ops from.held x collected.served long begun)),
             ),
           ),
         )));
@@ -410,13 +410,13 @@ module _ {D W E : Type 0} {kind : DeviceKind D W E} (block size : ℕ) (old new 
 
   -- the device stopped
   pub all_begun : (requests : List Request) (ops : List Operation) → AreCollected block size arrived requests ops → (before after : List Request) (r : Request) → requests ≡ before ++ r ∷ after → refusal_of size r ≡ None
-      → GoesOn kind.had kind.hears (IsHeld kind.holds kind.kept) old (λ may_lie before later. Begun ops before later) new → HasBegun kind size old new arrived
+      → GoesOn kind.had kind.hears (HasArrays kind.holds kind.kept) old (λ may_lie before later. Begun ops before later) new → HasBegun kind size old new arrived
   all_begun requests ops collected before after r split none goes = record {
     accepted = accepted_in size arrived before after r (collected.same ∙ split) none;
     begun = weaker goes (λ may_lie world from to h step.
-        let long = sized may_lie world from.now h.0 in (
-          requests_begun block size arrived ops from.now to.now collected.served long step.0,
-          part_weaker step.1 (λ x begun. requests_begun block size arrived ops from.now x collected.served long begun),
+        let long = sized may_lie world from.held h.0 in (
+          requests_begun block size arrived ops from.held to.held collected.served long step.0,
+          part_weaker step.1 (λ x begun. requests_begun block size arrived ops from.held x collected.served long begun),
         ));
   }
 
@@ -428,12 +428,20 @@ refused_at_rest {kind = kind} size d arrived sized are = record {
   same = refused_same size arrived NoMemory;
   served = one_batch (refused_fit size arrived NoMemory (inr refl) are) (refused_refuse size (kind.failed d) arrived NoMemory)
       (at_rest (λ may_lie world before h. (
-        refused_idle size arrived NoMemory before.now (inr refl) are (sized may_lie world before.now h.0),
+        refused_idle size arrived NoMemory before.held (inr refl) are (sized may_lie world before.held h.0),
         λ honest. refused_never_fail size arrived NoMemory (λ io. cc),
         inr (all_refusals size arrived NoMemory, inl (refl, refl)),
       )));
   reported = λ says. absurd (let none : NoMemory ≡ Io = refused_tell size arrived NoMemory says in cc);
 }
+
+-- the same of a device whose size is written in another way
+pub at_size : {D W E : Type 0} {kind : DeviceKind D W E} {n m : ℕ} {old new : D} {arrived : List WholeRequest} {answered : List AnsweredRequest} → n ≡ m → HasRepliedToAll kind n old new arrived answered
+    → HasRepliedToAll kind m old new arrived answered
+at_size {kind = kind} {old = old} {new = new} {arrived = arrived} {answered = answered} same h = subst (λ (k : ℕ). HasRepliedToAll kind k old new arrived answered) same h
+
+pub begun_at_size : {D W E : Type 0} {kind : DeviceKind D W E} {n m : ℕ} {old new : D} {arrived : List WholeRequest} → n ≡ m → HasBegun kind n old new arrived → HasBegun kind m old new arrived
+begun_at_size {kind = kind} {old = old} {new = new} {arrived = arrived} same h = subst (λ (k : ℕ). HasBegun kind k old new arrived) same h
 
 -- how many requests these are
 pub length_same : (arrived : List WholeRequest) (answered : List AnsweredRequest) → map asked_in answered ≡ arrived → length answered ≡ length arrived

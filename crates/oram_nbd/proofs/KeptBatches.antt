@@ -1,4 +1,4 @@
--- What the batches of a connection keep.
+-- What the operations of a batch leave of an array.
 use Rattle.std.proofs.Common.{◌≡◌, ◌+◌, ◌<◌, ◌≤◌, inl, inr, ℕ, List, [], ◌∷◌, length, Option, Some, None, refl, sym, ap, ◌∙◌, subst, arith}
 use Rattle.oram_nbd.specs.Batches.{AreServedBy, DoesIfAccepted}
 use Rattle.oram_nbd.specs.Operations.{all_done, done_by, len_of, IsWithin, ReadsWhole, TouchSomeByte}

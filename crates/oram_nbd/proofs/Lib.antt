@@ -1,6 +1,6 @@
 pub mod Calls
 pub mod Beside
-pub mod Keeping
+pub mod Saving
 pub mod Splices
 pub mod Edges
 pub mod ListSteps

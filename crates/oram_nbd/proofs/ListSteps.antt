@@ -5,14 +5,14 @@ use Rattle.std.proofs.Math.Nat.{mul_comm}
 use Rattle.std.proofs.lemmas.List.Elements.{All-head, All-tail}
 use Rattle.std.proofs.lemmas.List.{append-nil, drop-drop, drop_all, length-replicate, map-append, take-append-drop, take_all}
 use Rattle.std.proofs.Math.Seq.{take-add}
-use Rattle.oram_nbd.specs.Beside.{Held}
+use Rattle.oram_nbd.specs.Beside.{Arrays}
 use Rattle.oram_nbd.specs.Bytes.{bytes_at, zeroes, IsBegun}
-use Rattle.oram_nbd.specs.Calls.{Keeps, KeepsAll, KeepsPart, Reads}
+use Rattle.oram_nbd.specs.Calls.{Saves, SavesAll, SavesPart, Reads}
 use Rattle.oram_nbd.specs.Operations.{AreBegun, IsPartOf, IsWhole, IsWithin, ReadsWhole, TouchSomeByte, all_done, all_given, done_by, given_by, read_len}
 use Rattle.oram_nbd.specs.declared.faults.DiskFault.{DiskFault}
 use Rattle.oram_nbd.specs.declared.operations.Operation.{Operation}
 use Rattle.oram_nbd.specs.declared.operations.Operation.TheVariants.{Read, Write, Zero}
-use Rattle.oram_nbd.proofs.Keeping.{all_weaker, part_weaker}
+use Rattle.oram_nbd.proofs.Saving.{all_weaker, part_weaker}
 use Rattle.oram_nbd.proofs.Splices.{begun_none, begun_whole, length-written}
 
 pub given_append : (xs ys : List Operation) (bytes : List ℕ) → all_given (xs ++ ys) bytes ≡ all_given xs bytes ++ all_given ys (all_done xs bytes)
@@ -171,18 +171,18 @@ lies_if true not = refl
 lies_if false not = absurd (not refl)
 
 -- the first n operations were carried out, and were all, or they were begun
-pub front_outcome : {T : Type 0} (result : Result T DiskFault) (items : T → List (List ℕ)) (ops : List Operation) (n : ℕ) (old new : Held (List ℕ)) → n ≤ length ops
-    → MatchResult result (λ g. (items g ≡ all_given (take n ops) old.now) × (new.now ≡ all_done (take n ops) old.now)) (λ _. AreBegun (take n ops) old.now new.now)
-    → Keeps result (TouchSomeByte (take n ops)) (AreBegun (take n ops)) old new
+pub front_outcome : {T : Type 0} (result : Result T DiskFault) (items : T → List (List ℕ)) (ops : List Operation) (n : ℕ) (old new : Arrays (List ℕ)) → n ≤ length ops
+    → MatchResult result (λ g. (items g ≡ all_given (take n ops) old.held) × (new.held ≡ all_done (take n ops) old.held)) (λ _. AreBegun (take n ops) old.held new.held)
+    → Saves result (TouchSomeByte (take n ops)) (AreBegun (take n ops)) old new
     → MatchResult result
-    (λ g. let front = take (length (items g)) ops in (items g ≡ all_given front old.now) × (new.now ≡ all_done front old.now) × KeepsAll (TouchSomeByte front) old new)
-    (λ _. AreBegun ops old.now new.now × KeepsPart (AreBegun ops) old new)
+    (λ g. let front = take (length (items g)) ops in (items g ≡ all_given front old.held) × (new.held ≡ all_done front old.held) × SavesAll (TouchSomeByte front) old new)
+    (λ _. AreBegun ops old.held new.held × SavesPart (AreBegun ops) old new)
 front_outcome (Ok g) items ops n old new few h k =
-    let many : n ≡ length (items g) = sym (ap length h.0 ∙ length_given (take n ops) old.now ∙ length-take-le n ops few) in
-    subst (λ (i : ℕ). (items g ≡ all_given (take i ops) old.now) × (new.now ≡ all_done (take i ops) old.now) × KeepsAll (TouchSomeByte (take i ops)) old new) many (h.0, h.1, k)
+    let many : n ≡ length (items g) = sym (ap length h.0 ∙ length_given (take n ops) old.held ∙ length-take-le n ops few) in
+    subst (λ (i : ℕ). (items g ≡ all_given (take i ops) old.held) × (new.held ≡ all_done (take i ops) old.held) × SavesAll (TouchSomeByte (take i ops)) old new) many (h.0, h.1, k)
 front_outcome (Err e) items ops n old new few h k =
-    let all = λ (later : List ℕ) (begun : AreBegun (take n ops) old.now later). subst (λ (l : List Operation). AreBegun l old.now later) (take-append-drop n ops) (begun_first (take n ops) (drop n ops) old.now later begun) in
-    (all new.now h, part_weaker k all)
+    let all = λ (later : List ℕ) (begun : AreBegun (take n ops) old.held later). subst (λ (l : List Operation). AreBegun l old.held later) (take-append-drop n ops) (begun_first (take n ops) (drop n ops) old.held later begun) in
+    (all new.held h, part_weaker k all)
 
 -- The first `k` operations have their results, which are `given`. These lemmas are about the operations behind them.
 module _ (ops : List Operation) (given more : List (List ℕ)) (k : ℕ) (here : k ≡ length given) (most : length more ≤ length (take (length ops - k) (drop k ops))) where
@@ -240,13 +240,13 @@ same_once bytes later (inl same) = same
 same_once bytes later (inr same) = same
 
 -- and so do two
-pub reads_two : {T : Type 0} (r : Result T DiskFault) (items : T → List (List ℕ)) (a n b m : ℕ) (old new : Held (List ℕ))
-    → MatchResult r (λ g. (items g ≡ all_given (Read a n ∷ Read b m ∷ []) old.now) × (new.now ≡ all_done (Read a n ∷ Read b m ∷ []) old.now)) (λ _. AreBegun (Read a n ∷ Read b m ∷ []) old.now new.now)
-    → Keeps r (TouchSomeByte (Read a n ∷ Read b m ∷ [])) (AreBegun (Read a n ∷ Read b m ∷ [])) old new
-    → Reads ⊥ r old new × IfOk r (λ g. items g ≡ bytes_at old.now a n ∷ bytes_at old.now b m ∷ [])
+pub reads_two : {T : Type 0} (r : Result T DiskFault) (items : T → List (List ℕ)) (a n b m : ℕ) (old new : Arrays (List ℕ))
+    → MatchResult r (λ g. (items g ≡ all_given (Read a n ∷ Read b m ∷ []) old.held) × (new.held ≡ all_done (Read a n ∷ Read b m ∷ []) old.held)) (λ _. AreBegun (Read a n ∷ Read b m ∷ []) old.held new.held)
+    → Saves r (TouchSomeByte (Read a n ∷ Read b m ∷ [])) (AreBegun (Read a n ∷ Read b m ∷ [])) old new
+    → Reads ⊥ r old new × IfOk r (λ g. items g ≡ bytes_at old.held a n ∷ bytes_at old.held b m ∷ [])
 reads_two (Ok g) items a n b m old new h k = ((h.1, all_weaker k (λ none. absurd none)), h.0)
-reads_two (Err e) items a n b m old new h k = ((same new.now h, part_weaker k same), tt)
+reads_two (Err e) items a n b m old new h k = ((same new.held h, part_weaker k same), tt)
   where
-    same : (later : List ℕ) → AreBegun (Read a n ∷ Read b m ∷ []) old.now later → later ≡ old.now
+    same : (later : List ℕ) → AreBegun (Read a n ∷ Read b m ∷ []) old.held later → later ≡ old.held
     same later (inl is) = is
-    same later (inr rest) = same_once old.now later rest
+    same later (inr rest) = same_once old.held later rest

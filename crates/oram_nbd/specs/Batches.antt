@@ -2,8 +2,8 @@
 use Rattle.std.specs.Prelude.{◌≡◌, ◌⊎◌, ℕ, ◌*◌, ◌%◌, ◌<◌, ◌≤◌, ◌^◌, List, [], ◌∷◌, ◌++◌, All, Option, Some, None, length, map, take, drop}
 use Rattle.std.specs.List.{flat_map}
 use Rattle.std.specs.Io.KnownBytes.{Appends, Consumes}
-use Rattle.oram_nbd.specs.Beside.{GoesOn, IsHeld}
-use Rattle.oram_nbd.specs.Calls.{KeepsPart}
+use Rattle.oram_nbd.specs.Beside.{GoesOn, HasArrays}
+use Rattle.oram_nbd.specs.Calls.{SavesPart}
 use Rattle.oram_nbd.specs.DeviceKind.{DeviceKind}
 use Rattle.oram_nbd.specs.Streams.{IsBegunText}
 use Rattle.oram_nbd.specs.Messages.{request_text, reply_text, SimpleReply}
@@ -119,14 +119,16 @@ module _ {D W E : Type 0} (kind : DeviceKind D W E) (size : ℕ) (old new : D) (
   -- The device stopped. Some request isn't refused.
   pub record HasBegun : Type 0 where
     pub accepted : (before after : List WholeRequest) × (a : WholeRequest) × (arrived ≡ before ++ a ∷ after) × (refusal_of size a.request ≡ None)
-    pub begun : GoesOn kind.had kind.hears (IsHeld kind.holds kind.kept) old
-        (λ may_lie before later. AreRequestsBegun arrived before.now later.now × KeepsPart (AreRequestsBegun arrived) before later) new
+    pub begun : GoesOn kind.had kind.hears (HasArrays kind.holds kind.kept) old
+        (λ may_lie before later. AreRequestsBegun arrived before.held later.held × SavesPart (AreRequestsBegun arrived) before later) new
 
+-- For a device of this kind, which goes from one state to another.
+module _ {D W E : Type 0} (kind : DeviceKind D W E) (old new : D) (arrived : List WholeRequest) where
   -- All replies were written, or a beginning of them; or the device stopped, and nothing was written.
   abbrev pub EndsBatch : Option (List ℕ) → Option (List ℕ) → Type 0
-  EndsBatch written written' = (answered : List AnsweredRequest) × HasRepliedToAll answered × Appends written written' (replies_text answered)
+  EndsBatch written written' = (answered : List AnsweredRequest) × HasRepliedToAll kind (kind.size old) old new arrived answered × Appends written written' (replies_text answered)
 
   abbrev pub BreaksBatch : NbdFault → Option (List ℕ) → Option (List ℕ) → Type 0
   BreaksBatch f written written' =
-      ((f ≡ fault.Write) × ((answered : List AnsweredRequest) × HasRepliedToAll answered × IsBegunText written written' (replies_text answered)))
-      ⊎ ((f ≡ fault.Stopped) × (HasBegun × (written' ≡ written)))
+      ((f ≡ fault.Write) × ((answered : List AnsweredRequest) × HasRepliedToAll kind (kind.size old) old new arrived answered × IsBegunText written written' (replies_text answered)))
+      ⊎ ((f ≡ fault.Stopped) × (HasBegun kind (kind.size old) old new arrived × (written' ≡ written)))

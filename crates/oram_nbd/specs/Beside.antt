@@ -3,31 +3,31 @@
 use Rattle.std.specs.Prelude.{◌≡◌, Bool, IfSome, List, Option}
 use Rattle.std.specs.List.{FoldsTo, flat_map}
 
--- `had` gives the events that a call may have. `hears` gives the next state of the world after an event. `holds` gives the
--- arrays that the device holds in a world.
+-- `had` gives the events that a call may have. `hears` gives the next state of the world after an event. `holds` says what is
+-- true of the device in a world, such as which array it holds.
 module _ {D W E A : Type 0} (had : D → List E → D → Type 0) (hears : Bool → W → E → W → Type 0) (holds : Bool → D → W → A → Type 0) where
   -- the world goes through the events of all calls
   abbrev pub GoesThrough : Bool → W → List (List E) → W → Type 0
   GoesThrough may_lie world calls later = FoldsTo {P = W} {A = E} (hears may_lie) world (flat_map (λ events. events) calls) later
 
-  -- The device was called some times, and its calls had some events. Whatever world goes through these: for each array that
-  -- the device held there before, `step` leads to one that it holds there now.
+  -- The device was called some times, and its calls had some events. Whatever world goes through these: from what was true of
+  -- the device there before, `step` leads to what is true of it there now.
   pub record GoesOn (old : D) (step : Bool → A → A → Type 0) (new : D) : Type 0 where
     pub calls : List (List E)
     pub made : FoldsTo {P = D} {A = List E} had old calls new
     pub leads : (may_lie : Bool) (world later : W) → GoesThrough may_lie world calls later → (array : A) → holds may_lie old world array
         → (next : A) × step may_lie array next × holds may_lie new later next
 
--- What is known of a device beside a world. It holds the array `now`. If `saved` has an array, the next process would hold that one or
--- `now`. Otherwise nothing is known of the next process.
-pub record Held (A : Type 0) : Type 0 where
-  pub now : A
+-- The arrays of a device beside a world: the one that it holds, and perhaps one that is saved. Then the next process would hold the
+-- saved one or the one that is held now. If none is saved, nothing is known of the next process.
+pub record Arrays (A : Type 0) : Type 0 where
+  pub held : A
   pub saved : Option A
 
--- That is so, where `holds` gives the arrays that a device holds in a world, and `kept` what the next process would hold there: its first
--- array, or its second one, which is the one that the device holds.
-abbrev pub IsHeld : {D W A : Type 0} → (Bool → D → W → A → Type 0) → (Bool → D → W → A → A → Type 0) → Bool → D → W → Held A → Type 0
-IsHeld holds kept may_lie d w h = holds may_lie d w h.now × IfSome h.saved (λ array. kept may_lie d w array h.now)
+-- The device has these arrays. `holds` gives those that it may hold in a world. `kept` relates two arrays there: the device holds the
+-- second one, and the next process would hold the first or the second.
+abbrev pub HasArrays : {D W A : Type 0} → (Bool → D → W → A → Type 0) → (Bool → D → W → A → A → Type 0) → Bool → D → W → Arrays A → Type 0
+HasArrays holds kept may_lie d w h = holds may_lie d w h.held × IfSome h.saved (λ array. kept may_lie d w array h.held)
 
 -- a call has met what stops the device, and has left it in this state
 abbrev pub IsStopped : {D : Type 0} → (D → D → Type 0) → D → Type 0

@@ -1,6 +1,6 @@
 -- What a call of a device leaves behind.
 use Rattle.std.specs.Prelude.{◌≡◌, ◌⊎◌, ℕ, ◌<◌, Bool, true, List, length, Some, Result, IsErrOf, MatchResult, OnErr, OnOk}
-use Rattle.oram_nbd.specs.Beside.{Held}
+use Rattle.oram_nbd.specs.Beside.{Arrays}
 use Rattle.oram_nbd.specs.Bytes.{IsBegun, written}
 use Rattle.oram_nbd.specs.declared.faults.DiskFault.{DiskFault}
 use Rattle.oram_nbd.specs.declared.faults.DiskFault.TheVariants.{Failed, Stopped}
@@ -11,28 +11,28 @@ FailsByLies result may_lie = IsErrOf result Failed → may_lie ≡ true
 
 -- What is kept of a call that has done all that it was asked for: the next process would hold what the device holds now. Or the call
 -- touched nothing, and left all as it was.
-pub record KeepsAll {A : Type 0} (touched : Type 0) (old new : Held A) : Type 0 where
-  pub kept : (new.saved ≡ Some new.now) ⊎ ((touched → ⊥) × (new ≡ old))
+pub record SavesAll {A : Type 0} (touched : Type 0) (old new : Arrays A) : Type 0 where
+  pub either : (new.saved ≡ Some new.held) ⊎ ((touched → ⊥) × (new ≡ old))
 
 -- What is kept of a call that has failed: what was saved before, or else one of the arrays that `begun` gives, those that a beginning of
 -- the call leaves.
-pub record KeepsPart {A : Type 0} (begun : A → A → Type 0) (old new : Held A) : Type 0 where
-  pub kept : (new.saved ≡ old.saved) ⊎ ((part : A) × begun old.now part × (new.saved ≡ Some part))
+pub record SavesPart {A : Type 0} (begun : A → A → Type 0) (old new : Arrays A) : Type 0 where
+  pub either : (new.saved ≡ old.saved) ⊎ ((part : A) × begun old.held part × (new.saved ≡ Some part))
 
 -- the one or the other, by the result of the call
-abbrev pub Keeps : {T A : Type 0} → Result T DiskFault → Type 0 → (A → A → Type 0) → Held A → Held A → Type 0
-Keeps result touched begun old new = MatchResult result (λ _. KeepsAll touched old new) (λ _. KeepsPart begun old new)
+abbrev pub Saves : {T A : Type 0} → Result T DiskFault → Type 0 → (A → A → Type 0) → Arrays A → Arrays A → Type 0
+Saves result touched begun old new = MatchResult result (λ _. SavesAll touched old new) (λ _. SavesPart begun old new)
 
 -- A call that writes bytes leads from one array to another: all of them are written, or after an error some of them, from the
 -- first one on. What is kept has all of them too, or some.
-abbrev pub Writes : {T : Type 0} → ℕ → List ℕ → Result T DiskFault → Bool → Held (List ℕ) → Held (List ℕ) → Type 0
+abbrev pub Writes : {T : Type 0} → ℕ → List ℕ → Result T DiskFault → Bool → Arrays (List ℕ) → Arrays (List ℕ) → Type 0
 Writes at bytes result may_lie old new =
-    OnOk result (new.now ≡ written old.now at bytes) × OnErr result (IsBegun old.now at bytes new.now) × FailsByLies result may_lie
-    × Keeps result (0 < length bytes) (λ before part. IsBegun before at bytes part) old new
+    OnOk result (new.held ≡ written old.held at bytes) × OnErr result (IsBegun old.held at bytes new.held) × FailsByLies result may_lie
+    × Saves result (0 < length bytes) (λ before part. IsBegun before at bytes part) old new
 
 -- A call that reads leads from an array to the same one.
-abbrev pub Reads : {T : Type 0} → Type 0 → Result T DiskFault → Held (List ℕ) → Held (List ℕ) → Type 0
-Reads touched result old new = (new.now ≡ old.now) × Keeps result touched (λ before part. part ≡ before) old new
+abbrev pub Reads : {T : Type 0} → Type 0 → Result T DiskFault → Arrays (List ℕ) → Arrays (List ℕ) → Type 0
+Reads touched result old new = (new.held ≡ old.held) × Saves result touched (λ before part. part ≡ before) old new
 
 -- For a device whose blocks have `block_len` bytes, and which has `size` bytes in all. `failed` says that it has failed.
 module _ {D : Type 0} (block_len size : D → ℕ) (failed : D → Type 0) where

@@ -2,8 +2,8 @@
 use Rattle.std.specs.Prelude.{◌≡◌, ◌⊎◌, ℕ, ◌<◌, false, List, [], ◌∷◌, ◌++◌, length, map, take, Option, None, All}
 use Rattle.std.specs.List.{FoldsTo, flat_map}
 use Rattle.std.specs.Io.KnownBytes.{Appends, Consumes, IsAtEnd}
-use Rattle.oram_nbd.specs.Beside.{GoesOn, Held, IsHeld}
-use Rattle.oram_nbd.specs.Calls.{KeepsAll, KeepsPart}
+use Rattle.oram_nbd.specs.Beside.{GoesOn, Arrays, HasArrays}
+use Rattle.oram_nbd.specs.Calls.{SavesAll, SavesPart}
 use Rattle.oram_nbd.specs.DeviceKind.{DeviceKind}
 use Rattle.oram_nbd.specs.Messages.{payload_len, request_text, IsRequest}
 use Rattle.oram_nbd.specs.Service.{array_after_requests, asked_in, whole_requests_text, refusal_of, requests_text, replies_text, AnsweredRequest, AreRequestsBegun, FailsForGood, IsRefusal, IsReplied, IsService, IsWholeRequest, NeverFails, RequestsTouchSomeByte, SaysFault, WholeRequest}
@@ -54,17 +54,17 @@ module _ {D W E : Type 0} (kind : DeviceKind D W E) (size : ℕ) where
   -- What is kept of a batch, by what is known of the device before it and after it. What its requests did is kept. Or all of them are
   -- refused: the device wasn't called, or a reply says that it has failed or that memory ran out. Then the next process would hold what
   -- it would have held before, or what some beginning of these requests leaves.
-  abbrev pub KeepsBatch : D → List AnsweredRequest → D → Held (List ℕ) → Held (List ℕ) → Type 0
-  KeepsBatch old batch new before later =
-      ((later.now ≡ array_after_requests (map asked_in batch) before.now) × KeepsAll (RequestsTouchSomeByte size (map asked_in batch)) before later)
+  abbrev pub SavesBatch : D → List AnsweredRequest → D → Arrays (List ℕ) → Arrays (List ℕ) → Type 0
+  SavesBatch old batch new before later =
+      ((later.held ≡ array_after_requests (map asked_in batch) before.held) × SavesAll (RequestsTouchSomeByte size (map asked_in batch)) before later)
       ⊎ (All (λ a. IsRefusal a.reply) batch
-      × (((new ≡ old) × (later ≡ before)) ⊎ (SaysFault batch × KeepsPart (AreRequestsBegun (map asked_in batch)) before later)))
+      × (((new ≡ old) × (later ≡ before)) ⊎ (SaysFault batch × SavesPart (AreRequestsBegun (map asked_in batch)) before later)))
 
   -- A batch of requests was served. From each array that was held, they lead to one that is held. Where the world doesn't lie, no
   -- reply says that the device failed.
   abbrev pub ServesBatch : D → List AnsweredRequest → D → Type 0
-  ServesBatch old batch new = GoesOn kind.had kind.hears (IsHeld kind.holds kind.kept) old
-      (λ may_lie before later. IsService before.now batch later.now × (may_lie ≡ false → NeverFails batch) × KeepsBatch old batch new before later) new
+  ServesBatch old batch new = GoesOn kind.had kind.hears (HasArrays kind.holds kind.kept) old
+      (λ may_lie before later. IsService before.held batch later.held × (may_lie ≡ false → NeverFails batch) × SavesBatch old batch new before later) new
 
   -- These requests were served, in batches, one after the other.
   pub record HasServedRequests (old new : D) (answered : List AnsweredRequest) : Type 0 where
@@ -77,13 +77,13 @@ module _ {D W E : Type 0} (kind : DeviceKind D W E) (size : ℕ) where
   -- These requests were served. Then the device stopped while it carried out a batch, in which at least one request isn't refused.
   -- It was in the state `mid` before that batch. Some beginning of the batch is done, and the next process would hold what it would
   -- have held before, or what some beginning of the batch leaves.
-  pub record HasStopped (old new : D) (answered : List AnsweredRequest) (requests : List WholeRequest) : Type 0 where
+  pub record HasStopped (old new : D) (answered : List AnsweredRequest) (arrived : List WholeRequest) : Type 0 where
     pub mid : D
     pub served : HasServedRequests old mid answered
-    pub whole : All IsWholeRequest requests
-    pub accepted : (before after : List WholeRequest) × (a : WholeRequest) × (requests ≡ before ++ a ∷ after) × (refusal_of size a.request ≡ None)
-    pub begun : GoesOn kind.had kind.hears (IsHeld kind.holds kind.kept) mid
-        (λ may_lie before later. AreRequestsBegun requests before.now later.now × KeepsPart (AreRequestsBegun requests) before later) new
+    pub whole : All IsWholeRequest arrived
+    pub accepted : (before after : List WholeRequest) × (a : WholeRequest) × (arrived ≡ before ++ a ∷ after) × (refusal_of size a.request ≡ None)
+    pub begun : GoesOn kind.had kind.hears (HasArrays kind.holds kind.kept) mid
+        (λ may_lie before later. AreRequestsBegun arrived before.held later.held × SavesPart (AreRequestsBegun arrived) before later) new
 
 -- For a device of this kind, which goes from one state to another beside a world.
 module _ {D W E : Type 0} (kind : DeviceKind D W E) (old new : D) where

@@ -1,8 +1,8 @@
 //! A device of whole blocks.
 
 ghost use Rattle.std.specs.Prelude.{◌≡◌, ℕ, Bool, false, List, ◌*◌, ◌<◌, ◌^◌, ◌↔◌, All, length, map, IfOk, OnOk, IsTrue, MatchResult};
-ghost use Rattle.oram_nbd.specs.Beside.{GoesOn, IsHeld};
-ghost use Rattle.oram_nbd.specs.Calls.{FailsByLies, IsCall, Keeps};
+ghost use Rattle.oram_nbd.specs.Beside.{GoesOn, HasArrays};
+ghost use Rattle.oram_nbd.specs.Calls.{FailsByLies, IsCall, Saves};
 ghost use Rattle.oram_nbd.specs.Operations.{AreBegun, IsWhole, IsWithin, TouchSomeByte, all_done, all_given, read_len};
 
 use crate::faults::DiskFault;
@@ -74,10 +74,10 @@ pub trait BlockDevice {
         requires whole { All (IsWhole (block_len self.old)) operations.now }
         requires within { All (IsWithin (size self.old)) operations.now }
         ensures len { IfOk result (λ given. map length given.items ≡ map read_len operations.now) }
-        ensures goes { GoesOn had hears (IsHeld holds kept) self.old (λ may_lie old new. MatchResult result
-            (λ given. (given.items ≡ all_given operations.now old.now) × (new.now ≡ all_done operations.now old.now))
-            (λ _. AreBegun operations.now old.now new.now) × FailsByLies result may_lie
-            × Keeps result (TouchSomeByte operations.now) (AreBegun operations.now) old new) self.new }
+        ensures goes { GoesOn had hears (HasArrays holds kept) self.old (λ may_lie old new. MatchResult result
+            (λ given. (given.items ≡ all_given operations.now old.held) × (new.held ≡ all_done operations.now old.held))
+            (λ _. AreBegun operations.now old.held new.held) × FailsByLies result may_lie
+            × Saves result (TouchSomeByte operations.now) (AreBegun operations.now) old new) self.new }
         ensures refused { OnOk result (failed self.old → ⊥) }
         ensures call { IsCall block_len size failed (stops self.old self.new) self.old result self.new };
 }

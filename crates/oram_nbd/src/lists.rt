@@ -1,8 +1,8 @@
 //! Carries out operations on byte ranges, as many at once as are on whole blocks.
 
 ghost use Rattle.std.specs.Prelude.{◌≡◌, ◌<◌, ◌≤◌, All, length, map, take, IfOk, IsTrue, MatchResult, OnErr, OnOk};
-ghost use Rattle.oram_nbd.specs.Beside.{GoesOn, IsHeld, IsStopped};
-ghost use Rattle.oram_nbd.specs.Calls.{FailsByLies, IsCall, Keeps, KeepsAll, KeepsPart};
+ghost use Rattle.oram_nbd.specs.Beside.{GoesOn, HasArrays, IsStopped};
+ghost use Rattle.oram_nbd.specs.Calls.{FailsByLies, IsCall, Saves, SavesAll, SavesPart};
 ghost use Rattle.oram_nbd.specs.Operations.{AreBegun, IsPartOf, IsWhole, IsWithin, ReadsWhole, TouchSomeByte, all_done, all_given, done_by, given_by, len_of, read_len};
 
 use crate::disk::BlockDevice;
@@ -43,10 +43,10 @@ fn carry_out_alone<D: BlockDevice>(
     requires within { IsWithin (D.size disk.old) operation.now }
     requires reads { ReadsWhole (D.block_len disk.old) operation.now }
     ensures len { IfOk result (λ given. length given ≡ read_len operation.now) }
-    ensures goes { GoesOn D.had D.hears (IsHeld D.holds D.kept) disk.old (λ may_lie old new. MatchResult result
-        (λ given. (given ≡ given_by operation.now old.now) × (new.now ≡ done_by operation.now old.now))
-        (λ _. IsPartOf operation.now old.now new.now) × FailsByLies result may_lie
-        × Keeps result (0 < len_of operation.now) (IsPartOf operation.now) old new) disk.new }
+    ensures goes { GoesOn D.had D.hears (HasArrays D.holds D.kept) disk.old (λ may_lie old new. MatchResult result
+        (λ given. (given ≡ given_by operation.now old.held) × (new.held ≡ done_by operation.now old.held))
+        (λ _. IsPartOf operation.now old.held new.held) × FailsByLies result may_lie
+        × Saves result (0 < len_of operation.now) (IsPartOf operation.now) old new) disk.new }
     ensures call { IsCall D.block_len D.size D.failed (IsStopped D.stops disk.new) disk.old result disk.new }
 {
     match operation {
@@ -79,10 +79,10 @@ fn carry_out_front<D: BlockDevice>(
     ensures some { IfOk result (λ given. 0 < length given.items) }
     ensures most { IfOk result (λ given. length given.items ≤ length operations.now) }
     ensures len { IfOk result (λ given. map length given.items ≡ map read_len (take (length given.items) operations.now)) }
-    ensures goes { GoesOn D.had D.hears (IsHeld D.holds D.kept) disk.old (λ may_lie old new. MatchResult result
+    ensures goes { GoesOn D.had D.hears (HasArrays D.holds D.kept) disk.old (λ may_lie old new. MatchResult result
         (λ given. let front = take (length given.items) operations.now in
-        (given.items ≡ all_given front old.now) × (new.now ≡ all_done front old.now) × KeepsAll (TouchSomeByte front) old new)
-        (λ _. AreBegun operations.now old.now new.now × KeepsPart (AreBegun operations.now) old new) × FailsByLies result may_lie) disk.new }
+        (given.items ≡ all_given front old.held) × (new.held ≡ all_done front old.held) × SavesAll (TouchSomeByte front) old new)
+        (λ _. AreBegun operations.now old.held new.held × SavesPart (AreBegun operations.now) old new) × FailsByLies result may_lie) disk.new }
     ensures call { IsCall D.block_len D.size D.failed (IsStopped D.stops disk.new) disk.old result disk.new }
 {
     let count = whole_front(u64::from(disk.block_bytes()), operations);
@@ -108,10 +108,10 @@ pub(crate) fn carry_out_all<D: BlockDevice>(
     requires within { All (IsWithin (D.size disk.old)) operations.now }
     requires reads { All (ReadsWhole (D.block_len disk.old)) operations.now }
     ensures len { IfOk result (λ given. map length given.items ≡ map read_len operations.now) }
-    ensures goes { GoesOn D.had D.hears (IsHeld D.holds D.kept) disk.old (λ may_lie old new. MatchResult result
-        (λ given. (given.items ≡ all_given operations.now old.now) × (new.now ≡ all_done operations.now old.now))
-        (λ _. AreBegun operations.now old.now new.now) × FailsByLies result may_lie
-        × Keeps result (TouchSomeByte operations.now) (AreBegun operations.now) old new) disk.new }
+    ensures goes { GoesOn D.had D.hears (HasArrays D.holds D.kept) disk.old (λ may_lie old new. MatchResult result
+        (λ given. (given.items ≡ all_given operations.now old.held) × (new.held ≡ all_done operations.now old.held))
+        (λ _. AreBegun operations.now old.held new.held) × FailsByLies result may_lie
+        × Saves result (TouchSomeByte operations.now) (AreBegun operations.now) old new) disk.new }
     ensures refused { OnOk result (D.failed disk.old → ⊥) }
     ensures call { IsCall D.block_len D.size D.failed (IsStopped D.stops disk.new) disk.old result disk.new }
 {

@@ -1,7 +1,7 @@
 //! Writes byte ranges by operations on whole blocks.
 
 ghost use Rattle.std.specs.Prelude.{◌≡◌, ℕ, ◌+◌, ◌*◌, ◌%◌, ◌<◌, ◌≤◌, ◌^◌, [], ◌∷◌, ◌++◌, drop, length, map, take, IfOk, OnOk};
-ghost use Rattle.oram_nbd.specs.Beside.{GoesOn, IsHeld, IsStopped};
+ghost use Rattle.oram_nbd.specs.Beside.{GoesOn, HasArrays, IsStopped};
 ghost use Rattle.oram_nbd.specs.Bytes.{bytes_at, written, zeroes};
 ghost use Rattle.oram_nbd.specs.Calls.{FailsByLies, IsCall, Reads, Writes};
 ghost use Rattle.oram_nbd.specs.Operations.{IsWhole};
@@ -69,8 +69,8 @@ pub(crate) fn read_blocks<D: BlockDevice>(
 ) -> Result<Vec<u8>, DiskFault>
     requires { D.block_len disk.old * first + D.block_len disk.old * count ≤ D.size disk.old }
     ensures len { IfOk result (λ v. length v.items ≡ D.block_len disk.old * count) }
-    ensures goes { GoesOn D.had D.hears (IsHeld D.holds D.kept) disk.old (λ may_lie old new. Reads (0 < D.block_len disk.old * count) result old new
-        × IfOk result (λ v. v.items ≡ bytes_at old.now (D.block_len disk.old * first) (D.block_len disk.old * count)) × FailsByLies result may_lie) disk.new }
+    ensures goes { GoesOn D.had D.hears (HasArrays D.holds D.kept) disk.old (λ may_lie old new. Reads (0 < D.block_len disk.old * count) result old new
+        × IfOk result (λ v. v.items ≡ bytes_at old.held (D.block_len disk.old * first) (D.block_len disk.old * count)) × FailsByLies result may_lie) disk.new }
     ensures call { IsCall D.block_len D.size D.failed (IsStopped D.stops disk.new) disk.old result disk.new }
 {
     let _blocks = disk.blocks();
@@ -95,7 +95,7 @@ fn write_blocks<D: BlockDevice>(
 ) -> Result<(), DiskFault>
     requires within { D.block_len disk.old * first + length payload ≤ D.size disk.old }
     requires whole { (count : ℕ) × (length payload ≡ D.block_len disk.old * count) }
-    ensures goes { GoesOn D.had D.hears (IsHeld D.holds D.kept) disk.old (Writes (D.block_len disk.old * first) payload result) disk.new }
+    ensures goes { GoesOn D.had D.hears (HasArrays D.holds D.kept) disk.old (Writes (D.block_len disk.old * first) payload result) disk.new }
     ensures call { IsCall D.block_len D.size D.failed (IsStopped D.stops disk.new) disk.old result disk.new }
 {
     let _blocks = disk.blocks();
@@ -135,7 +135,7 @@ fn write_covered<D: BlockDevice>(
     requires within { D.block_len disk.old * cover.first + D.block_len disk.old * cover.count ≤ D.size disk.old }
     requires some { 0 < length payload.now }
     requires fits { cover.start + length payload.now ≤ D.block_len disk.old * cover.count }
-    ensures goes { GoesOn D.had D.hears (IsHeld D.holds D.kept) disk.old (Writes (D.block_len disk.old * cover.first + cover.start) payload.now result) disk.new }
+    ensures goes { GoesOn D.had D.hears (HasArrays D.holds D.kept) disk.old (Writes (D.block_len disk.old * cover.first + cover.start) payload.now result) disk.new }
     ensures call { IsCall D.block_len D.size D.failed (IsStopped D.stops disk.new) disk.old result disk.new }
 {
     let _blocks = disk.blocks();
@@ -182,8 +182,8 @@ fn read_two<D: BlockDevice>(
     requires whole_last { IsWhole (D.block_len disk.old) (Operation.Read last more) }
     requires within_last { last + more ≤ D.size disk.old }
     ensures len { IfOk result (λ given. map length given.items ≡ count ∷ more ∷ []) }
-    ensures goes { GoesOn D.had D.hears (IsHeld D.holds D.kept) disk.old (λ may_lie old new. Reads ⊥ result old new
-        × IfOk result (λ given. given.items ≡ bytes_at old.now at count ∷ bytes_at old.now last more ∷ []) × FailsByLies result may_lie) disk.new }
+    ensures goes { GoesOn D.had D.hears (HasArrays D.holds D.kept) disk.old (λ may_lie old new. Reads ⊥ result old new
+        × IfOk result (λ given. given.items ≡ bytes_at old.held at count ∷ bytes_at old.held last more ∷ []) × FailsByLies result may_lie) disk.new }
     ensures call { IsCall D.block_len D.size D.failed (IsStopped D.stops disk.new) disk.old result disk.new }
 {
     let reads = [
@@ -225,8 +225,8 @@ fn read_edges<D: BlockDevice>(
     requires tight { D.block_len disk.old * cover.count < cover.start + len + D.block_len disk.old }
     ensures before { IfOk result (λ e. length e.before ≡ cover.start) }
     ensures after { IfOk result (λ e. cover.start + len + length e.after ≡ D.block_len disk.old * cover.count) }
-    ensures goes { GoesOn D.had D.hears (IsHeld D.holds D.kept) disk.old (λ may_lie old new. Reads ⊥ result old new
-        × IfOk result (λ e. let blocks = bytes_at old.now (D.block_len disk.old * cover.first) (D.block_len disk.old * cover.count) in
+    ensures goes { GoesOn D.had D.hears (HasArrays D.holds D.kept) disk.old (λ may_lie old new. Reads ⊥ result old new
+        × IfOk result (λ e. let blocks = bytes_at old.held (D.block_len disk.old * cover.first) (D.block_len disk.old * cover.count) in
         (e.before ≡ take cover.start blocks) × (e.after ≡ drop (cover.start + len) blocks)) × FailsByLies result may_lie) disk.new }
     ensures call { IsCall D.block_len D.size D.failed (IsStopped D.stops disk.new) disk.old result disk.new }
 {
@@ -261,7 +261,7 @@ pub(crate) fn write_range<D: BlockDevice>(
     payload: &[u8],
 ) -> Result<(), DiskFault>
     requires { offset + length payload.now ≤ D.size disk.old }
-    ensures goes { GoesOn D.had D.hears (IsHeld D.holds D.kept) disk.old (Writes offset payload.now result) disk.new }
+    ensures goes { GoesOn D.had D.hears (HasArrays D.holds D.kept) disk.old (Writes offset payload.now result) disk.new }
     ensures call { IsCall D.block_len D.size D.failed (IsStopped D.stops disk.new) disk.old result disk.new }
 {
     let _blocks = disk.blocks();
@@ -298,7 +298,7 @@ fn zero_between<D: BlockDevice>(
     requires after { length edges.now.after < D.block_len disk.old }
     requires all { length edges.now.before + len + length edges.now.after ≡ D.block_len disk.old * cover.count }
     requires apart { cover.count ≡ 1 → length edges.now.before + length edges.now.after ≡ 0 }
-    ensures goes { GoesOn D.had D.hears (IsHeld D.holds D.kept) disk.old
+    ensures goes { GoesOn D.had D.hears (HasArrays D.holds D.kept) disk.old
         (Writes (D.block_len disk.old * cover.first) (edges.now.before ++ zeroes len ++ edges.now.after) result) disk.new }
     ensures call { IsCall D.block_len D.size D.failed (IsStopped D.stops disk.new) disk.old result disk.new }
 {
@@ -341,7 +341,7 @@ pub(crate) fn zero_range<D: BlockDevice>(
     count: u64,
 ) -> Result<(), DiskFault>
     requires { offset + count ≤ D.size disk.old }
-    ensures goes { GoesOn D.had D.hears (IsHeld D.holds D.kept) disk.old (Writes offset (zeroes count) result) disk.new }
+    ensures goes { GoesOn D.had D.hears (HasArrays D.holds D.kept) disk.old (Writes offset (zeroes count) result) disk.new }
     ensures call { IsCall D.block_len D.size D.failed (IsStopped D.stops disk.new) disk.old result disk.new }
 {
     let _blocks = disk.blocks();

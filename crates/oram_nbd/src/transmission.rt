@@ -40,9 +40,9 @@ fn carry_out_batch<W: Write, D: BlockDevice>(
     requires sizes { AreDiskSizes sizes.block sizes.size }
     requires collected { (arrived : List WholeRequest) × AreCollected sizes.block sizes.size arrived batch.now.requests.items batch.now.operations.items }
     ensures ok { OnOk result ((arrived : List WholeRequest) → AreCollected sizes.block sizes.size arrived batch.now.requests.items batch.now.operations.items →
-        EndsBatch (device_kind D.block_len D.size D.failed D.had D.hears D.holds D.kept) sizes.size disk.old disk.new arrived (W.contents writer.old) (W.contents writer.new)) }
+        EndsBatch (device_kind D.block_len D.size D.failed D.had D.hears D.holds D.kept) disk.old disk.new arrived (W.contents writer.old) (W.contents writer.new)) }
     ensures err { IfErr result (λ fault. (arrived : List WholeRequest) → AreCollected sizes.block sizes.size arrived batch.now.requests.items batch.now.operations.items →
-        BreaksBatch (device_kind D.block_len D.size D.failed D.had D.hears D.holds D.kept) sizes.size disk.old disk.new arrived fault (W.contents writer.old) (W.contents writer.new)) }
+        BreaksBatch (device_kind D.block_len D.size D.failed D.had D.hears D.holds D.kept) disk.old disk.new arrived fault (W.contents writer.old) (W.contents writer.new)) }
     ensures stopped { IfErr result (λ fault. fault ≡ NbdFault.Stopped → IsStopped D.stops disk.new) }
     ensures stays { Stays D.block_len D.size D.failed disk.old disk.new }
 {
@@ -99,7 +99,8 @@ fn goes_on(close: Close) -> Result<bool, NbdFault>
 /// requests, once the buffers between the two are full. Running out of memory doesn't end the service: the requests are
 /// refused with `NoMemory`, and the bytes of a write for which there is none are skipped. A device that stops ends the
 /// service, and the requests of its batch get no replies. A reply that acknowledges its request says that what its batch did is
-/// kept: the next process would hold it, even if this one ends before the reply is written.
+/// kept: the next process would hold it, even if this one ends before the reply is written. It still would if a later batch
+/// fails or the device stops at it, except for bytes that this later batch writes.
 pub fn transmit<R: Read + Arrived, W: Write, D: BlockDevice>(
     alloc: Global,
     reader: &mut R,

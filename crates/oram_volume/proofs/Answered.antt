@@ -31,7 +31,7 @@ use Rattle.oram_rounds.proofs.Replies.{replies_are_the_arrays}
 use Rattle.oram_rounds.proofs.Start.{resting, served_submitted}
 use Rattle.oram_volume.specs.CarriedOut.{bodies_from}
 use Rattle.oram_volume.specs.HeldArrays.{HostBeside, HostHears}
-use Rattle.oram_volume.proofs.HeldArrays.{Goes, Holds, acts_hold, asked_hold, had, heard, keeps_on}
+use Rattle.oram_volume.proofs.HeldArrays.{Goes, Holds, acts_hold, submitted_hold, had, heard, keeps_on}
 
 -- no command's reply of an array is that the device failed
 never_failed : (bytes : List ℕ) (c : Command) → body_from bytes c ≢ Failed
@@ -79,11 +79,11 @@ failed_shows [] y ys none = All-head (λ (r : Reply). r.body ≢ ReplyBody.Faile
 failed_shows (r ∷ given) y ys none = failed_shows given y ys (All-tail (λ (r : Reply). r.body ≢ ReplyBody.Failed) r (given ++ map failed_reply (y ∷ ys)) none)
 
 -- a core that serves its trees still serves them once commands were submitted
-asked_served : (may_lie : Bool) (v : Scheme) → IsDevice v.device → (words : ℕ → ℕ → List ℕ) (session : ℕ) (asked : List SubmittedCommand) (s t : State) (before : ℕ → List ℕ) (far : Host)
-    → AreSubmitted v words session s asked t → IsServed v s far before → IsServed v t far before
-asked_served may_lie v device words session [] s t before far same served = subst (λ (c : State). IsServed v c far before) same served
-asked_served may_lie v device words session (a ∷ asked) s t before far all served =
-    asked_served may_lie v device words session asked all.0 t before far all.2 (served_submitted may_lie v device s all.0 a far before all.1.2 served)
+submitted_served : (may_lie : Bool) (v : Scheme) → IsDevice v.device → (words : ℕ → ℕ → List ℕ) (session : ℕ) (submitted : List SubmittedCommand) (s t : State) (before : ℕ → List ℕ) (far : Host)
+    → AreSubmitted v words session s submitted t → IsServed v s far before → IsServed v t far before
+submitted_served may_lie v device words session [] s t before far same served = subst (λ (c : State). IsServed v c far before) same served
+submitted_served may_lie v device words session (a ∷ submitted) s t before far all served =
+    submitted_served may_lie v device words session submitted all.0 t before far all.2 (served_submitted may_lie v device s all.0 a far before all.1.2 served)
 
 module _ {B K : Type 0} (batches : B → List (List ℕ) → BatchOutcome → List Exchange → B → Type 0) (reads_back : K → List ℕ → Type 0) (are : AreBatches batches) (v : Scheme) (words : ℕ → ℕ → List ℕ) where
   -- the replies are the array's, or a lie has failed the device, and a reply says so
@@ -92,8 +92,8 @@ module _ {B K : Type 0} (batches : B → List (List ℕ) → BatchOutcome → Li
       (bodies replies ≡ bodies_from v.device (map (λ (y : Submission). y.command) ys) array) ⊎ ((may_lie ≡ true) × (NoneFailed replies → ⊥))
 
   -- of a core that has no work and hasn't failed, to which commands were submitted
-  module _ (asked : List SubmittedCommand) (acts : List Act) (session : ℕ) (s t : State) (l : Round B) (k : K) (q : Process B K) (replies : List Reply) (no_work : HasNoWork s) (alive : s.failure ≡ None)
-      (chain : AreSubmitted v words session s asked t) (does : DoesAll v batches reads_back (process t l k) acts q) (given : flat_map replies_of acts ≡ replies) (many : length replies ≡ length t.queue) where
+  module _ (submitted : List SubmittedCommand) (acts : List Act) (session : ℕ) (s t : State) (l : Round B) (k : K) (q : Process B K) (replies : List Reply) (no_work : HasNoWork s) (alive : s.failure ≡ None)
+      (chain : AreSubmitted v words session s submitted t) (does : DoesAll v batches reads_back (process t l k) acts q) (given : flat_map replies_of acts ≡ replies) (many : length replies ≡ length t.queue) where
     right_by : (may_lie : Bool) (ys : List Submission) → t.queue ≡ ys → (w later : HostBeside) (array : ℕ → List ℕ) → FoldsTo {P = HostBeside} {A = Exchange} (HostHears may_lie) w (flat_map exchanges_of acts) later
         → Holds batches reads_back are v words may_lie (process s l k) w array → AreRight may_lie ys replies array
     right_by may_lie ys queue w later array run h =
@@ -106,7 +106,7 @@ module _ {B K : Type 0} (batches : B → List (List ℕ) → BatchOutcome → Li
         ] in
         let before : ℕ → List ℕ = served.0 in
         let going : IsGoingOn may_lie v (process t l k) host before =
-        (far, h.will_hold.1, asked_served may_lie v h.device words session asked s t before far chain served.1, h.ahead) in
+        (far, h.will_hold.1, submitted_served may_lie v h.device words session submitted s t before far chain served.1, h.ahead) in
         let went = heard may_lie (flat_map exchanges_of acts) w later run in
         let ran : PlainRun may_lie v host (flat_map exchanges_of acts) later.host = subst (λ (u : Scheme). PlainRun may_lie u host (flat_map exchanges_of acts) later.host) h.same went.1 in
         let all = replies_are_the_arrays batches reads_back are may_lie v acts (process t l k) q host later.host before h.device h.same_device h.same_len going does ran in
@@ -130,15 +130,15 @@ module _ {B K : Type 0} (batches : B → List (List ℕ) → BatchOutcome → Li
     -- kept.
     pub replies_go_on : (ys : List Submission) → t.queue ≡ ys → (rest : List Act) → acts ≡ Keeps true ∷ rest
         → Goes batches reads_back are v words (process s l k)
-        (λ may_lie old new. (new.now ≡ array_with v.device asked old.now) × AreRight may_lie ys replies old.now × (new.saved ≡ Some new.now)) q
-    replies_go_on ys queue rest begin = one_call (flat_map exchanges_of acts) (had batches reads_back are v words asked acts session s t l k q chain does)
+        (λ may_lie old new. (new.held ≡ array_with v.device submitted old.held) × AreRight may_lie ys replies old.held × (new.saved ≡ Some new.held)) q
+    replies_go_on ys queue rest begin = one_call (flat_map exchanges_of acts) (had batches reads_back are v words submitted acts session s t l k q chain does)
         (λ may_lie w later run old h.
-        let now : ℕ → List ℕ = array_with v.device asked old.now in
-        let there = asked_hold batches reads_back are v words may_lie asked session s t l k w old.now chain h.0 in
+        let now : ℕ → List ℕ = array_with v.device submitted old.held in
+        let there = submitted_hold batches reads_back are v words may_lie submitted session s t l k w old.held chain h.0 in
         let so : DoesAll v batches reads_back (process t l k) (Keeps true ∷ rest) q = subst (λ (done : List Act). DoesAll v batches reads_back (process t l k) done q) begin does in
         let ran : FoldsTo {P = HostBeside} {A = Exchange} (HostHears may_lie) w (flat_map exchanges_of (Keeps true ∷ rest)) later =
         subst (λ (done : List Act). FoldsTo {P = HostBeside} {A = Exchange} (HostHears may_lie) w (flat_map exchanges_of done) later) begin run in (
-          record { now = now; saved = Some now },
-          (refl, right_by may_lie ys queue w later old.now run h.0, refl),
+          record { held = now; saved = Some now },
+          (refl, right_by may_lie ys queue w later old.held run h.0, refl),
           (acts_hold batches reads_back are v words may_lie acts (process t l k) q w later now does run there, keeps_on batches reads_back are v words may_lie rest (process t l k) q w later now so ran there),
         ))

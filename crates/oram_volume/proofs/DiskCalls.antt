@@ -8,8 +8,8 @@ use Rattle.oram_core.specs.Core.{IsSameDevice}
 use Rattle.oram_session.specs.Honesty.{HasFailed}
 use Rattle.oram_link_laws.specs.Runs.{Exchange}
 use Rattle.oram_link_laws.proofs.Exchanged.{folds_join}
-use Rattle.oram_nbd.specs.Beside.{GoesOn, Held, IsHeld}
-use Rattle.oram_nbd.specs.Calls.{KeepsAll, KeepsPart, Stays}
+use Rattle.oram_nbd.specs.Beside.{GoesOn, Arrays, HasArrays}
+use Rattle.oram_nbd.specs.Calls.{SavesAll, SavesPart, Stays}
 use Rattle.oram_nbd.proofs.Beside.{one_call}
 use Rattle.oram_rounds.specs.Batches.{BatchOutcome}
 use Rattle.oram_rounds.specs.Process.Act.{Keeps}
@@ -71,46 +71,46 @@ AreLaid d (Some array) None = ⊥
 AreLaid d (Some array) (Some bytes) = IsLaidOut d array bytes
 
 -- what is known of bytes is known of the arrays that have these bytes
-pub record IsLaid (d : Sizes) (arrays : Held (ℕ → List ℕ)) (bytes : Held (List ℕ)) : Type 0 where
-  pub now : IsLaidOut d arrays.now bytes.now
+pub record IsLaid (d : Sizes) (arrays : Arrays (ℕ → List ℕ)) (bytes : Arrays (List ℕ)) : Type 0 where
+  pub held : IsLaidOut d arrays.held bytes.held
   pub saved : AreLaid d arrays.saved bytes.saved
 
-module _ (d : Sizes) (from to : Held (ℕ → List ℕ)) (bytes : Held (List ℕ)) (laid : IsLaid d from bytes) where
+module _ (d : Sizes) (from to : Arrays (ℕ → List ℕ)) (bytes : Arrays (List ℕ)) (laid : IsLaid d from bytes) where
   -- a call has done all, in arrays and so in bytes
-  pub laid_all : {touched touched' : Type 0} → KeepsAll touched from to → (now : List ℕ) → IsLaidOut d to.now now → (touched' → touched)
-      → (next : Held (List ℕ)) × (next.now ≡ now) × IsLaid d to next × KeepsAll touched' bytes next
-  laid_all k now there less = elim k.kept [
+  pub laid_all : {touched touched' : Type 0} → SavesAll touched from to → (now : List ℕ) → IsLaidOut d to.held now → (touched' → touched)
+      → (next : Arrays (List ℕ)) × (next.held ≡ now) × IsLaid d to next × SavesAll touched' bytes next
+  laid_all k now there less = elim k.either [
     | inl saved ↦ (
-      record { now = now; saved = Some now },
+      record { held = now; saved = Some now },
       refl,
-      record { now = there; saved = subst (λ (o : Option (ℕ → List ℕ)). AreLaid d o (Some now)) (sym saved) there },
-      record { kept = inl refl },
+      record { held = there; saved = subst (λ (o : Option (ℕ → List ℕ)). AreLaid d o (Some now)) (sym saved) there },
+      record { either = inl refl },
     )
     | inr rest ↦ (
       bytes,
-      laid.now.all ∙ ap (λ (h : Held (ℕ → List ℕ)). blocks_from h.now 0 d.blocks) (sym rest.1) ∙ sym there.all,
-      subst (λ (h : Held (ℕ → List ℕ)). IsLaid d h bytes) (sym rest.1) laid,
-      record { kept = inr ((λ t. rest.0 (less t)), refl) },
+      laid.held.all ∙ ap (λ (h : Arrays (ℕ → List ℕ)). blocks_from h.held 0 d.blocks) (sym rest.1) ∙ sym there.all,
+      subst (λ (h : Arrays (ℕ → List ℕ)). IsLaid d h bytes) (sym rest.1) laid,
+      record { either = inr ((λ t. rest.0 (less t)), refl) },
     )
   ]
 
   -- a call has failed
-  pub laid_part : {begun : (ℕ → List ℕ) → (ℕ → List ℕ) → Type 0} (begun' : List ℕ → List ℕ → Type 0) → KeepsPart begun from to
-      → ((part : ℕ → List ℕ) → begun from.now part → (b : List ℕ) × begun' bytes.now b × IsLaidOut d part b) → (now : List ℕ) → IsLaidOut d to.now now
-      → (next : Held (List ℕ)) × (next.now ≡ now) × IsLaid d to next × KeepsPart begun' bytes next
-  laid_part begun' k parts now there = elim k.kept [
+  pub laid_part : {begun : (ℕ → List ℕ) → (ℕ → List ℕ) → Type 0} (begun' : List ℕ → List ℕ → Type 0) → SavesPart begun from to
+      → ((part : ℕ → List ℕ) → begun from.held part → (b : List ℕ) × begun' bytes.held b × IsLaidOut d part b) → (now : List ℕ) → IsLaidOut d to.held now
+      → (next : Arrays (List ℕ)) × (next.held ≡ now) × IsLaid d to next × SavesPart begun' bytes next
+  laid_part begun' k parts now there = elim k.either [
     | inl same ↦ (
-      record { now = now; saved = bytes.saved },
+      record { held = now; saved = bytes.saved },
       refl,
-      record { now = there; saved = subst (λ (o : Option (ℕ → List ℕ)). AreLaid d o bytes.saved) (sym same) laid.saved },
-      record { kept = inl refl },
+      record { held = there; saved = subst (λ (o : Option (ℕ → List ℕ)). AreLaid d o bytes.saved) (sym same) laid.saved },
+      record { either = inl refl },
     )
     | inr part ↦
         let b = parts part.0 part.1 in (
-          record { now = now; saved = Some b.0 },
+          record { held = now; saved = Some b.0 },
           refl,
-          record { now = there; saved = subst (λ (o : Option (ℕ → List ℕ)). AreLaid d o (Some b.0)) (sym part.2) b.2 },
-          record { kept = inr (b.0, b.1, refl) },
+          record { held = there; saved = subst (λ (o : Option (ℕ → List ℕ)). AreLaid d o (Some b.0)) (sym part.2) b.2 },
+          record { either = inr (b.0, b.1, refl) },
         )
   ]
 
@@ -129,12 +129,12 @@ module _ {S B K T : Type 0} (cipher : S → Cipher) (words : T → ℕ → ℕ �
   -- what is known of the bytes of a volume, as what is known of its array
   in_arrays : (d : Volume S B K T) (may_lie : Bool) (w : HostBeside) (now : List ℕ) (saved : Option (List ℕ)) → HoldsBytes may_lie (running cipher words d) w now
       → IfSome saved (λ bytes. KeepsBytes reads_back may_lie (running cipher words d) w bytes now)
-      → (from : Held (ℕ → List ℕ)) × IsHeld HoldsArray (KeepsArray reads_back) may_lie (running cipher words d) w from × IsLaid d.core.device from (record { now = now; saved = saved })
-  in_arrays d may_lie w now None h k = (record { now = h.array; saved = None }, (h.holds, tt), record { now = h.laid; saved = tt })
+      → (from : Arrays (ℕ → List ℕ)) × HasArrays HoldsArray (KeepsArray reads_back) may_lie (running cipher words d) w from × IsLaid d.core.device from (record { held = now; saved = saved })
+  in_arrays d may_lie w now None h k = (record { held = h.array; saved = None }, (h.holds, tt), record { held = h.laid; saved = tt })
   in_arrays d may_lie w now (Some bytes) h k = (
-    record { now = k.array; saved = Some k.before },
+    record { held = k.array; saved = Some k.before },
     (keeps_hold reads_back may_lie (running cipher words d) w k.before k.array k.keeps, k.keeps),
-    record { now = k.laid; saved = k.laid_before },
+    record { held = k.laid; saved = k.laid_before },
   )
 
   -- and back
@@ -146,23 +146,23 @@ module _ {S B K T : Type 0} (cipher : S → Cipher) (words : T → ℕ → ℕ �
   saved_bytes d may_lie w array now (Some before) (Some bytes) laid k are = record { before = before; array = array; keeps = k; laid_before = are; laid = laid }
 
   -- What a volume does to arrays of blocks, it does to their bytes.
-  pub as_bytes : (old new : Volume S B K T) → IsSameDevice old.core new.core → {step : Bool → Held (ℕ → List ℕ) → Held (ℕ → List ℕ) → Type 0} {step' : Bool → Held (List ℕ) → Held (List ℕ) → Type 0}
-      → GoesOn (Had batches reads_back) HostHears (IsHeld HoldsArray (KeepsArray reads_back)) (running cipher words old) step (running cipher words new)
-      → ((may_lie : Bool) (from to : Held (ℕ → List ℕ)) (bytes : Held (List ℕ)) → IsLaid old.core.device from bytes → step may_lie from to
-      → (next : Held (List ℕ)) × step' may_lie bytes next × IsLaid old.core.device to next)
+  pub as_bytes : (old new : Volume S B K T) → IsSameDevice old.core new.core → {step : Bool → Arrays (ℕ → List ℕ) → Arrays (ℕ → List ℕ) → Type 0} {step' : Bool → Arrays (List ℕ) → Arrays (List ℕ) → Type 0}
+      → GoesOn (Had batches reads_back) HostHears (HasArrays HoldsArray (KeepsArray reads_back)) (running cipher words old) step (running cipher words new)
+      → ((may_lie : Bool) (from to : Arrays (ℕ → List ℕ)) (bytes : Arrays (List ℕ)) → IsLaid old.core.device from bytes → step may_lie from to
+      → (next : Arrays (List ℕ)) × step' may_lie bytes next × IsLaid old.core.device to next)
       → VolumeGoesOn cipher words batches reads_back old step' new
   as_bytes old new kept g laid = one_call (flat_map (λ (es : List Exchange). es) g.calls)
       (all_had batches reads_back g.calls (running cipher words old) (running cipher words new) g.made)
       (λ may_lie world later run bytes h.
-      let k = in_arrays old may_lie world bytes.now bytes.saved h.0 h.1 in
+      let k = in_arrays old may_lie world bytes.held bytes.saved h.0 h.1 in
       let j = g.leads may_lie world later run k.0 k.1 in
       let r = laid may_lie k.0 j.0 bytes k.2 j.1 in
       let there : IsLaid new.core.device j.0 r.0 = subst (λ (d : Sizes). IsLaid d j.0 r.0) (sym kept.0) r.2 in
-      (r.0, r.1, (record { array = j.0.now; holds = j.2.0; laid = there.now }, saved_bytes new may_lie later j.0.now r.0.now j.0.saved r.0.saved there.now j.2.1 there.saved)))
+      (r.0, r.1, (record { array = j.0.held; holds = j.2.0; laid = there.held }, saved_bytes new may_lie later j.0.held r.0.held j.0.saved r.0.saved there.held j.2.1 there.saved)))
 
   -- A volume that stops after it has gone on has stopped since then.
-  pub stops_after : (old mid new : Volume S B K T) {step : Bool → Held (ℕ → List ℕ) → Held (ℕ → List ℕ) → Type 0}
-      → GoesOn (Had batches reads_back) HostHears (IsHeld HoldsArray (KeepsArray reads_back)) (running cipher words old) step (running cipher words mid)
+  pub stops_after : (old mid new : Volume S B K T) {step : Bool → Arrays (ℕ → List ℕ) → Arrays (ℕ → List ℕ) → Type 0}
+      → GoesOn (Had batches reads_back) HostHears (HasArrays HoldsArray (KeepsArray reads_back)) (running cipher words old) step (running cipher words mid)
       → Stops batches reads_back (running cipher words mid) (running cipher words new) → Stops batches reads_back (running cipher words old) (running cipher words new)
   stops_after old mid new g stop =
       let was = all_had batches reads_back g.calls (running cipher words old) (running cipher words mid) g.made in

@@ -11,8 +11,8 @@ use Rattle.oram_session.specs.CoreWork.{HasNoWork}
 use Rattle.oram_link_laws.specs.Repair.{IsAmong}
 use Rattle.oram_link_laws.specs.Runs.{Exchange}
 use Rattle.oram_link_laws.proofs.Exchanged.{folds_join}
-use Rattle.oram_nbd.specs.Beside.{GoesOn, Held, IsHeld}
-use Rattle.oram_nbd.specs.Calls.{KeepsPart}
+use Rattle.oram_nbd.specs.Beside.{GoesOn, Arrays, HasArrays}
+use Rattle.oram_nbd.specs.Calls.{SavesPart}
 use Rattle.oram_nbd.proofs.Beside.{one_call}
 use Rattle.oram_rounds.specs.Batches.{BatchOutcome}
 use Rattle.oram_rounds.specs.CatchUp.{PlainRun}
@@ -94,29 +94,29 @@ module _ {B K : Type 0} (batches : B → List (List ℕ) → BatchOutcome → Li
   acts_taken [] p q does = ap at does
   acts_taken (act ∷ acts) p q does = (at does.0, (refl, refl, does.1), acts_taken acts does.0 q does.2)
 
-  pub asked_taken : (asked : List SubmittedCommand) (session : ℕ) (s t : State) (l : Round B) (k : K) → AreSubmitted v words session s asked t
-      → TakesSteps batches reads_back (at (process s l k)) (map {B = ProcessStep} Takes asked) (at (process t l k))
-  asked_taken [] session s t l k same = ap (λ (c : State). at (process c l k)) same
-  asked_taken (a ∷ asked) session s t l k all =
-      (at (process all.0 l k), (refl, refl, (all.1.2, refl, refl), all.1.1), asked_taken asked session all.0 t l k all.2)
+  pub submitted_taken : (submitted : List SubmittedCommand) (session : ℕ) (s t : State) (l : Round B) (k : K) → AreSubmitted v words session s submitted t
+      → TakesSteps batches reads_back (at (process s l k)) (map {B = ProcessStep} Takes submitted) (at (process t l k))
+  submitted_taken [] session s t l k same = ap (λ (c : State). at (process c l k)) same
+  submitted_taken (a ∷ submitted) session s t l k all =
+      (at (process all.0 l k), (refl, refl, (all.1.2, refl, refl), all.1.1), submitted_taken submitted session all.0 t l k all.2)
 
   of_acts : (acts : List Act) → flat_map exchanges_in (map {B = ProcessStep} Acts acts) ≡ flat_map exchanges_of acts
   of_acts [] = refl
   of_acts (act ∷ acts) = ap (λ (es : List Exchange). exchanges_of act ++ es) (of_acts acts)
 
-  of_asked : (asked : List SubmittedCommand) → flat_map exchanges_in (map {B = ProcessStep} Takes asked) ≡ []
-  of_asked [] = refl
-  of_asked (a ∷ asked) = of_asked asked
+  of_submitted : (submitted : List SubmittedCommand) → flat_map exchanges_in (map {B = ProcessStep} Takes submitted) ≡ []
+  of_submitted [] = refl
+  of_submitted (a ∷ submitted) = of_submitted submitted
 
   -- commands are submitted, and then acts are done
-  pub had : (asked : List SubmittedCommand) (acts : List Act) (session : ℕ) (s t : State) (l : Round B) (k : K) (q : Process B K) → AreSubmitted v words session s asked t
+  pub had : (submitted : List SubmittedCommand) (acts : List Act) (session : ℕ) (s t : State) (l : Round B) (k : K) (q : Process B K) → AreSubmitted v words session s submitted t
       → DoesAll v batches reads_back (process t l k) acts q → Had batches reads_back (at (process s l k)) (flat_map exchanges_of acts) (at q)
-  had asked acts session s t l k q chain does = (
-    map {B = ProcessStep} Takes asked ++ map {B = ProcessStep} Acts acts,
-    folds_join {P = Running B K} (TakesStep batches reads_back) (at (process s l k)) (at (process t l k)) (at q) (map {B = ProcessStep} Takes asked) (map {B = ProcessStep} Acts acts)
-        (asked_taken asked session s t l k chain) (acts_taken acts (process t l k) q does),
-    flat_map-append exchanges_in (map {B = ProcessStep} Takes asked) (map {B = ProcessStep} Acts acts)
-        ∙ ap (λ (es : List Exchange). es ++ flat_map exchanges_in (map {B = ProcessStep} Acts acts)) (of_asked asked) ∙ of_acts acts,
+  had submitted acts session s t l k q chain does = (
+    map {B = ProcessStep} Takes submitted ++ map {B = ProcessStep} Acts acts,
+    folds_join {P = Running B K} (TakesStep batches reads_back) (at (process s l k)) (at (process t l k)) (at q) (map {B = ProcessStep} Takes submitted) (map {B = ProcessStep} Acts acts)
+        (submitted_taken submitted session s t l k chain) (acts_taken acts (process t l k) q does),
+    flat_map-append exchanges_in (map {B = ProcessStep} Takes submitted) (map {B = ProcessStep} Acts acts)
+        ∙ ap (λ (es : List Exchange). es ++ flat_map exchanges_in (map {B = ProcessStep} Acts acts)) (of_submitted submitted) ∙ of_acts acts,
   )
 
   module _ (may_lie : Bool) where
@@ -194,33 +194,33 @@ module _ {B K : Type 0} (batches : B → List (List ℕ) → BatchOutcome → Li
         }
 
     -- once commands were submitted it holds the array after those that were accepted
-    pub asked_hold : (asked : List SubmittedCommand) (session : ℕ) (s t : State) (l : Round B) (k : K) (w : HostBeside) (array : ℕ → List ℕ) → AreSubmitted v words session s asked t
-        → Holds (process s l k) w array → Holds (process t l k) w (array_with v.device asked array)
-    asked_hold asked session s t l k w array chain h =
-        held_by (process t l k) w _ (array_with v.device asked array) h.same h.device
-        (submitted_is_safe B Nothing may_lie v asked (process s l k) (process t l k) w.host array h.device (safe_by (process s l k) w array h)
-        (submitted_to_processes B K v words session asked s t l k chain))
+    pub submitted_hold : (submitted : List SubmittedCommand) (session : ℕ) (s t : State) (l : Round B) (k : K) (w : HostBeside) (array : ℕ → List ℕ) → AreSubmitted v words session s submitted t
+        → Holds (process s l k) w array → Holds (process t l k) w (array_with v.device submitted array)
+    submitted_hold submitted session s t l k w array chain h =
+        held_by (process t l k) w _ (array_with v.device submitted array) h.same h.device
+        (submitted_is_safe B Nothing may_lie v submitted (process s l k) (process t l k) w.host array h.device (safe_by (process s l k) w array h)
+        (submitted_to_processes B K v words session submitted s t l k chain))
 
   -- what is known of a process beside a host
-  abbrev pub Knows : Bool → Process B K → HostBeside → Held (ℕ → List ℕ) → Type 0
-  Knows may_lie p w h = IsHeld HoldsArray (KeepsArray reads_back) may_lie (at p) w h
+  abbrev pub Knows : Bool → Process B K → HostBeside → Arrays (ℕ → List ℕ) → Type 0
+  Knows may_lie p w h = HasArrays HoldsArray (KeepsArray reads_back) may_lie (at p) w h
 
-  abbrev pub Goes : Process B K → (Bool → Held (ℕ → List ℕ) → Held (ℕ → List ℕ) → Type 0) → Process B K → Type 0
-  Goes p step q = GoesOn (Had batches reads_back) HostHears (IsHeld HoldsArray (KeepsArray reads_back)) (at p) step (at q)
+  abbrev pub Goes : Process B K → (Bool → Arrays (ℕ → List ℕ) → Arrays (ℕ → List ℕ) → Type 0) → Process B K → Type 0
+  Goes p step q = GoesOn (Had batches reads_back) HostHears (HasArrays HoldsArray (KeepsArray reads_back)) (at p) step (at q)
 
   -- acts leave the array as it is
   pub acts_go_on : (acts : List Act) (p q : Process B K) → DoesAll v batches reads_back p acts q → NoWorkIsKept p.core acts q.core
-      → Goes p (λ _ old new. (new.now ≡ old.now) × KeepsPart (λ array part. part ≡ array) old new) q
+      → Goes p (λ _ old new. (new.held ≡ old.held) × SavesPart (λ array part. part ≡ array) old new) q
   acts_go_on acts p q does kept_work = one_call (flat_map exchanges_of acts) (had [] acts 0 p.core p.core p.link p.keeper q refl does)
-      (λ may_lie w later run old h. by may_lie w later run old.now old.saved h.0 h.1)
+      (λ may_lie w later run old h. by may_lie w later run old.held old.saved h.0 h.1)
     where
       by : (may_lie : Bool) (w later : HostBeside) → FoldsTo {P = HostBeside} {A = Exchange} (HostHears may_lie) w (flat_map exchanges_of acts) later → (array : ℕ → List ℕ) (saved : Option (ℕ → List ℕ)) → Holds may_lie p w array
           → IfSome saved (λ before. KeepsArray reads_back may_lie (at p) w before array)
-          → (next : Held (ℕ → List ℕ)) × ((next.now ≡ array) × KeepsPart (λ one part. part ≡ one) (record { now = array; saved = saved }) next) × Knows may_lie q later next
-      by may_lie w later run array None h k = (record { now = array; saved = None }, (refl, record { kept = inl refl }), (acts_hold may_lie acts p q w later array does run h, tt))
+          → (next : Arrays (ℕ → List ℕ)) × ((next.held ≡ array) × SavesPart (λ one part. part ≡ one) (record { held = array; saved = saved }) next) × Knows may_lie q later next
+      by may_lie w later run array None h k = (record { held = array; saved = None }, (refl, record { either = inl refl }), (acts_hold may_lie acts p q w later array does run h, tt))
       by may_lie w later run array (Some before) h k = (
-        record { now = array; saved = Some (earlier acts before array) },
-        (refl, record { kept = elim (earlier_either acts before array) [ inl same ↦ inl (ap (λ (a : ℕ → List ℕ). Some a) same) | inr now ↦ inr (earlier acts before array, now, refl) ] }),
+        record { held = array; saved = Some (earlier acts before array) },
+        (refl, record { either = elim (earlier_either acts before array) [ inl same ↦ inl (ap (λ (a : ℕ → List ℕ). Some a) same) | inr now ↦ inr (earlier acts before array, now, refl) ] }),
         (
           acts_hold may_lie acts p q w later array does run h,
           acts_keep may_lie acts p q w later before array does run k.same k.device k.safe (λ none. elim (kept_work none) [
@@ -231,32 +231,32 @@ module _ {B K : Type 0} (batches : B → List (List ℕ) → BatchOutcome → Li
       )
 
   -- submissions to a core at which none waits, and then acts
-  pub asked_go_on : (asked : List SubmittedCommand) (acts : List Act) (session : ℕ) (s t : State) (l : Round B) (k : K) (q : Process B K) → AreSubmitted v words session s asked t → HasNoWork s
-      → (HasNoWork t → (array : ℕ → List ℕ) → array_with v.device asked array ≡ array) → DoesAll v batches reads_back (process t l k) acts q → NoWorkIsKept t acts q.core
-      → Goes (process s l k) (λ _ old new. (new.now ≡ array_with v.device asked old.now) × KeepsPart (λ array part. (part ≡ array) ⊎ (part ≡ array_with v.device asked array)) old new) q
-  asked_go_on asked acts session s t l k q chain idle none_asked does kept_work = one_call (flat_map exchanges_of acts) (had asked acts session s t l k q chain does)
-      (λ may_lie w later run old h. by may_lie w later run old.now old.saved h.0 h.1)
+  pub submitted_go_on : (submitted : List SubmittedCommand) (acts : List Act) (session : ℕ) (s t : State) (l : Round B) (k : K) (q : Process B K) → AreSubmitted v words session s submitted t → HasNoWork s
+      → (HasNoWork t → (array : ℕ → List ℕ) → array_with v.device submitted array ≡ array) → DoesAll v batches reads_back (process t l k) acts q → NoWorkIsKept t acts q.core
+      → Goes (process s l k) (λ _ old new. (new.held ≡ array_with v.device submitted old.held) × SavesPart (λ array part. (part ≡ array) ⊎ (part ≡ array_with v.device submitted array)) old new) q
+  submitted_go_on submitted acts session s t l k q chain idle none_accepted does kept_work = one_call (flat_map exchanges_of acts) (had submitted acts session s t l k q chain does)
+      (λ may_lie w later run old h. by may_lie w later run old.held old.saved h.0 h.1)
     where
       by : (may_lie : Bool) (w later : HostBeside) → FoldsTo {P = HostBeside} {A = Exchange} (HostHears may_lie) w (flat_map exchanges_of acts) later → (array : ℕ → List ℕ) (saved : Option (ℕ → List ℕ))
           → Holds may_lie (process s l k) w array → IfSome saved (λ before. KeepsArray reads_back may_lie (at (process s l k)) w before array)
-          → (next : Held (ℕ → List ℕ))
-          × ((next.now ≡ array_with v.device asked array) × KeepsPart (λ one part. (part ≡ one) ⊎ (part ≡ array_with v.device asked one)) (record { now = array; saved = saved }) next) × Knows may_lie q later next
+          → (next : Arrays (ℕ → List ℕ))
+          × ((next.held ≡ array_with v.device submitted array) × SavesPart (λ one part. (part ≡ one) ⊎ (part ≡ array_with v.device submitted one)) (record { held = array; saved = saved }) next) × Knows may_lie q later next
       by may_lie w later run array None h k' =
-          let held = acts_hold may_lie acts (process t l k) q w later (array_with v.device asked array) does run (asked_hold may_lie asked session s t l k w array chain h) in
-          (record { now = array_with v.device asked array; saved = None }, (refl, record { kept = inl refl }), (held, tt))
+          let held = acts_hold may_lie acts (process t l k) q w later (array_with v.device submitted array) does run (submitted_hold may_lie submitted session s t l k w array chain h) in
+          (record { held = array_with v.device submitted array; saved = None }, (refl, record { either = inl refl }), (held, tt))
       by may_lie w later run array (Some before) h k' =
-          let held = acts_hold may_lie acts (process t l k) q w later (array_with v.device asked array) does run (asked_hold may_lie asked session s t l k w array chain h) in
+          let held = acts_hold may_lie acts (process t l k) q w later (array_with v.device submitted array) does run (submitted_hold may_lie submitted session s t l k w array chain h) in
           let same : before ≡ array = k'.no_work idle in
-          let safe : IsSafe may_lie v reads_back (process t l k) w.host array (array_with v.device asked array) =
-          submitted_is_safe B reads_back may_lie v asked (process s l k) (process t l k) w.host array k'.device
-          (subst (λ (b : ℕ → List ℕ). IsSafe may_lie v reads_back (process s l k) w.host b array) same k'.safe) (submitted_to_processes B K v words session asked s t l k chain) in
-          let now : ℕ → List ℕ = array_with v.device asked array in (
-            record { now = now; saved = Some (earlier acts array now) },
-            (refl, record { kept = inr (earlier acts array now, earlier_either acts array now, refl) }),
+          let safe : IsSafe may_lie v reads_back (process t l k) w.host array (array_with v.device submitted array) =
+          submitted_is_safe B reads_back may_lie v submitted (process s l k) (process t l k) w.host array k'.device
+          (subst (λ (b : ℕ → List ℕ). IsSafe may_lie v reads_back (process s l k) w.host b array) same k'.safe) (submitted_to_processes B K v words session submitted s t l k chain) in
+          let now : ℕ → List ℕ = array_with v.device submitted array in (
+            record { held = now; saved = Some (earlier acts array now) },
+            (refl, record { either = inr (earlier acts array now, earlier_either acts array now, refl) }),
             (
               held,
               acts_keep may_lie acts (process t l k) q w later array now does run k'.same k'.device safe (λ none. elim (kept_work none) [
-                | inl rests ↦ subst (λ (b : ℕ → List ℕ). earlier acts b now ≡ now) (none_asked rests array) (earlier_same acts now)
+                | inl rests ↦ subst (λ (b : ℕ → List ℕ). earlier acts b now ≡ now) (none_accepted rests array) (earlier_same acts now)
                 | inr have ↦ have array now
               ]),
             ),

@@ -106,33 +106,33 @@ one_more (x ∷ xs) y = (x, xs ++ y ∷ [], refl)
 
 module _ (v : Scheme) (words : ℕ → ℕ → List ℕ) (session : ℕ) where
   -- once a command waits, the core has work, whatever is submitted
-  works_on : (asked : List SubmittedCommand) (s t : State) → AreSubmitted v words session s asked t → s.failure ≡ None → (x : Submission) (rest : List Submission) → s.queue ≡ x ∷ rest → HasNoWork t → ⊥
+  works_on : (submitted : List SubmittedCommand) (s t : State) → AreSubmitted v words session s submitted t → s.failure ≡ None → (x : Submission) (rest : List Submission) → s.queue ≡ x ∷ rest → HasNoWork t → ⊥
   works_on [] s t same alive x rest queue no_work = works s x rest alive queue (subst HasNoWork (sym same) no_work)
-  works_on (a ∷ asked) s t all alive x rest queue no_work =
+  works_on (a ∷ submitted) s t all alive x rest queue no_work =
       let mid : State = all.0 in
       elim (stepped v s mid a all.1.2) [
         | inl joins ↦
             let more : mid.queue ≡ x ∷ (rest ++ joins.1.1 ∷ []) = joins.1.3 ∙ ap (λ (q : List Submission). q ++ joins.1.1 ∷ []) queue in
-            works_on asked mid t all.2 (joins.1.5 ∙ alive) x (rest ++ joins.1.1 ∷ []) more no_work
-        | inr stays ↦ works_on asked mid t all.2 (ap (λ (c : State). c.failure) stays.2.1 ∙ alive) x rest (ap (λ (c : State). c.queue) stays.2.1 ∙ queue) no_work
+            works_on submitted mid t all.2 (joins.1.5 ∙ alive) x (rest ++ joins.1.1 ∷ []) more no_work
+        | inr stays ↦ works_on submitted mid t all.2 (ap (λ (c : State). c.failure) stays.2.1 ∙ alive) x rest (ap (λ (c : State). c.queue) stays.2.1 ∙ queue) no_work
       ]
 
   -- where the core has no work afterwards, none was accepted
-  pub none_submitted : (asked : List SubmittedCommand) (s t : State) → AreSubmitted v words session s asked t → s.failure ≡ None → HasNoWork t → (array : ℕ → List ℕ) → array_with v.device asked array ≡ array
+  pub none_submitted : (submitted : List SubmittedCommand) (s t : State) → AreSubmitted v words session s submitted t → s.failure ≡ None → HasNoWork t → (array : ℕ → List ℕ) → array_with v.device submitted array ≡ array
   none_submitted [] s t same alive no_work array = refl
-  none_submitted (a ∷ asked) s t all alive no_work array =
+  none_submitted (a ∷ submitted) s t all alive no_work array =
       let mid : State = all.0 in
       elim (stepped v s mid a all.1.2) [
         | inl joins ↦
             let some = one_more s.queue joins.1.1 in
-            absurd (works_on asked mid t all.2 (joins.1.5 ∙ alive) some.0 some.1 (joins.1.3 ∙ some.2) no_work)
+            absurd (works_on submitted mid t all.2 (joins.1.5 ∙ alive) some.0 some.1 (joins.1.3 ∙ some.2) no_work)
         | inr stays ↦
-            ap (array_with v.device asked) (stays.2.2 v.device array)
-            ∙ none_submitted asked mid t all.2 (ap (λ (c : State). c.failure) stays.2.1 ∙ alive) no_work array
+            ap (array_with v.device submitted) (stays.2.2 v.device array)
+            ∙ none_submitted submitted mid t all.2 (ap (λ (c : State). c.failure) stays.2.1 ∙ alive) no_work array
       ]
 
   abbrev pub AllFit : List SubmittedCommand → Type 0
-  AllFit asked = All (FitsDevice v.device) (map (λ (a : SubmittedCommand). a.command) asked)
+  AllFit submitted = All (FitsDevice v.device) (map (λ (a : SubmittedCommand). a.command) submitted)
 
   -- the words of the next ticket
   abbrev next_words : State → List ℕ
@@ -148,92 +148,92 @@ module _ (v : Scheme) (words : ℕ → ℕ → List ℕ) (session : ℕ) where
       ∙ ap (λ (ws : List ℕ). rest_of v.device (is_over (status_in s)) (length s.queue) s.next ws) step.1
 
   -- where one is refused, all others are too
-  all_refused : (e : Refusal) (asked : List SubmittedCommand) (s t : State) → AreSubmitted v words session s asked t → AllFit asked → now_refused s ≡ Some e
-      → (array : ℕ → List ℕ) → array_with v.device asked array ≡ array
+  all_refused : (e : Refusal) (submitted : List SubmittedCommand) (s t : State) → AreSubmitted v words session s submitted t → AllFit submitted → now_refused s ≡ Some e
+      → (array : ℕ → List ℕ) → array_with v.device submitted array ≡ array
   all_refused e [] s t all fits is array = refl
-  all_refused e (a ∷ asked) s t all fits is array =
+  all_refused e (a ∷ submitted) s t all fits is array =
       let mid : State = all.0 in
-      let reason = reason_of s mid a (All-head (FitsDevice v.device) a.command (map (λ (b : SubmittedCommand). b.command) asked) fits) all.1 ∙ is in
+      let reason = reason_of s mid a (All-head (FitsDevice v.device) a.command (map (λ (b : SubmittedCommand). b.command) submitted) fits) all.1 ∙ is in
       elim (stepped v s mid a all.1.2) [
         | inl joins ↦ absurd (let both : None ≡ Some e = sym joins.0 ∙ reason in cc)
         | inr stays ↦
-            ap (array_with v.device asked) (stays.2.2 v.device array)
-            ∙ all_refused e asked mid t all.2 (All-tail (FitsDevice v.device) a.command (map (λ (b : SubmittedCommand). b.command) asked) fits) (ap now_refused stays.2.1 ∙ is) array
+            ap (array_with v.device submitted) (stays.2.2 v.device array)
+            ∙ all_refused e submitted mid t all.2 (All-tail (FitsDevice v.device) a.command (map (λ (b : SubmittedCommand). b.command) submitted) fits) (ap now_refused stays.2.1 ∙ is) array
       ]
 
   -- so the first ones are accepted, all or some or none, and the array is the one after these
-  pub first_accepted : (asked : List SubmittedCommand) (s t : State) → AreSubmitted v words session s asked t → AllFit asked
-      → (n : ℕ) × (n ≤ length asked) × ((array : ℕ → List ℕ) → array_with v.device asked array ≡ after_commands v.device (take n (map (λ (a : SubmittedCommand). a.command) asked)) array)
+  pub first_accepted : (submitted : List SubmittedCommand) (s t : State) → AreSubmitted v words session s submitted t → AllFit submitted
+      → (n : ℕ) × (n ≤ length submitted) × ((array : ℕ → List ℕ) → array_with v.device submitted array ≡ after_commands v.device (take n (map (λ (a : SubmittedCommand). a.command) submitted)) array)
   first_accepted [] s t all fits = (0, omega arith, λ array. refl)
-  first_accepted (a ∷ asked) s t all fits =
+  first_accepted (a ∷ submitted) s t all fits =
       let mid : State = all.0 in
       elim (stepped v s mid a all.1.2) [
         | inl joins ↦
-            let rest = first_accepted asked mid t all.2 (All-tail (FitsDevice v.device) a.command (map (λ (b : SubmittedCommand). b.command) asked) fits) in (
+            let rest = first_accepted submitted mid t all.2 (All-tail (FitsDevice v.device) a.command (map (λ (b : SubmittedCommand). b.command) submitted) fits) in (
               suc rest.0,
-              (let few : rest.0 ≤ length asked = rest.1 in omega arith),
-              λ array. ap (array_with v.device asked) (joins.1.4 v.device array) ∙ rest.2 (array_after v.device a.command array),
+              (let few : rest.0 ≤ length submitted = rest.1 in omega arith),
+              λ array. ap (array_with v.device submitted) (joins.1.4 v.device array) ∙ rest.2 (array_after v.device a.command array),
             )
         | inr stays ↦
-            let reason = sym (reason_of s mid a (All-head (FitsDevice v.device) a.command (map (λ (b : SubmittedCommand). b.command) asked) fits) all.1) ∙ stays.1 in (
+            let reason = sym (reason_of s mid a (All-head (FitsDevice v.device) a.command (map (λ (b : SubmittedCommand). b.command) submitted) fits) all.1) ∙ stays.1 in (
               0,
               omega arith,
-              λ array. all_refused stays.0 (a ∷ asked) s t all fits reason array,
+              λ array. all_refused stays.0 (a ∷ submitted) s t all fits reason array,
             )
       ]
 
   -- how many are accepted
   abbrev pub accepted_in : List SubmittedCommand → ℕ
-  accepted_in asked = count_by is_accepted (map (λ (a : SubmittedCommand). a.shown.note) asked)
+  accepted_in submitted = count_by is_accepted (map (λ (a : SubmittedCommand). a.shown.note) submitted)
 
-  most_accepted : (asked : List SubmittedCommand) → accepted_in asked ≤ length asked
-  most_accepted asked =
-      subst (λ (n : ℕ). accepted_in asked ≤ n) (length-map asked (λ (a : SubmittedCommand). a.shown.note)) (count_by-le-length is_accepted (map (λ (a : SubmittedCommand). a.shown.note) asked))
+  most_accepted : (submitted : List SubmittedCommand) → accepted_in submitted ≤ length submitted
+  most_accepted submitted =
+      subst (λ (n : ℕ). accepted_in submitted ≤ n) (length-map submitted (λ (a : SubmittedCommand). a.shown.note)) (count_by-le-length is_accepted (map (λ (a : SubmittedCommand). a.shown.note) submitted))
 
-  counted : (a : SubmittedCommand) (asked : List SubmittedCommand) → accepted_in (a ∷ asked) ≡ (if is_accepted a.shown.note then 1 else 0) + accepted_in asked
-  counted a asked = sum_by-cons (λ (n : Note). if is_accepted n then 1 else 0) a.shown.note (map (λ (b : SubmittedCommand). b.shown.note) asked)
+  counted : (a : SubmittedCommand) (submitted : List SubmittedCommand) → accepted_in (a ∷ submitted) ≡ (if is_accepted a.shown.note then 1 else 0) + accepted_in submitted
+  counted a submitted = sum_by-cons (λ (n : Note). if is_accepted n then 1 else 0) a.shown.note (map (λ (b : SubmittedCommand). b.shown.note) submitted)
 
   -- where all commands are accepted, they stand in the queue in their order
-  pub record AreQueued (asked : List SubmittedCommand) (s t : State) : Type 0 where
+  pub record AreQueued (submitted : List SubmittedCommand) (s t : State) : Type 0 where
     pub waiting : List Submission
-    pub commands : map (λ (y : Submission). y.command) waiting ≡ map (λ (a : SubmittedCommand). a.command) asked
+    pub commands : map (λ (y : Submission). y.command) waiting ≡ map (λ (a : SubmittedCommand). a.command) submitted
     pub queue : t.queue ≡ s.queue ++ waiting
 
-  pub all_accepted : (asked : List SubmittedCommand) (s t : State) → AreSubmitted v words session s asked t → length asked ≤ accepted_in asked
-      → AreQueued asked s t × ((array : ℕ → List ℕ) → array_with v.device asked array ≡ after_commands v.device (map (λ (a : SubmittedCommand). a.command) asked) array)
+  pub all_accepted : (submitted : List SubmittedCommand) (s t : State) → AreSubmitted v words session s submitted t → length submitted ≤ accepted_in submitted
+      → AreQueued submitted s t × ((array : ℕ → List ℕ) → array_with v.device submitted array ≡ after_commands v.device (map (λ (a : SubmittedCommand). a.command) submitted) array)
   all_accepted [] s t all many = (
     record { waiting = []; commands = refl; queue = ap (λ (c : State). c.queue) (sym all) ∙ sym (append-nil s.queue) },
     λ array. refl,
   )
-  all_accepted (a ∷ asked) s t all many =
+  all_accepted (a ∷ submitted) s t all many =
       let mid : State = all.0 in
-      let most = most_accepted asked in
+      let most = most_accepted submitted in
       elim (stepped v s mid a all.1.2) [
         | inl joins ↦
-            let one = counted a asked ∙ ap (λ (b : Bool). (if b then 1 else 0) + accepted_in asked) joins.1.0 in
-            let rest = all_accepted asked mid t all.2 (omega (arith, one, many, most)) in (
+            let one = counted a submitted ∙ ap (λ (b : Bool). (if b then 1 else 0) + accepted_in submitted) joins.1.0 in
+            let rest = all_accepted submitted mid t all.2 (omega (arith, one, many, most)) in (
               record {
                 waiting = joins.1.1 ∷ rest.0.waiting;
                 commands = ap (λ (c : Command). c ∷ map (λ (y : Submission). y.command) rest.0.waiting) joins.1.2 ∙ ap (λ (cs : List Command). a.command ∷ cs) rest.0.commands;
                 queue = rest.0.queue ∙ ap (λ (q : List Submission). q ++ rest.0.waiting) joins.1.3 ∙ append_assoc s.queue (joins.1.1 ∷ []) rest.0.waiting;
               },
-              λ array. ap (array_with v.device asked) (joins.1.4 v.device array) ∙ rest.1 (array_after v.device a.command array),
+              λ array. ap (array_with v.device submitted) (joins.1.4 v.device array) ∙ rest.1 (array_after v.device a.command array),
             )
         | inr stays ↦
-            let none = counted a asked ∙ ap (λ (b : Bool). (if b then 1 else 0) + accepted_in asked) stays.2.0 in
+            let none = counted a submitted ∙ ap (λ (b : Bool). (if b then 1 else 0) + accepted_in submitted) stays.2.0 in
             absurd (omega (arith, none, many, most))
       ]
 
   -- where fewer are accepted than were submitted, one of them wasn't accepted
-  pub one_refused : (asked : List SubmittedCommand) → accepted_in asked < length asked → (before after : List SubmittedCommand) × (a : SubmittedCommand) × (is_accepted a.shown.note ≡ false) × (asked ≡ before ++ a ∷ after)
+  pub one_refused : (submitted : List SubmittedCommand) → accepted_in submitted < length submitted → (before after : List SubmittedCommand) × (a : SubmittedCommand) × (is_accepted a.shown.note ≡ false) × (submitted ≡ before ++ a ∷ after)
   one_refused [] few = absurd (omega (arith, few))
-  one_refused (a ∷ asked) few = by (is_accepted a.shown.note) refl (λ less. one_refused asked less)
+  one_refused (a ∷ submitted) few = by (is_accepted a.shown.note) refl (λ less. one_refused submitted less)
     where
       by : (b : Bool) → is_accepted a.shown.note ≡ b
-          → (accepted_in asked < length asked → (before after : List SubmittedCommand) × (x : SubmittedCommand) × (is_accepted x.shown.note ≡ false) × (asked ≡ before ++ x ∷ after))
-          → (before after : List SubmittedCommand) × (x : SubmittedCommand) × (is_accepted x.shown.note ≡ false) × (a ∷ asked ≡ before ++ x ∷ after)
-      by false is more = ([], asked, a, is, refl)
+          → (accepted_in submitted < length submitted → (before after : List SubmittedCommand) × (x : SubmittedCommand) × (is_accepted x.shown.note ≡ false) × (submitted ≡ before ++ x ∷ after))
+          → (before after : List SubmittedCommand) × (x : SubmittedCommand) × (is_accepted x.shown.note ≡ false) × (a ∷ submitted ≡ before ++ x ∷ after)
+      by false is more = ([], submitted, a, is, refl)
       by true is more =
-          let one = counted a asked ∙ ap (λ (b : Bool). (if b then 1 else 0) + accepted_in asked) is in
+          let one = counted a submitted ∙ ap (λ (b : Bool). (if b then 1 else 0) + accepted_in submitted) is in
           let rest = more (omega (arith, one, few)) in
           (a ∷ rest.0, rest.1, rest.2, rest.3, ap (λ (l : List SubmittedCommand). a ∷ l) rest.4)

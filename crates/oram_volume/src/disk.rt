@@ -4,8 +4,8 @@ ghost use Rattle.std.specs.Prelude.{◌≡◌, ◌≢◌, ◌*◌, ◌<◌, ◌�
 ghost use Rattle.std.specs.List.{flat_map};
 ghost use Rattle.oram_core.specs.Core.{IsSameDevice};
 ghost use Rattle.oram_session.specs.Honesty.{HasFailed};
-ghost use Rattle.oram_nbd.specs.Beside.{GoesOn, IsHeld};
-ghost use Rattle.oram_nbd.specs.Calls.{FailsByLies, Keeps};
+ghost use Rattle.oram_nbd.specs.Beside.{GoesOn, HasArrays};
+ghost use Rattle.oram_nbd.specs.Calls.{FailsByLies, Saves};
 ghost use Rattle.oram_nbd.specs.Operations.{IsWhole, IsWithin, read_len};
 ghost use Rattle.oram_semantics.specs.declared.events.Command.{Command};
 ghost use Rattle.oram_volume.specs.CarriedOut.{Had, IsAfterFirst, Stops, after_commands, bodies_from};
@@ -76,10 +76,10 @@ impl<S: Sealer, B: BatchLink, K: Keeper, T: Tape> Volume<S, B, K, T> {
         requires within { All (IsWithin (self.old.core.device.block_bytes * self.old.core.device.blocks)) operations.now }
         ensures kept { IsSameDevice self.old.core self.new.core }
         ensures goes { let d = self.old.core.device in let all = all_commands d.block_bytes operations.now in
-            GoesOn (Had B.batches K.reads_back) HostHears (IsHeld HoldsArray (KeepsArray K.reads_back)) (running S.cipher T.words self.old)
+            GoesOn (Had B.batches K.reads_back) HostHears (HasArrays HoldsArray (KeepsArray K.reads_back)) (running S.cipher T.words self.old)
             (λ may_lie old new. MatchResult result
-            (λ found. (found.items ≡ flat_map data_of (bodies_from d all old.now)) × (new.now ≡ after_commands d all old.now))
-            (λ _. IsAfterFirst d all old.now new.now) × FailsByLies result may_lie × Keeps result (all ≢ []) (IsAfterFirst d all) old new)
+            (λ found. (found.items ≡ flat_map data_of (bodies_from d all old.held)) × (new.held ≡ after_commands d all old.held))
+            (λ _. IsAfterFirst d all old.held new.held) × FailsByLies result may_lie × Saves result (all ≢ []) (IsAfterFirst d all) old new)
             (running S.cipher T.words self.new) }
         ensures failing { IsErrOf result DiskFault.Failed → HasFailed self.new.core.state }
         ensures still { HasFailed self.old.core.state → HasFailed self.new.core.state }

@@ -4,8 +4,8 @@ ghost use Rattle.std.specs.Prelude.{◌≡◌, ◌≢◌, ◌⊎◌, ◌<◌, �
 ghost use Rattle.oram_core.specs.Core.{IsSameDevice};
 ghost use Rattle.oram_session.specs.Honesty.{HasFailed};
 ghost use Rattle.oram_session.specs.CoreWork.{HasNoWork};
-ghost use Rattle.oram_nbd.specs.Beside.{GoesOn, IsHeld};
-ghost use Rattle.oram_nbd.specs.Calls.{FailsByLies, Keeps, KeepsPart};
+ghost use Rattle.oram_nbd.specs.Beside.{GoesOn, HasArrays};
+ghost use Rattle.oram_nbd.specs.Calls.{FailsByLies, Saves, SavesPart};
 ghost use Rattle.oram_volume.specs.CarriedOut.{Had, IsAfterFirst, Stops, after_commands, bodies_from};
 ghost use Rattle.oram_volume.specs.RangeCommands.{FitsDevice};
 ghost use Rattle.oram_volume.specs.HeldArrays.{HostHears, HoldsArray, KeepsArray, running};
@@ -79,8 +79,8 @@ impl<S: Sealer, B: BatchLink, K: Keeper, T: Tape> Volume<S, B, K, T> {
         ensures no_work { OnOk result (HasNoWork self.new.core.state) }
         ensures calm { HasNoWork self.old.core.state → IsOk result × (self.new.core ≡ self.old.core) }
         // It holds the same array. What was kept before still is, or this array is kept now.
-        ensures goes { GoesOn (Had B.batches K.reads_back) HostHears (IsHeld HoldsArray (KeepsArray K.reads_back)) (running S.cipher T.words self.old)
-            (λ _ old new. (new.now ≡ old.now) × KeepsPart (λ array part. part ≡ array) old new) (running S.cipher T.words self.new) }
+        ensures goes { GoesOn (Had B.batches K.reads_back) HostHears (HasArrays HoldsArray (KeepsArray K.reads_back)) (running S.cipher T.words self.old)
+            (λ _ old new. (new.held ≡ old.held) × SavesPart (λ array part. part ≡ array) old new) (running S.cipher T.words self.new) }
         ensures fault { IfErr result (λ e. e ≢ DiskFault.Failed) }
         // It stops where a message stalls or the process can't be kept, and nowhere else.
         ensures stopped { IsErrOf result DiskFault.Stopped → Stops B.batches K.reads_back (running S.cipher T.words self.old) (running S.cipher T.words self.new) }
@@ -102,11 +102,11 @@ impl<S: Sealer, B: BatchLink, K: Keeper, T: Tape> Volume<S, B, K, T> {
         requires { All (FitsDevice self.old.core.device) commands.items }
         ensures kept { IsSameDevice self.old.core self.new.core }
         ensures tape { T.words self.new.tape ≡ T.words self.old.tape }
-        ensures goes { GoesOn (Had B.batches K.reads_back) HostHears (IsHeld HoldsArray (KeepsArray K.reads_back)) (running S.cipher T.words self.old)
+        ensures goes { GoesOn (Had B.batches K.reads_back) HostHears (HasArrays HoldsArray (KeepsArray K.reads_back)) (running S.cipher T.words self.old)
             (λ may_lie old new. let d = self.old.core.device in MatchResult result
-            (λ replies. (map (λ reply. reply.body) replies.items ≡ bodies_from d commands.items old.now) × (new.now ≡ after_commands d commands.items old.now))
-            (λ _. IsAfterFirst d commands.items old.now new.now) × FailsByLies result may_lie
-            × Keeps result (commands.items ≢ []) (IsAfterFirst d commands.items) old new)
+            (λ replies. (map (λ reply. reply.body) replies.items ≡ bodies_from d commands.items old.held) × (new.held ≡ after_commands d commands.items old.held))
+            (λ _. IsAfterFirst d commands.items old.held new.held) × FailsByLies result may_lie
+            × Saves result (commands.items ≢ []) (IsAfterFirst d commands.items) old new)
             (running S.cipher T.words self.new) }
         ensures refused { OnOk result (HasFailed self.old.core.state → ⊥) }
         ensures failing { IsErrOf result DiskFault.Failed → HasFailed self.new.core.state }

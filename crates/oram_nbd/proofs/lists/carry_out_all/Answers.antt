@@ -3,7 +3,7 @@ use Rattle.std.proofs.lemmas.Result.{err_from_is_err_and}
 use Rattle.oram_nbd.specs.Operations.{AreBegun, TouchSomeByte, read_len}
 use Rattle.oram_nbd.proofs.Beside.{at_rest as calls_none, joined_calls}
 use Rattle.oram_nbd.proofs.Calls.{at_rest, stays_on}
-use Rattle.oram_nbd.proofs.Keeping.{all_at_rest, all_joined, part_after_all, part_at_rest, part_behind}
+use Rattle.oram_nbd.proofs.Saving.{all_at_rest, all_joined, part_after_all, part_at_rest, part_behind}
 use Rattle.oram_nbd.proofs.ListSteps.{Carried, begun_nothing, carried_begun, carried_none, carried_slice, carried_stopped, lies_if, slice_few, slice_lens, slice_split, touch_split}
 use Rattle.oram_nbd.proofs.lists.carry_out_all.Goals as goal
 
@@ -11,15 +11,15 @@ pub returns-then-has_failed-clause-goes : goal.returns-then-has_failed-clause-go
 returns-then-has_failed-clause-goes g c =
     let failed : g.D.BlockDevice.failed c.args.disk.now = search rules in
     calls_none (λ may_lie world old h. (
-      begun_nothing c.args.operations.now old.now,
-      λ e. lies_if may_lie (λ honest. c.has_failed.ensures.sound world old.now (subst (λ (b : Bool). g.D.BlockDevice.holds b c.args.disk.now world old.now) honest h.0) failed),
+      begun_nothing c.args.operations.now old.held,
+      λ e. lies_if may_lie (λ honest. c.has_failed.ensures.sound world old.held (subst (λ (b : Bool). g.D.BlockDevice.holds b c.args.disk.now world old.held) honest h.0) failed),
       part_at_rest,
     ))
 
 pub returns-in_err-given-clause-goes : goal.returns-in_err-given-clause-goes
 returns-in_err-given-clause-goes g c =
     let p = err_from_is_err_and c.from_residual.result c.from_residual.ensures.1 in
-    rw p.1 (calls_none (λ may_lie world old h. (begun_nothing c.args.operations.now old.now, λ e. cc, part_at_rest)))
+    rw p.1 (calls_none (λ may_lie world old h. (begun_nothing c.args.operations.now old.held, λ e. cc, part_at_rest)))
 
 pub loop-alloc-init : goal.loop-alloc-init
 loop-alloc-init g c =
@@ -28,7 +28,7 @@ loop-alloc-init g c =
       few = omega (arith, ap length none);
       lens = ap (λ (gs : List (List ℕ)). map length gs) none ∙ sym (ap (λ (gs : List (List ℕ)). map read_len (take (length gs) c.args.operations.now)) none);
       so_far = calls_none (λ may_lie world old h. (
-        subst (λ (gs : List (List ℕ)). Carried c.args.operations.now old.now (length gs) gs old.now) (sym none) (carried_none c.args.operations.now old.now),
+        subst (λ (gs : List (List ℕ)). Carried c.args.operations.now old.held (length gs) gs old.held) (sym none) (carried_none c.args.operations.now old.held),
         all_at_rest (λ touched. subst (λ (gs : List (List ℕ)). TouchSomeByte (take (length gs) c.args.operations.now)) none touched),
       ));
       stays = at_rest _;
@@ -40,10 +40,10 @@ returns-in_err-more-clause-goes g c =
     let ops = c.args.operations.now in
     let here : c.len-in-loop-alloc.result ≡ length c.loop-alloc.given.items = search rules in
     rw p.1 (joined_calls c.loop-alloc.invariant.so_far c.in_err-more.ensures.goes (λ may_lie world old mid new h first second.
-    let begun = λ (x : List ℕ) (is : AreBegun (take (length ops - c.len-in-loop-alloc.result) (drop c.len-in-loop-alloc.result ops)) mid.now x).
-    carried_begun ops old.now _ c.loop-alloc.given.items mid.now first.0 (length ops - length c.loop-alloc.given.items) x
-    (subst (λ (k : ℕ). AreBegun (take (length ops - k) (drop k ops)) mid.now x) here is) in
-    (begun new.now second.0.0, λ e. second.1 cc, part_behind first.1 (carried_stopped ops old.now _ _ mid.now first.0) second.0.1 begun)))
+    let begun = λ (x : List ℕ) (is : AreBegun (take (length ops - c.len-in-loop-alloc.result) (drop c.len-in-loop-alloc.result ops)) mid.held x).
+    carried_begun ops old.held _ c.loop-alloc.given.items mid.held first.0 (length ops - length c.loop-alloc.given.items) x
+    (subst (λ (k : ℕ). AreBegun (take (length ops - k) (drop k ops)) mid.held x) here is) in
+    (begun new.held second.0.0, λ e. second.1 cc, part_behind first.1 (carried_stopped ops old.held _ _ mid.held first.0) second.0.1 begun)))
 
 pub returns-in_err-append-clause-goes : goal.returns-in_err-append-clause-goes
 returns-in_err-append-clause-goes g c =
@@ -51,8 +51,8 @@ returns-in_err-append-clause-goes g c =
     let ops = c.args.operations.now in
     let here : c.len-in-loop-alloc.result ≡ length c.loop-alloc.given.items = search rules in
     rw p.1 (joined_calls c.loop-alloc.invariant.so_far c.in_ok-more.ensures.goes (λ may_lie world old mid new h first second.
-    let begun = carried_stopped ops old.now _ _ new.now
-    (carried_slice ops old.now c.loop-alloc.given.items mid.now first.0 c.len-in-loop-alloc.result here c.in_ok-more.more.items new.now c.in_ok-more.ensures.most second.0.0 second.0.1) in
+    let begun = carried_stopped ops old.held _ _ new.held
+    (carried_slice ops old.held c.loop-alloc.given.items mid.held first.0 c.len-in-loop-alloc.result here c.in_ok-more.more.items new.held c.in_ok-more.ensures.most second.0.0 second.0.1) in
     (begun, λ e. cc, part_after_all (all_joined {both = ⊥} first.1 second.0.2 (λ none. absurd none)) begun)))
 
 pub loop-alloc-preserved : goal.loop-alloc-preserved
@@ -70,8 +70,8 @@ loop-alloc-preserved g c =
       lens = subst (λ (gs : List (List ℕ)). map length gs ≡ map read_len (take (length gs) ops)) (sym both)
           (slice_lens ops given more c.len-in-loop-alloc.result here c.in_ok-more.ensures.most inv.lens c.in_ok-more.ensures.len);
       so_far = joined_calls inv.so_far c.in_ok-more.ensures.goes (λ may_lie world old mid new h first second. (
-        subst (λ (gs : List (List ℕ)). Carried ops old.now (length gs) gs new.now) (sym both)
-            (carried_slice ops old.now given mid.now first.0 c.len-in-loop-alloc.result here more new.now c.in_ok-more.ensures.most second.0.0 second.0.1),
+        subst (λ (gs : List (List ℕ)). Carried ops old.held (length gs) gs new.held) (sym both)
+            (carried_slice ops old.held given mid.held first.0 c.len-in-loop-alloc.result here more new.held c.in_ok-more.ensures.most second.0.0 second.0.1),
         all_joined first.1 second.0.2
             (λ touched. touch_split (take (length given) ops) (take (length more) (take (length ops - c.len-in-loop-alloc.result) (drop c.len-in-loop-alloc.result ops))) (subst TouchSomeByte split touched)),
       ));

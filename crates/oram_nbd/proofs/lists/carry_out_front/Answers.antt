@@ -1,6 +1,6 @@
 use Rattle.std.proofs.lemmas.Result.{err_from_is_err_and}
 use Rattle.oram_nbd.proofs.Beside.{at_rest, weaker}
-use Rattle.oram_nbd.proofs.Keeping.{part_at_rest}
+use Rattle.oram_nbd.proofs.Saving.{part_at_rest}
 use Rattle.oram_nbd.proofs.ListSteps.{begun_nothing, front_outcome}
 use Rattle.oram_nbd.proofs.lists.carry_out_front.Goals as goal
 
@@ -12,4 +12,4 @@ returns-then-count-gt0-clause-goes g c =
 pub returns-in_err-given-clause-goes : goal.returns-in_err-given-clause-goes
 returns-in_err-given-clause-goes g c =
     let p = err_from_is_err_and c.from_residual.result c.from_residual.ensures.1 in
-    rw p.1 (at_rest (λ may_lie world old h. ((begun_nothing c.args.operations.now old.now, part_at_rest), λ e. cc)))
+    rw p.1 (at_rest (λ may_lie world old h. ((begun_nothing c.args.operations.now old.held, part_at_rest), λ e. cc)))

@@ -2,7 +2,7 @@ use Rattle.std.proofs.Common.{◌≡◌, ◌*◌, ◌<◌, ℕ, inl, sym, ◌∙
 use Rattle.std.proofs.lemmas.Result.{err_from_is_err_and}
 use Rattle.oram_nbd.specs.Bytes.{bytes_at}
 use Rattle.oram_nbd.proofs.Beside.{weaker}
-use Rattle.oram_nbd.proofs.Keeping.{all_weaker, part_weaker}
+use Rattle.oram_nbd.proofs.Saving.{all_weaker, part_weaker}
 use Rattle.oram_nbd.proofs.ListSteps.{same_once}
 use Rattle.oram_nbd.proofs.ranges.read_blocks.Goals as goal
 
@@ -10,12 +10,12 @@ pub returns-in_err-given-clause-goes : goal.returns-in_err-given-clause-goes
 returns-in_err-given-clause-goes g c =
     let p = err_from_is_err_and c.from_residual.result c.from_residual.ensures.1 in
     rw p.1 (weaker c.in_err-given.ensures.goes (λ may_lie world old new h step.
-    ((same_once old.now new.now step.0, part_weaker step.2 (λ x begun. same_once old.now x begun)), tt, λ e. step.1 cc)))
+    ((same_once old.held new.held step.0, part_weaker step.2 (λ x begun. same_once old.held x begun)), tt, λ e. step.1 cc)))
 
 pub returns-clause-goes : goal.returns-clause-goes
 returns-clause-goes g c =
     let b = g.D.BlockDevice.block_len c.args.disk.now in
     let same : c.from-block.result ≡ b = c.from-block.ensures ∙ c.block_bytes.ensures.value in
     weaker c.in_ok-given.ensures.goes (λ may_lie world old new h step.
-    let read : c.into_vec.result.items ≡ bytes_at old.now (b * c.args.first) (b * c.args.count) = search rules in
+    let read : c.into_vec.result.items ≡ bytes_at old.held (b * c.args.first) (b * c.args.count) = search rules in
     ((step.0.1, all_weaker step.2 (λ some. inl (subst (λ (n : ℕ). 0 < n * c.args.count) (sym same) some))), read, λ e. cc))

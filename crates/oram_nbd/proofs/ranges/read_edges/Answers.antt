@@ -4,7 +4,7 @@ use Rattle.oram_nbd.specs.Bytes.{bytes_at}
 use Rattle.oram_nbd.specs.declared.operations.Operation.TheVariants.{Read}
 use Rattle.oram_nbd.proofs.Beside.{weaker, at_rest as calls_none}
 use Rattle.oram_nbd.proofs.Edges.{after_at, after_none, back_whole, before_at, block_least, edge_either, front_whole, rest_of}
-use Rattle.oram_nbd.proofs.Keeping.{all_at_rest, part_after_all}
+use Rattle.oram_nbd.proofs.Saving.{all_at_rest, part_after_all}
 use Rattle.oram_nbd.proofs.ranges.read_edges.Goals as goal
 
 pub returns-then-ahead-behind-eq0-clause-goes : goal.returns-then-ahead-behind-eq0-clause-goes
@@ -20,8 +20,8 @@ returns-then-ahead-behind-eq0-clause-goes g c =
     calls_none (λ may_lie world old h. (
       (refl, all_at_rest (λ none. none)),
       (
-        none ∙ sym (ap (λ (n : ℕ). take n (bytes_at old.now (b * c.args.cover.first) (b * c.args.cover.count))) start),
-        none' ∙ after_none old.now (b * c.args.cover.first) (c.args.cover.start + c.args.len) (b * c.args.cover.count) long,
+        none ∙ sym (ap (λ (n : ℕ). take n (bytes_at old.held (b * c.args.cover.first) (b * c.args.cover.count))) start),
+        none' ∙ after_none old.held (b * c.args.cover.first) (c.args.cover.start + c.args.len) (b * c.args.cover.count) long,
       ),
       λ e. cc,
     ))
@@ -74,21 +74,21 @@ returns-clause-goes g c =
     let whole : e + rest ≡ k * count = omega (arith, covers) in
     let ends : ((k * first + k * count) - c.edge_len-behind.result) + c.edge_len-behind.result ≡ k * first + (e + rest) = omega (arith, short, whole) in
     weaker c.in_ok-given.ensures.goes (λ may_lie world old new h step.
-    let front : c.as_slice.result.now ≡ bytes_at old.now (k * first) c.edge_len-ahead.result = search rules in
-    let back : c.as_slice-back.result.now ≡ bytes_at old.now ((k * first + k * count) - c.edge_len-behind.result) c.edge_len-behind.result = search rules in
+    let front : c.as_slice.result.now ≡ bytes_at old.held (k * first) c.edge_len-ahead.result = search rules in
+    let back : c.as_slice-back.result.now ≡ bytes_at old.held ((k * first + k * count) - c.edge_len-behind.result) c.edge_len-behind.result = search rules in
     let cut : c.in_ok-before.before ≡ take c.args.cover.start c.as_slice.result.now = search rules in
     let cut' : c.in_ok-after.after ≡ drop (c.edge_len-behind.result - ((k * first + k * count) - k * first - e)) c.as_slice-back.result.now = c.in_ok-after.ensures ∙ rest_of _ c.as_slice-back.result.now in
-    let before : c.in_ok-before.before ≡ take c.args.cover.start (bytes_at old.now (k * first) (k * count)) =
+    let before : c.in_ok-before.before ≡ take c.args.cover.start (bytes_at old.held (k * first) (k * count)) =
     cut ∙ ap (take c.args.cover.start) front
-    ∙ before_at old.now (k * first) c.args.cover.start c.edge_len-ahead.result (k * count) c.edge_len-ahead.ensures.least (let less : c.args.cover.start ≤ k * count = omega (arith, covers) in less) in
-    let after : c.in_ok-after.after ≡ drop e (bytes_at old.now (k * first) (k * count)) =
+    ∙ before_at old.held (k * first) c.args.cover.start c.edge_len-ahead.result (k * count) c.edge_len-ahead.ensures.least (let less : c.args.cover.start ≤ k * count = omega (arith, covers) in less) in
+    let after : c.in_ok-after.after ≡ drop e (bytes_at old.held (k * first) (k * count)) =
     cut' ∙ ap (λ (n : ℕ). drop (c.edge_len-behind.result - n) c.as_slice-back.result.now) in_all ∙ ap (drop (c.edge_len-behind.result - rest)) back
-    ∙ after_at old.now (k * first) ((k * first + k * count) - c.edge_len-behind.result) e rest c.edge_len-behind.result enough ends
-    ∙ ap (λ (n : ℕ). drop e (bytes_at old.now (k * first) n)) whole in (
+    ∙ after_at old.held (k * first) ((k * first + k * count) - c.edge_len-behind.result) e rest c.edge_len-behind.result enough ends
+    ∙ ap (λ (n : ℕ). drop e (bytes_at old.held (k * first) n)) whole in (
       step.0,
       (
-        subst (λ (n : ℕ). c.in_ok-before.before ≡ take c.args.cover.start (bytes_at old.now (n * first) (n * count))) same before,
-        subst (λ (n : ℕ). c.in_ok-after.after ≡ drop e (bytes_at old.now (n * first) (n * count))) same after,
+        subst (λ (n : ℕ). c.in_ok-before.before ≡ take c.args.cover.start (bytes_at old.held (n * first) (n * count))) same before,
+        subst (λ (n : ℕ). c.in_ok-after.after ≡ drop e (bytes_at old.held (n * first) (n * count))) same after,
       ),
       λ e. cc,
     ))

@@ -5,29 +5,29 @@ use Rattle.oram_nbd.specs.Operations.{AreBegun, IsWhole, IsWithin, TouchSomeByte
 use Rattle.oram_nbd.specs.declared.operations.Operation.{Operation}
 use Rattle.oram_nbd.proofs.Beside.{weaker, at_rest as calls_none}
 use Rattle.oram_nbd.proofs.Edges.{are_edges, zeroing, zeroing_begun, zeroing_done, zeroing_touches, zeroing_whole, zeroing_within}
-use Rattle.oram_nbd.proofs.Keeping.{all_weaker, part_at_rest, part_weaker}
+use Rattle.oram_nbd.proofs.Saving.{all_weaker, part_at_rest, part_weaker}
 use Rattle.oram_nbd.proofs.Splices.{begun_none}
 use Rattle.oram_nbd.proofs.ranges.zero_between.Goals as goal
 
 pub returns-in_err-front-clause-goes : goal.returns-in_err-front-clause-goes
 returns-in_err-front-clause-goes g c =
     let p = err_from_is_err_and c.from_residual.result c.from_residual.ensures.1 in
-    rw p.1 (calls_none (λ may_lie world old h. (tt, begun_none old.now _ _, λ e. cc, part_at_rest)))
+    rw p.1 (calls_none (λ may_lie world old h. (tt, begun_none old.held _ _, λ e. cc, part_at_rest)))
 
 pub returns-in_err-back-clause-goes : goal.returns-in_err-back-clause-goes
 returns-in_err-back-clause-goes g c =
     let p = err_from_is_err_and c.from_residual-in_err-back.result c.from_residual-in_err-back.ensures.1 in
-    rw p.1 (calls_none (λ may_lie world old h. (tt, begun_none old.now _ _, λ e. cc, part_at_rest)))
+    rw p.1 (calls_none (λ may_lie world old h. (tt, begun_none old.held _ _, λ e. cc, part_at_rest)))
 
 pub returns-in_err-first-clause-goes : goal.returns-in_err-first-clause-goes
 returns-in_err-first-clause-goes g c =
     let p = err_from_is_err_and c.from_residual-in_err-first.result c.from_residual-in_err-first.ensures.1 in
-    rw p.1 (calls_none (λ may_lie world old h. (tt, begun_none old.now _ _, λ e. cc, part_at_rest)))
+    rw p.1 (calls_none (λ may_lie world old h. (tt, begun_none old.held _ _, λ e. cc, part_at_rest)))
 
 pub returns-in_err-last-clause-goes : goal.returns-in_err-last-clause-goes
 returns-in_err-last-clause-goes g c =
     let p = err_from_is_err_and c.from_residual-in_err-last.result c.from_residual-in_err-last.ensures.1 in
-    rw p.1 (calls_none (λ may_lie world old h. (tt, begun_none old.now _ _, λ e. cc, part_at_rest)))
+    rw p.1 (calls_none (λ may_lie world old h. (tt, begun_none old.held _ _, λ e. cc, part_at_rest)))
 
 pub overflow_sub-operations-2 : goal.overflow_sub-operations-2
 overflow_sub-operations-2 g c =
@@ -128,10 +128,10 @@ returns-in_err-carry_out-clause-goes g c =
     ap (λ (n : ℕ). zeroing n first count a z c.from_vec.result c.from_vec-2.result) same ∙ ap (λ (l : List ℕ). zeroing b first count a z l c.from_vec-2.result) is
     ∙ ap (λ (l : List ℕ). zeroing b first count a z x l) is' in
     rw p.1 (weaker c.in_err-carry_out.ensures.goes (λ may_lie world old new h step.
-    let within : b * first + b * count ≤ length old.now = subst (λ (n : ℕ). b * first + b * count ≤ n) (sym (c.blocks-blocks.ensures.held may_lie world old.now h.0)) c.requires.within in
-    let begun = λ (x : List ℕ) (is : AreBegun (zeroing c.from-block.result first count a z c.from_vec.result c.from_vec-2.result) old.now x).
-    zeroing_begun b first count before after c.args.len a z positive c.requires.some edges old.now within x (subst (λ (l : List Operation). AreBegun l old.now x) ops is) in
-    (tt, begun new.now step.0, λ e. step.1 cc, part_weaker step.2 begun)))
+    let within : b * first + b * count ≤ length old.held = subst (λ (n : ℕ). b * first + b * count ≤ n) (sym (c.blocks-blocks.ensures.held may_lie world old.held h.0)) c.requires.within in
+    let begun = λ (x : List ℕ) (is : AreBegun (zeroing c.from-block.result first count a z c.from_vec.result c.from_vec-2.result) old.held x).
+    zeroing_begun b first count before after c.args.len a z positive c.requires.some edges old.held within x (subst (λ (l : List Operation). AreBegun l old.held x) ops is) in
+    (tt, begun new.held step.0, λ e. step.1 cc, part_weaker step.2 begun)))
 
 pub returns-clause-goes : goal.returns-clause-goes
 returns-clause-goes g c =
@@ -159,8 +159,8 @@ returns-clause-goes g c =
     ap (λ (n : ℕ). zeroing n first count a z c.from_vec.result c.from_vec-2.result) same ∙ ap (λ (l : List ℕ). zeroing b first count a z l c.from_vec-2.result) is
     ∙ ap (λ (l : List ℕ). zeroing b first count a z x l) is' in
     weaker c.in_ok-carry_out.ensures.goes (λ may_lie world old new h step.
-    let within : b * first + b * count ≤ length old.now = subst (λ (n : ℕ). b * first + b * count ≤ n) (sym (c.blocks-blocks.ensures.held may_lie world old.now h.0)) c.requires.within in (
-      step.0.1 ∙ ap (λ (l : List Operation). all_done l old.now) ops ∙ zeroing_done b first count before after c.args.len a z positive c.requires.some edges old.now within,
+    let within : b * first + b * count ≤ length old.held = subst (λ (n : ℕ). b * first + b * count ≤ n) (sym (c.blocks-blocks.ensures.held may_lie world old.held h.0)) c.requires.within in (
+      step.0.1 ∙ ap (λ (l : List Operation). all_done l old.held) ops ∙ zeroing_done b first count before after c.args.len a z positive c.requires.some edges old.held within,
       tt,
       λ e. cc,
       all_weaker step.2 (λ some. subst TouchSomeByte (sym ops) (zeroing_touches b first count before after c.args.len a z positive c.requires.some edges)),

@@ -5,7 +5,7 @@ use Rattle.oram_nbd.specs.Operations.{IsWithin, ReadsWhole}
 use Rattle.oram_nbd.specs.Streams.{IsBegunText}
 use Rattle.oram_nbd.specs.declared.faults.NbdError.TheVariants.{Io, NoMemory}
 use Rattle.oram_nbd.specs.declared.operations.Operation.{Operation}
-use Rattle.oram_nbd.proofs.Gathered.{all_answered, all_begun, all_refused, all_whole, all_within, answered_requests, collected_as, many_given, refused_at_rest, refused_requests, text_answered, text_refused}
+use Rattle.oram_nbd.proofs.Gathered.{all_answered, all_begun, all_refused, all_whole, all_within, answered_requests, at_size, begun_at_size, collected_as, many_given, refused_at_rest, refused_requests, text_answered, text_refused}
 use Rattle.oram_nbd.proofs.Beside.{weaker}
 use Rattle.oram_nbd.proofs.transmission.carry_out_batch.Goals as goal
 
@@ -17,7 +17,7 @@ returns-then-not-is_any_accepted-clause-ok g c =
     let ops = c.args.batch.now.operations.items in
     on_ok_weaker c.put_refusals.result (λ wrote arrived collected. (
       refused_requests n arrived NoMemory,
-      refused_at_rest n c.args.disk.now arrived (λ may_lie world bytes h. c.blocks-blocks.ensures.held may_lie world bytes h ∙ sym c.requires.size) collected.all,
+      at_size c.requires.size (refused_at_rest n c.args.disk.now arrived (λ may_lie world bytes h. c.blocks-blocks.ensures.held may_lie world bytes h ∙ sym c.requires.size) collected.all),
       subst (Appends (g.W.Write.contents c.args.writer.now) (g.W.Write.contents c.put_refusals.new.writer)) (text_refused n arrived NoMemory reqs _ collected.same c.deref-then-not-is_any_accepted.ensures.value) wrote,
     )) c.put_refusals.ensures.ok
 
@@ -31,7 +31,7 @@ returns-then-not-is_any_accepted-clause-err g c =
       wrote.0,
       (
         refused_requests n arrived NoMemory,
-        refused_at_rest n c.args.disk.now arrived (λ may_lie world bytes h. c.blocks-blocks.ensures.held may_lie world bytes h ∙ sym c.requires.size) collected.all,
+        at_size c.requires.size (refused_at_rest n c.args.disk.now arrived (λ may_lie world bytes h. c.blocks-blocks.ensures.held may_lie world bytes h ∙ sym c.requires.size) collected.all),
         subst (IsBegunText (g.W.Write.contents c.args.writer.now) (g.W.Write.contents c.put_refusals.new.writer)) (text_refused n arrived NoMemory reqs _ collected.same c.deref-then-not-is_any_accepted.ensures.value) wrote.1,
       ),
     ))
@@ -62,8 +62,8 @@ returns-in-Ok-clause-ok g c =
     let ops = c.args.batch.now.operations.items in
     on_ok_weaker c.put_answers.result (λ wrote arrived collected. (
       answered_requests b n arrived c.in-Ok.given.items,
-      all_answered b n c.args.disk.now c.carry_out_all.new.disk arrived (λ may_lie world bytes h. c.blocks-blocks.ensures.held may_lie world bytes h ∙ sym c.requires.size) reqs c.deref-2.result.now
-          c.in-Ok.given.items (collected_as b n arrived reqs ops _ c.deref-2.ensures.value collected) c.in-Ok.ensures.len c.in-Ok.ensures.refused (weaker c.in-Ok.ensures.goes (λ may_lie world old new h step. (step.0.0, step.0.1, step.2))),
+      at_size c.requires.size (all_answered b n c.args.disk.now c.carry_out_all.new.disk arrived (λ may_lie world bytes h. c.blocks-blocks.ensures.held may_lie world bytes h ∙ sym c.requires.size) reqs c.deref-2.result.now
+          c.in-Ok.given.items (collected_as b n arrived reqs ops _ c.deref-2.ensures.value collected) c.in-Ok.ensures.len c.in-Ok.ensures.refused (weaker c.in-Ok.ensures.goes (λ may_lie world old new h step. (step.0.0, step.0.1, step.2)))),
       subst (Appends (g.W.Write.contents c.args.writer.now) (g.W.Write.contents c.put_answers.new.writer)) (text_answered b n arrived reqs _ c.in-Ok.given.items _ collected.same c.deref-in-Ok.ensures.value c.deref-in-Ok-2.ensures.value) wrote,
     )) c.put_answers.ensures.ok
 
@@ -77,8 +77,8 @@ returns-in-Ok-clause-err g c =
       wrote.0,
       (
         answered_requests b n arrived c.in-Ok.given.items,
-        all_answered b n c.args.disk.now c.carry_out_all.new.disk arrived (λ may_lie world bytes h. c.blocks-blocks.ensures.held may_lie world bytes h ∙ sym c.requires.size) reqs c.deref-2.result.now
-            c.in-Ok.given.items (collected_as b n arrived reqs ops _ c.deref-2.ensures.value collected) c.in-Ok.ensures.len c.in-Ok.ensures.refused (weaker c.in-Ok.ensures.goes (λ may_lie world old new h step. (step.0.0, step.0.1, step.2))),
+        at_size c.requires.size (all_answered b n c.args.disk.now c.carry_out_all.new.disk arrived (λ may_lie world bytes h. c.blocks-blocks.ensures.held may_lie world bytes h ∙ sym c.requires.size) reqs c.deref-2.result.now
+            c.in-Ok.given.items (collected_as b n arrived reqs ops _ c.deref-2.ensures.value collected) c.in-Ok.ensures.len c.in-Ok.ensures.refused (weaker c.in-Ok.ensures.goes (λ may_lie world old new h step. (step.0.0, step.0.1, step.2)))),
         subst (IsBegunText (g.W.Write.contents c.args.writer.now) (g.W.Write.contents c.put_answers.new.writer)) (text_answered b n arrived reqs _ c.in-Ok.given.items _ collected.same c.deref-in-Ok.ensures.value c.deref-in-Ok-2.ensures.value) wrote.1,
       ),
     ))
@@ -92,8 +92,8 @@ returns-in-Err-Failed-clause-ok g c =
     let ops = c.args.batch.now.operations.items in
     on_ok_weaker c.put_refusals-in-Err-Failed.result (λ wrote arrived collected. (
       refused_requests n arrived Io,
-      all_refused b n c.args.disk.now c.carry_out_all.new.disk arrived (λ may_lie world bytes h. c.blocks-blocks.ensures.held may_lie world bytes h ∙ sym c.requires.size) reqs c.deref-2.result.now
-          Io (collected_as b n arrived reqs ops _ c.deref-2.ensures.value collected) (inl refl) (λ io. c.in-Err-Failed.ensures.call.has_failed cc) some.0 some.1 some.2 (sym c.deref.ensures.value ∙ some.3) some.4 (weaker c.in-Err-Failed.ensures.goes (λ may_lie world old new h step. ((step.0, step.2), λ io. step.1 cc))),
+      at_size c.requires.size (all_refused b n c.args.disk.now c.carry_out_all.new.disk arrived (λ may_lie world bytes h. c.blocks-blocks.ensures.held may_lie world bytes h ∙ sym c.requires.size) reqs c.deref-2.result.now
+          Io (collected_as b n arrived reqs ops _ c.deref-2.ensures.value collected) (inl refl) (λ io. c.in-Err-Failed.ensures.call.has_failed cc) some.0 some.1 some.2 (sym c.deref.ensures.value ∙ some.3) some.4 (weaker c.in-Err-Failed.ensures.goes (λ may_lie world old new h step. ((step.0, step.2), λ io. step.1 cc)))),
       subst (Appends (g.W.Write.contents c.args.writer.now) (g.W.Write.contents c.put_refusals-in-Err-Failed.new.writer)) (text_refused n arrived Io reqs _ collected.same c.deref-in-Err-Failed.ensures.value) wrote,
     )) c.put_refusals-in-Err-Failed.ensures.ok
 
@@ -108,8 +108,8 @@ returns-in-Err-Failed-clause-err g c =
       wrote.0,
       (
         refused_requests n arrived Io,
-        all_refused b n c.args.disk.now c.carry_out_all.new.disk arrived (λ may_lie world bytes h. c.blocks-blocks.ensures.held may_lie world bytes h ∙ sym c.requires.size) reqs c.deref-2.result.now
-            Io (collected_as b n arrived reqs ops _ c.deref-2.ensures.value collected) (inl refl) (λ io. c.in-Err-Failed.ensures.call.has_failed cc) some.0 some.1 some.2 (sym c.deref.ensures.value ∙ some.3) some.4 (weaker c.in-Err-Failed.ensures.goes (λ may_lie world old new h step. ((step.0, step.2), λ io. step.1 cc))),
+        at_size c.requires.size (all_refused b n c.args.disk.now c.carry_out_all.new.disk arrived (λ may_lie world bytes h. c.blocks-blocks.ensures.held may_lie world bytes h ∙ sym c.requires.size) reqs c.deref-2.result.now
+            Io (collected_as b n arrived reqs ops _ c.deref-2.ensures.value collected) (inl refl) (λ io. c.in-Err-Failed.ensures.call.has_failed cc) some.0 some.1 some.2 (sym c.deref.ensures.value ∙ some.3) some.4 (weaker c.in-Err-Failed.ensures.goes (λ may_lie world old new h step. ((step.0, step.2), λ io. step.1 cc)))),
         subst (IsBegunText (g.W.Write.contents c.args.writer.now) (g.W.Write.contents c.put_refusals-in-Err-Failed.new.writer)) (text_refused n arrived Io reqs _ collected.same c.deref-in-Err-Failed.ensures.value) wrote.1,
       ),
     ))
@@ -123,8 +123,8 @@ returns-in-Err-OutOfMemory-clause-ok g c =
     let ops = c.args.batch.now.operations.items in
     on_ok_weaker c.put_refusals-in-Err-OutOfMemory.result (λ wrote arrived collected. (
       refused_requests n arrived NoMemory,
-      all_refused b n c.args.disk.now c.carry_out_all.new.disk arrived (λ may_lie world bytes h. c.blocks-blocks.ensures.held may_lie world bytes h ∙ sym c.requires.size) reqs c.deref-2.result.now
-          NoMemory (collected_as b n arrived reqs ops _ c.deref-2.ensures.value collected) (inr refl) (λ io. absurd cc) some.0 some.1 some.2 (sym c.deref.ensures.value ∙ some.3) some.4 (weaker c.in-Err-OutOfMemory.ensures.goes (λ may_lie world old new h step. ((step.0, step.2), λ io. cc))),
+      at_size c.requires.size (all_refused b n c.args.disk.now c.carry_out_all.new.disk arrived (λ may_lie world bytes h. c.blocks-blocks.ensures.held may_lie world bytes h ∙ sym c.requires.size) reqs c.deref-2.result.now
+          NoMemory (collected_as b n arrived reqs ops _ c.deref-2.ensures.value collected) (inr refl) (λ io. absurd cc) some.0 some.1 some.2 (sym c.deref.ensures.value ∙ some.3) some.4 (weaker c.in-Err-OutOfMemory.ensures.goes (λ may_lie world old new h step. ((step.0, step.2), λ io. cc)))),
       subst (Appends (g.W.Write.contents c.args.writer.now) (g.W.Write.contents c.put_refusals-in-Err-OutOfMemory.new.writer)) (text_refused n arrived NoMemory reqs _ collected.same c.deref-in-Err-OutOfMemory.ensures.value) wrote,
     )) c.put_refusals-in-Err-OutOfMemory.ensures.ok
 
@@ -139,8 +139,8 @@ returns-in-Err-OutOfMemory-clause-err g c =
       wrote.0,
       (
         refused_requests n arrived NoMemory,
-        all_refused b n c.args.disk.now c.carry_out_all.new.disk arrived (λ may_lie world bytes h. c.blocks-blocks.ensures.held may_lie world bytes h ∙ sym c.requires.size) reqs c.deref-2.result.now
-            NoMemory (collected_as b n arrived reqs ops _ c.deref-2.ensures.value collected) (inr refl) (λ io. absurd cc) some.0 some.1 some.2 (sym c.deref.ensures.value ∙ some.3) some.4 (weaker c.in-Err-OutOfMemory.ensures.goes (λ may_lie world old new h step. ((step.0, step.2), λ io. cc))),
+        at_size c.requires.size (all_refused b n c.args.disk.now c.carry_out_all.new.disk arrived (λ may_lie world bytes h. c.blocks-blocks.ensures.held may_lie world bytes h ∙ sym c.requires.size) reqs c.deref-2.result.now
+            NoMemory (collected_as b n arrived reqs ops _ c.deref-2.ensures.value collected) (inr refl) (λ io. absurd cc) some.0 some.1 some.2 (sym c.deref.ensures.value ∙ some.3) some.4 (weaker c.in-Err-OutOfMemory.ensures.goes (λ may_lie world old new h step. ((step.0, step.2), λ io. cc)))),
         subst (IsBegunText (g.W.Write.contents c.args.writer.now) (g.W.Write.contents c.put_refusals-in-Err-OutOfMemory.new.writer)) (text_refused n arrived NoMemory reqs _ collected.same c.deref-in-Err-OutOfMemory.ensures.value) wrote.1,
       ),
     ))
@@ -155,8 +155,8 @@ returns-in-Err-Stopped-clause-err g c = λ arrived collected.
     inr (
       refl,
       (
-        all_begun b n c.args.disk.now c.carry_out_all.new.disk arrived (λ may_lie world bytes h. c.blocks-blocks.ensures.held may_lie world bytes h ∙ sym c.requires.size) reqs c.deref-2.result.now
-            (collected_as b n arrived reqs ops _ c.deref-2.ensures.value collected) some.0 some.1 some.2 (sym c.deref.ensures.value ∙ some.3) some.4 (weaker c.in-Err-Stopped.ensures.goes (λ may_lie world old new h step. (step.0, step.2))),
+        begun_at_size c.requires.size (all_begun b n c.args.disk.now c.carry_out_all.new.disk arrived (λ may_lie world bytes h. c.blocks-blocks.ensures.held may_lie world bytes h ∙ sym c.requires.size) reqs c.deref-2.result.now
+            (collected_as b n arrived reqs ops _ c.deref-2.ensures.value collected) some.0 some.1 some.2 (sym c.deref.ensures.value ∙ some.3) some.4 (weaker c.in-Err-Stopped.ensures.goes (λ may_lie world old new h step. (step.0, step.2)))),
         refl,
       ),
     )

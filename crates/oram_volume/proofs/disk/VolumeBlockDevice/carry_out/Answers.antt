@@ -2,7 +2,7 @@ use Rattle.std.proofs.Common.{◌≡◌, ◌<◌, ◌*◌, List, ℕ, sym, ◌�
 use Rattle.std.proofs.lemmas.Result.{err_from_is_err_and}
 use Rattle.oram_nbd.specs.Operations.{AreBegun, all_done}
 use Rattle.oram_nbd.proofs.Beside.{at_rest as calls_none}
-use Rattle.oram_nbd.proofs.Keeping.{part_after_all, part_at_rest}
+use Rattle.oram_nbd.proofs.Saving.{part_after_all, part_at_rest}
 use Rattle.oram_nbd.proofs.ListSteps.{begun_nothing}
 use Rattle.oram_volume.specs.Blocks.{IsLaidOut}
 use Rattle.oram_volume.specs.HeldArrays.{HoldsBytes, running}
@@ -13,9 +13,9 @@ use Rattle.oram_volume.proofs.disk.VolumeBlockDevice.carry_out.Goals as goal
 
 pub returns-then-has_failed-clause-goes : goal.returns-then-has_failed-clause-goes
 returns-then-has_failed-clause-goes g c = calls_none (λ may_lie world old h. (
-  begun_nothing c.args.operations.now old.now,
-  λ e. by_lies (λ b. HoldsBytes b (running g.S.Sealer.cipher g.T.Tape.words c.args.self.now) world old.now) may_lie h.0
-      (λ honest. c.has_failed.ensures.sound world old.now honest (c.has_failed.ensures.value.0 c.if-has_failed.true)),
+  begun_nothing c.args.operations.now old.held,
+  λ e. by_lies (λ b. HoldsBytes b (running g.S.Sealer.cipher g.T.Tape.words c.args.self.now) world old.held) may_lie h.0
+      (λ honest. c.has_failed.ensures.sound world old.held honest (c.has_failed.ensures.value.0 c.if-has_failed.true)),
   part_at_rest,
 ))
 
@@ -27,10 +27,10 @@ returns-in_err-found-clause-goes g c =
     let some : 0 < d.block_bytes = omega (arith, c.blocks_in_all-blocks.ensures.block.0) in
     rw p.1 (as_bytes g.S.Sealer.cipher g.T.Tape.words g.B.BatchLink.batches g.K.Keeper.reads_back c.args.self.now c.carry_out_rounds.new.self c.in_err-found.ensures.kept c.in_err-found.ensures.goes
     (λ may_lie from to bytes laid step.
-    let h = laid_front d some ops c.requires.whole c.requires.within step.0.0 step.0.1 step.0.2 from.now to.now bytes.now laid.now step.0.3 in
+    let h = laid_front d some ops c.requires.whole c.requires.within step.0.0 step.0.1 step.0.2 from.held to.held bytes.held laid.held step.0.3 in
     let k = laid_part d from to bytes laid (AreBegun ops) step.2
-    (λ part is. laid_front d some ops c.requires.whole c.requires.within is.0 is.1 is.2 from.now part bytes.now laid.now is.3) h.0 h.2 in
-    (k.0, (subst (AreBegun ops bytes.now) (sym k.1) h.1, λ e. step.1 cc, k.3), k.2)))
+    (λ part is. laid_front d some ops c.requires.whole c.requires.within is.0 is.1 is.2 from.held part bytes.held laid.held is.3) h.0 h.2 in
+    (k.0, (subst (AreBegun ops bytes.held) (sym k.1) h.1, λ e. step.1 cc, k.3), k.2)))
 
 pub returns-in_err-given-clause-goes : goal.returns-in_err-given-clause-goes
 returns-in_err-given-clause-goes g c =
@@ -40,9 +40,9 @@ returns-in_err-given-clause-goes g c =
     let some : 0 < d.block_bytes = omega (arith, c.blocks_in_all-blocks.ensures.block.0) in
     rw p.1 (as_bytes g.S.Sealer.cipher g.T.Tape.words g.B.BatchLink.batches g.K.Keeper.reads_back c.args.self.now c.carry_out_rounds.new.self c.in_ok-found.ensures.kept c.in_ok-found.ensures.goes
     (λ may_lie from to bytes laid step.
-    let there = subst (λ a. IsLaidOut d a (all_done ops bytes.now)) (sym step.0.1) (laid_done d some ops c.requires.whole c.requires.within from.now bytes.now laid.now) in
-    let k = laid_all d from to bytes laid {touched' = ⊥} step.2 (all_done ops bytes.now) there (λ none. absurd none) in
-    let begun : AreBegun ops bytes.now k.0.now = subst (AreBegun ops bytes.now) (sym k.1) (begun_all_of ops bytes.now) in
+    let there = subst (λ a. IsLaidOut d a (all_done ops bytes.held)) (sym step.0.1) (laid_done d some ops c.requires.whole c.requires.within from.held bytes.held laid.held) in
+    let k = laid_all d from to bytes laid {touched' = ⊥} step.2 (all_done ops bytes.held) there (λ none. absurd none) in
+    let begun : AreBegun ops bytes.held k.0.held = subst (AreBegun ops bytes.held) (sym k.1) (begun_all_of ops bytes.held) in
     (k.0, (begun, λ e. cc (c.in_err-given.ensures.err), part_after_all k.3 begun), k.2)))
 
 pub returns-clause-goes : goal.returns-clause-goes
@@ -52,13 +52,13 @@ returns-clause-goes g c =
     let some : 0 < d.block_bytes = omega (arith, c.blocks_in_all-blocks.ensures.block.0) in
     as_bytes g.S.Sealer.cipher g.T.Tape.words g.B.BatchLink.batches g.K.Keeper.reads_back c.args.self.now c.carry_out_rounds.new.self c.in_ok-found.ensures.kept c.in_ok-found.ensures.goes
     (λ may_lie from to bytes laid step.
-    let there = subst (λ a. IsLaidOut d a (all_done ops bytes.now)) (sym step.0.1) (laid_done d some ops c.requires.whole c.requires.within from.now bytes.now laid.now) in
-    let k = laid_all d from to bytes laid step.2 (all_done ops bytes.now) there (λ touched none. touched_have_commands d.block_bytes some ops c.requires.whole touched none) in (
+    let there = subst (λ a. IsLaidOut d a (all_done ops bytes.held)) (sym step.0.1) (laid_done d some ops c.requires.whole c.requires.within from.held bytes.held laid.held) in
+    let k = laid_all d from to bytes laid step.2 (all_done ops bytes.held) there (λ touched none. touched_have_commands d.block_bytes some ops c.requires.whole touched none) in (
       k.0,
       (
         (
-          given_are (d.block_bytes * d.blocks) ops bytes.now c.in_ok-found.found.items c.in_ok-given.given.items (length_laid d from.now bytes.now laid.now) c.requires.within c.in_ok-given.ensures.len
-              (c.in_ok-given.ensures.all ∙ c.deref.ensures.value) (step.0.0 ∙ laid_data d some ops c.requires.whole c.requires.within from.now bytes.now laid.now),
+          given_are (d.block_bytes * d.blocks) ops bytes.held c.in_ok-found.found.items c.in_ok-given.given.items (length_laid d from.held bytes.held laid.held) c.requires.within c.in_ok-given.ensures.len
+              (c.in_ok-given.ensures.all ∙ c.deref.ensures.value) (step.0.0 ∙ laid_data d some ops c.requires.whole c.requires.within from.held bytes.held laid.held),
           k.1,
         ),
         λ e. cc,

@@ -3,7 +3,7 @@ use Rattle.std.proofs.lemmas.Result.{err_from_is_err_and}
 use Rattle.oram_semantics.specs.Run.{is_accepted}
 use Rattle.oram_semantics.specs.declared.events.Reason.{Reason}
 use Rattle.oram_nbd.proofs.Beside.{told_after, weaker}
-use Rattle.oram_nbd.proofs.Keeping.{part_weaker}
+use Rattle.oram_nbd.proofs.Saving.{part_weaker}
 use Rattle.oram_core.specs.Core.{scheme_of}
 use Rattle.oram_rounds.specs.Process.{process}
 use Rattle.oram_rounds.specs.Process.Act.{Keeps}
@@ -22,17 +22,17 @@ pub returns-in_err-resume-clause-goes : goal.returns-in_err-resume-clause-goes
 returns-in_err-resume-clause-goes g c =
     let p = err_from_is_err_and c.from_residual.result c.from_residual.ensures.1 in
     rw p.1 (weaker c.in_err-resume.ensures.goes (λ may_lie world old new h same.
-    let none = first_none c.args.self.now.core.device c.args.commands.items old.now in
-    (none new.now same.0, λ e. absurd (c.in_err-resume.ensures.fault cc), part_weaker same.1 none)))
+    let none = first_none c.args.self.now.core.device c.args.commands.items old.held in
+    (none new.held same.0, λ e. absurd (c.in_err-resume.ensures.fault cc), part_weaker same.1 none)))
 
 pub returns-then-is_some-clause-goes : goal.returns-then-is_some-clause-goes
 returns-then-is_some-clause-goes g c =
     let some : is_some c.resume.new.self.core.state.failure ≡ true = ap is_some (sym c.failure.ensures) ∙ sym c.is_some.ensures ∙ c.if-is_some.true in
     told_after c.resume.ensures.goes (λ may_lie world old new h same.
-    let none = first_none c.args.self.now.core.device c.args.commands.items old.now in (
-      none new.now same.0,
+    let none = first_none c.args.self.now.core.device c.args.commands.items old.held in (
+      none new.held same.0,
       λ e. lies_if may_lie (λ honest.
-          let lives = alive _ world new.now (subst (λ (b : Bool). HoldsArray b (running g.S.Sealer.cipher g.T.Tape.words c.resume.new.self) world new.now) honest h.0) in
+          let lives = alive _ world new.held (subst (λ (b : Bool). HoldsArray b (running g.S.Sealer.cipher g.T.Tape.words c.resume.new.self) world new.held) honest h.0) in
           let no : is_some c.resume.new.self.core.state.failure ≡ false = ap is_some lives in absurd (let both : true ≡ false = sym some ∙ no in cc)),
       part_weaker same.1 none,
     ))
@@ -117,7 +117,7 @@ returns-in-Ok-3-clause-goes g c =
     c.resume.ensures.goes c.args.commands.items c.requires c.submit_all.new.core c.submit_all.new.tape c.submit_all.ensures.kept c.submit_all.ensures.tape
     c.perform-performed.new.core c.perform-performed.new.link c.perform-performed.new.keeper c.perform-performed.ensures.kept (Keeps true ∷ k.0) k.2 c.in_ok-begun.field-0.notes.items c.in_ok-begun.ensures.ok
     c.in_ok-resume.ensures.no_work lives c.in-Ok.replies.items k.1 c.in-Ok.ensures.count k.0 refl none (omega (arith, size, enough)) c.in_ok-begun.ensures.count)
-    (λ may_lie world old new h step. ((step.0, step.1), λ e. cc, record { kept = inl step.2 }))
+    (λ may_lie world old new h step. ((step.0, step.1), λ e. cc, record { either = inl step.2 }))
 
 pub returns-in-Err-clause-goes : goal.returns-in-Err-clause-goes
 returns-in-Err-clause-goes g c =

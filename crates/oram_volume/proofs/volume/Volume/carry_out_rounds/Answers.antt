@@ -7,7 +7,7 @@ use Rattle.std.specs.List.{flat_map}
 use Rattle.oram_geometry.specs.declared.Sizes.{Sizes}
 use Rattle.oram_nbd.specs.Operations.{IsWhole, len_of, place_of}
 use Rattle.oram_nbd.proofs.Beside.{at_rest as calls_none, joined_calls, weaker}
-use Rattle.oram_nbd.proofs.Keeping.{all_at_rest, all_joined, all_weaker, part_after_all, part_behind}
+use Rattle.oram_nbd.proofs.Saving.{all_at_rest, all_joined, all_weaker, part_after_all, part_behind}
 use Rattle.oram_semantics.specs.declared.events.Command.{Command}
 use Rattle.oram_semantics.specs.declared.events.Reply.{Reply}
 use Rattle.oram_session.proofs.CoreSteps.{same_trans}
@@ -102,7 +102,7 @@ returns-then-is_empty-clause-goes g c =
     let all : inv.done ≡ all_commands b ops =
     sym (split ∙ ap (λ (l : List Command). inv.done ++ (l ++ rest)) none ∙ ap (λ (l : List Command). inv.done ++ l) end ∙ append-nil inv.done) in
     weaker inv.so_far (λ may_lie world old new h step. (
-      (step.0 ∙ ap (λ (cs : List Command). flat_map data_of (bodies_from d cs old.now)) all, step.1 ∙ ap (λ (cs : List Command). after_commands d cs old.now) all),
+      (step.0 ∙ ap (λ (cs : List Command). flat_map data_of (bodies_from d cs old.held)) all, step.1 ∙ ap (λ (cs : List Command). after_commands d cs old.held) all),
       λ e. cc,
       all_weaker step.2 (λ more none'. more (sym all ∙ none')),
     ))
@@ -122,8 +122,8 @@ returns-in_err-replies-clause-goes g c =
     c.in_ok-commands.ensures.next in
     let split : all_commands b ops ≡ inv.done ++ (commands ++ rest) = inv.split ∙ ap (λ (l : List Command). inv.done ++ l) next in
     rw p.1 (joined_calls inv.so_far c.in_err-replies.ensures.goes (λ may_lie world old mid new h first second.
-    let front = λ (x : ℕ → List ℕ) (is : IsAfterFirst c.loop-round_number.self.core.device commands mid.now x). behind_first d _ inv.kept.0 (all_commands b ops) inv.done commands rest split old.now mid.now x first.1 is in
-    (front new.now second.0, λ e. second.1 cc, part_behind first.2 (inv.done, commands ++ rest, split, first.1) second.2 front)))
+    let front = λ (x : ℕ → List ℕ) (is : IsAfterFirst c.loop-round_number.self.core.device commands mid.held x). behind_first d _ inv.kept.0 (all_commands b ops) inv.done commands rest split old.held mid.held x first.1 is in
+    (front new.held second.0, λ e. second.1 cc, part_behind first.2 (inv.done, commands ++ rest, split, first.1) second.2 front)))
 
 pub returns-in_err-append_data-clause-goes : goal.returns-in_err-append_data-clause-goes
 returns-in_err-append_data-clause-goes g c =
@@ -140,11 +140,11 @@ returns-in_err-append_data-clause-goes g c =
     c.in_ok-commands.ensures.next in
     let split : all_commands b ops ≡ inv.done ++ (commands ++ rest) = inv.split ∙ ap (λ (l : List Command). inv.done ++ l) next in
     rw p.1 (joined_calls inv.so_far c.in_ok-replies.ensures.goes (λ may_lie world old mid new h first second.
-    let begun : IsAfterFirst d (all_commands b ops) old.now new.now = (
+    let begun : IsAfterFirst d (all_commands b ops) old.held new.held = (
       inv.done ++ commands,
       rest,
       split ∙ sym (append_assoc inv.done commands rest),
-      second.0.1 ∙ on_device d _ inv.kept.0 commands mid.now ∙ ap (after_commands d commands) first.1 ∙ sym (after_append d inv.done commands old.now),
+      second.0.1 ∙ on_device d _ inv.kept.0 commands mid.held ∙ ap (after_commands d commands) first.1 ∙ sym (after_append d inv.done commands old.held),
     ) in
     (begun, λ e. cc, part_after_all (all_joined {both = ⊥} first.2 second.2 (λ none. absurd none)) begun)))
 
@@ -172,10 +172,10 @@ loop-round_number-preserved g c =
       split = split ∙ sym (append_assoc inv.done commands rest);
       so_far = joined_calls inv.so_far c.in_ok-replies.ensures.goes (λ may_lie world old mid new h first second. (
         added ∙ ap (λ (l : List ℕ). l ++ flat_map (λ (r : Reply). data_of r.body) replies) first.0
-            ∙ ap (λ (l : List ℕ). flat_map data_of (bodies_from d inv.done old.now) ++ l)
-            (of_bodies replies ∙ ap (λ bs. flat_map data_of bs) (second.0.0 ∙ bodies_on_device d _ inv.kept.0 commands mid.now ∙ ap (bodies_from d commands) first.1))
-            ∙ sym (data_append d inv.done commands old.now),
-        second.0.1 ∙ on_device d _ inv.kept.0 commands mid.now ∙ ap (after_commands d commands) first.1 ∙ sym (after_append d inv.done commands old.now),
+            ∙ ap (λ (l : List ℕ). flat_map data_of (bodies_from d inv.done old.held) ++ l)
+            (of_bodies replies ∙ ap (λ bs. flat_map data_of bs) (second.0.0 ∙ bodies_on_device d _ inv.kept.0 commands mid.held ∙ ap (bodies_from d commands) first.1))
+            ∙ sym (data_append d inv.done commands old.held),
+        second.0.1 ∙ on_device d _ inv.kept.0 commands mid.held ∙ ap (after_commands d commands) first.1 ∙ sym (after_append d inv.done commands old.held),
         all_joined first.2 second.2 (λ more. inr (λ none. omega (arith, some, ap length none))),
       ));
     }

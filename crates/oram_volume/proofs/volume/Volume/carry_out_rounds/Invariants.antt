@@ -1,8 +1,8 @@
 use Rattle.std.proofs.Common.{◌≡◌, ◌≢◌, ◌++◌, List, []}
 use Rattle.std.specs.List.{flat_map}
 use Rattle.oram_core.specs.Core.{IsSameDevice}
-use Rattle.oram_nbd.specs.Beside.{GoesOn, IsHeld}
-use Rattle.oram_nbd.specs.Calls.{KeepsAll}
+use Rattle.oram_nbd.specs.Beside.{GoesOn, HasArrays}
+use Rattle.oram_nbd.specs.Calls.{SavesAll}
 use Rattle.oram_semantics.specs.declared.events.Command.{Command}
 use Rattle.oram_session.specs.Honesty.{HasFailed}
 use Rattle.oram_volume.specs.CarriedOut.{Had, after_commands, bodies_from}
@@ -17,7 +17,7 @@ invariant-loop-round_number g l = record {
   still : HasFailed l.fn.self.core.state → HasFailed l.self.core.state;
   done : List Command;
   split : all_commands l.fn.self.core.device.block_bytes l.operations ≡ done ++ rest_of l.fn.self.core.device.block_bytes l.operations l.cursor.operation l.cursor.block;
-  so_far : GoesOn (Had g.B.BatchLink.batches g.K.Keeper.reads_back) HostHears (IsHeld HoldsArray (KeepsArray g.K.Keeper.reads_back)) (running g.S.Sealer.cipher g.T.Tape.words l.fn.self)
-      (λ may_lie old new. (l.found.items ≡ flat_map data_of (bodies_from l.fn.self.core.device done old.now)) × (new.now ≡ after_commands l.fn.self.core.device done old.now) × KeepsAll (done ≢ []) old new)
+  so_far : GoesOn (Had g.B.BatchLink.batches g.K.Keeper.reads_back) HostHears (HasArrays HoldsArray (KeepsArray g.K.Keeper.reads_back)) (running g.S.Sealer.cipher g.T.Tape.words l.fn.self)
+      (λ may_lie old new. (l.found.items ≡ flat_map data_of (bodies_from l.fn.self.core.device done old.held)) × (new.held ≡ after_commands l.fn.self.core.device done old.held) × SavesAll (done ≢ []) old new)
       (running g.S.Sealer.cipher g.T.Tape.words l.self);
 }

@@ -2,8 +2,8 @@ use Rattle.std.proofs.Common.{◌≡◌, [], ◌∷◌, ◌++◌, false, refl, s
 use Rattle.oram_semantics.specs.Scheme.{Scheme}
 use Rattle.oram_core.specs.Core.{scheme_of}
 use Rattle.oram_session.proofs.CoreSteps.{same_scheme}
-use Rattle.oram_nbd.specs.Beside.{GoesOn, IsHeld}
-use Rattle.oram_nbd.specs.Calls.{KeepsPart}
+use Rattle.oram_nbd.specs.Beside.{GoesOn, HasArrays}
+use Rattle.oram_nbd.specs.Calls.{SavesPart}
 use Rattle.oram_rounds.specs.Process.{process}
 use Rattle.oram_rounds.specs.Process.Act.{Keeps}
 use Rattle.oram_nbd.specs.declared.faults.DiskFault.TheVariants.{Stopped}
@@ -23,8 +23,8 @@ returns-clause-goes g c =
     let v = scheme_of g.S.Sealer.cipher old.core in
     let p = process old.core.state old.link old.keeper in
     let q = process c.resume.new.core.state c.resume.new.link c.resume.new.keeper in
-    subst (λ (u : Scheme). GoesOn (Had batches back) HostHears (IsHeld HoldsArray (KeepsArray back)) (running g.S.Sealer.cipher g.T.Tape.words old)
-    (λ _ from to. (to.now ≡ from.now) × KeepsPart (λ array part. part ≡ array) from to) (record { scheme = u; words = words; process = q }))
+    subst (λ (u : Scheme). GoesOn (Had batches back) HostHears (HasArrays HoldsArray (KeepsArray back)) (running g.S.Sealer.cipher g.T.Tape.words old)
+    (λ _ from to. (to.held ≡ from.held) × SavesPart (λ array part. part ≡ array) from to) (record { scheme = u; words = words; process = q }))
     (sym (same_scheme g.S.Sealer.cipher old.core c.resume.new.core c.resume.ensures.kept))
     (elim c.match-resume.branch [
       | in-Ok w ↦ let k = w.in-Ok.ensures.ok in acts_go_on batches back g.met.B.BatchLink.are_batches v words k.0 p q k.2 (resumed_keeps batches back v k.0 p q k.3 k.2)
