@@ -18,14 +18,14 @@ module _ {D W E A : Type 0} (had : D → List E → D → Type 0) (hears : Bool 
     pub leads : (may_lie : Bool) (world later : W) → GoesThrough may_lie world calls later → (array : A) → holds may_lie old world array
         → (next : A) × step may_lie array next × holds may_lie new later next
 
--- The arrays of a device beside a world: the one that it holds, and perhaps one that is saved. Then the next process would hold the
--- saved one or the one that is held now. If none is saved, nothing is known of the next process.
+-- The arrays of a device beside a world: the one that it holds, and perhaps one that is saved. Then the next process would hold
+-- the saved one or the one that is held now. If none is saved, nothing is known of the next process.
 pub record Arrays (A : Type 0) : Type 0 where
   pub held : A
   pub saved : Option A
 
--- The device has these arrays. `holds` gives those that it may hold in a world. `kept` relates two arrays there: the device holds the
--- second one, and the next process would hold the first or the second.
+-- The device has these arrays. `holds` gives those that it may hold in a world. `kept` relates two arrays there: the device
+-- holds the second one, and the next process would hold the first or the second.
 abbrev pub HasArrays : {D W A : Type 0} → (Bool → D → W → A → Type 0) → (Bool → D → W → A → A → Type 0) → Bool → D → W → Arrays A → Type 0
 HasArrays holds kept may_lie d w h = holds may_lie d w h.held × IfSome h.saved (λ array. kept may_lie d w array h.held)
 

@@ -9,13 +9,13 @@ use Rattle.oram_nbd.specs.declared.faults.DiskFault.TheVariants.{Failed, Stopped
 abbrev pub FailsByLies : {T : Type 0} → Result T DiskFault → Bool → Type 0
 FailsByLies result may_lie = IsErrOf result Failed → may_lie ≡ true
 
--- What is kept of a call that has done all that it was asked for: the next process would hold what the device holds now. Or the call
--- touched nothing, and left all as it was.
+-- What is kept of a call that has done all that it was asked for: the next process would hold what the device holds now. Or the
+-- call touched nothing, and left all as it was.
 pub record SavesAll {A : Type 0} (touched : Type 0) (old new : Arrays A) : Type 0 where
   pub either : (new.saved ≡ Some new.held) ⊎ ((touched → ⊥) × (new ≡ old))
 
--- What is kept of a call that has failed: what was saved before, or else one of the arrays that `begun` gives, those that a beginning of
--- the call leaves.
+-- What is kept of a call that has failed: what was saved before, or else one of the arrays that `begun` gives, those that a
+-- beginning of the call leaves.
 pub record SavesPart {A : Type 0} (begun : A → A → Type 0) (old new : Arrays A) : Type 0 where
   pub either : (new.saved ≡ old.saved) ⊎ ((part : A) × begun old.held part × (new.saved ≡ Some part))
 

@@ -51,17 +51,17 @@ pub record HasExchanged (answered : List AnsweredRequest) (part more : List ℕ)
 
 -- For a device of this kind and of `size` bytes, which goes from one state to another beside a world.
 module _ {D W E : Type 0} (kind : DeviceKind D W E) (size : ℕ) where
-  -- What is kept of a batch, by what is known of the device before it and after it. What its requests did is kept. Or all of them are
-  -- refused: the device wasn't called, or a reply says that it has failed or that memory ran out. Then the next process would hold what
-  -- it would have held before, or what some beginning of these requests leaves.
+  -- What is kept of a batch, by what is known of the device before it and after it. What its requests did is kept. Or all of
+  -- them are refused: the device wasn't called, or a reply says that it has failed or that memory ran out. Then the next
+  -- process would hold what it would have held before, or what some beginning of these requests leaves.
   abbrev pub SavesBatch : D → List AnsweredRequest → D → Arrays (List ℕ) → Arrays (List ℕ) → Type 0
   SavesBatch old batch new before later =
       ((later.held ≡ array_after_requests (map asked_in batch) before.held) × SavesAll (RequestsTouchSomeByte size (map asked_in batch)) before later)
       ⊎ (All (λ a. IsRefusal a.reply) batch
       × (((new ≡ old) × (later ≡ before)) ⊎ (SaysFault batch × SavesPart (AreRequestsBegun (map asked_in batch)) before later)))
 
-  -- A batch of requests was served. From each array that was held, they lead to one that is held. Where the world doesn't lie, no
-  -- reply says that the device failed.
+  -- A batch of requests was served. From each array that was held, they lead to one that is held. Where the world doesn't lie,
+  -- no reply says that the device failed.
   abbrev pub ServesBatch : D → List AnsweredRequest → D → Type 0
   ServesBatch old batch new = GoesOn kind.had kind.hears (HasArrays kind.holds kind.kept) old
       (λ may_lie before later. IsService before.held batch later.held × (may_lie ≡ false → NeverFails batch) × SavesBatch old batch new before later) new
@@ -74,9 +74,9 @@ module _ {D W E : Type 0} (kind : DeviceKind D W E) (size : ℕ) where
     pub all : flat_map (λ batch. batch) batches ≡ answered
     pub served : FoldsTo {P = D} {A = List AnsweredRequest} ServesBatch old batches new
 
-  -- These requests were served. Then the device stopped while it carried out a batch, in which at least one request isn't refused.
-  -- It was in the state `mid` before that batch. Some beginning of the batch is done, and the next process would hold what it would
-  -- have held before, or what some beginning of the batch leaves.
+  -- These requests were served. Then the device stopped while it carried out a batch, in which at least one request isn't
+  -- refused. It was in the state `mid` before that batch. Some beginning of the batch is done, and the next process would hold
+  -- what it would have held before, or what some beginning of the batch leaves.
   pub record HasStopped (old new : D) (answered : List AnsweredRequest) (arrived : List WholeRequest) : Type 0 where
     pub mid : D
     pub served : HasServedRequests old mid answered
