@@ -1,6 +1,6 @@
 //! Carries out operations on byte ranges, as many at once as are on whole blocks.
 
-ghost use Rattle.std.specs.Prelude.{◌≡◌, ◌<◌, ◌≤◌, All, length, map, take, IfOk, IsTrue, MatchResult, OnErr, OnOk};
+ghost use Rattle.std.specs.Prelude.{◌≡◌, ◌<◌, ◌≤◌, All, length, map, take, IfOk, IsTrue, MatchResult, OnOk};
 ghost use Rattle.oram_nbd.specs.Beside.{GoesOn, HasArrays, IsStopped};
 ghost use Rattle.oram_nbd.specs.Calls.{FailsByLies, IsCall, Saves, SavesAll, SavesPart};
 ghost use Rattle.oram_nbd.specs.Operations.{AreBegun, IsPartOf, IsWhole, IsWithin, ReadsWhole, TouchSomeByte, all_done, all_given, done_by, given_by, len_of, read_len};

@@ -1,6 +1,6 @@
 //! Writes byte ranges by operations on whole blocks.
 
-ghost use Rattle.std.specs.Prelude.{◌≡◌, ℕ, ◌+◌, ◌*◌, ◌%◌, ◌<◌, ◌≤◌, ◌^◌, [], ◌∷◌, ◌++◌, drop, length, map, take, IfOk, OnOk};
+ghost use Rattle.std.specs.Prelude.{◌≡◌, ℕ, ◌+◌, ◌*◌, ◌%◌, ◌<◌, ◌≤◌, ◌^◌, [], ◌∷◌, ◌++◌, drop, length, map, take, IfOk};
 ghost use Rattle.oram_nbd.specs.Beside.{GoesOn, HasArrays, IsStopped};
 ghost use Rattle.oram_nbd.specs.Bytes.{bytes_at, written, zeroes};
 ghost use Rattle.oram_nbd.specs.Calls.{FailsByLies, IsCall, Reads, Writes};

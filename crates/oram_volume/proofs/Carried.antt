@@ -1,5 +1,5 @@
 -- A round of commands behind what waited: what it leaves, by what each of its parts says.
-use Rattle.std.proofs.Common.{◌≡◌, ◌≢◌, ◌⊎◌, ℕ, ◌<◌, ◌≤◌, Bool, true, false, List, [], ◌∷◌, ◌++◌, length, map, take, drop, count_by, All, None, Option, Some, Result, Ok, Err, IfErr, IfOk, IsErrOf, MatchResult, OnOk, refl, sym, ap, ◌∙◌, subst, append_assoc, arith, inl, inr}
+use Rattle.std.proofs.Common.{◌≡◌, ◌≢◌, ◌⊎◌, ℕ, ◌<◌, ◌≤◌, Bool, true, false, List, [], ◌∷◌, ◌++◌, length, map, take, drop, count_by, All, None, Option, Some, Result, Ok, Err, IfErr, IfOk, IsErrOf, MatchResult, refl, sym, ap, ◌∙◌, subst, append_assoc, arith, inl, inr}
 use Rattle.std.proofs.lemmas.List.{length-map, map-append, take-append-drop, take-append-le, append-nil, nil_from_length}
 use Rattle.std.proofs.lemmas.List.Elements.{All-cons, All-head, All-nil, All-tail}
 use Rattle.std.specs.List.{FoldsTo, flat_map}

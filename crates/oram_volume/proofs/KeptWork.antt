@@ -1,5 +1,5 @@
 -- Which acts leave a command waiting that isn't kept.
-use Rattle.std.proofs.Common.{◌≡◌, ◌⊎◌, ¬, ℕ, Bool, true, false, List, [], ◌∷◌, Option, None, Some, refl, sym, ap, ◌∙◌, subst, inl, inr}
+use Rattle.std.proofs.Common.{◌≡◌, ◌⊎◌, ℕ, Bool, true, false, List, [], ◌∷◌, Option, None, Some, refl, sym, ap, ◌∙◌, subst, inl, inr}
 use Rattle.oram_semantics.specs.Run.{Shown}
 use Rattle.oram_semantics.specs.Scheme.{Scheme}
 use Rattle.oram_semantics.specs.State.{State, status_by, status_in}

@@ -1,9 +1,5 @@
 -- The process that begins with what is read back where another one has ended.
-use Rattle.std.proofs.Common.{◌≡◌, ◌⊎◌, ℕ, Bool, List, [], refl, inl, inr}
-use Rattle.oram_geometry.specs.Sizes.{IsDevice}
-use Rattle.oram_host.specs.Host.{Host}
-use Rattle.oram_semantics.specs.Scheme.{Scheme}
-use Rattle.oram_semantics.specs.State.{State}
+use Rattle.std.proofs.Common.{ℕ, List, refl, inl, inr}
 use Rattle.oram_link_laws.specs.Runs.{Exchange}
 use Rattle.oram_rounds.specs.Batches.{BatchOutcome}
 use Rattle.oram_rounds.specs.Process.{IsSafe, begun}

@@ -51,8 +51,8 @@ pub record HoldsBytes {B K : Type 0} (may_lie : Bool) (p : Running B K) (w : Hos
   pub holds : HoldsArray may_lie p w array
   pub laid : IsLaidOut p.scheme.device array bytes
 
--- Beside this host the process holds the array. The next process will hold it too, or the one before, whatever is read back of the
--- keeper. While no command waits, the two are one array.
+-- Beside this host the process holds the array. The next process will hold it too, or the one before, whatever is read back of
+-- the keeper. While no command is at work, the two are one array.
 pub record KeepsArray {B K : Type 0} (reads_back : K → List ℕ → Type 0) (may_lie : Bool) (p : Running B K) (w : HostBeside) (before array : ℕ → List ℕ) : Type 0 where
   pub same : w.scheme ≡ p.scheme
   pub device : IsDevice p.scheme.device

@@ -1,5 +1,5 @@
 -- The process that begins with what is read back where another one has ended.
-use Rattle.std.specs.Prelude.{◌≡◌, ◌⊎◌, ℕ, Bool, List, []}
+use Rattle.std.specs.Prelude.{◌⊎◌, ℕ, Bool, List, []}
 use Rattle.oram_geometry.specs.Sizes.{IsDevice}
 use Rattle.oram_host.specs.Host.{Host}
 use Rattle.oram_semantics.specs.Scheme.{Scheme}

@@ -1,13 +1,12 @@
 //! A volume as a disk of bytes.
 
-ghost use Rattle.std.specs.Prelude.{◌≡◌, ◌≢◌, ◌*◌, ◌<◌, ◌≤◌, ◌^◌, [], ◌++◌, All, map, IfErr, IfOk, IsErrOf, MatchResult};
+ghost use Rattle.std.specs.Prelude.{◌≡◌, ◌≢◌, ◌*◌, ◌<◌, ◌≤◌, ◌^◌, [], ◌++◌, All, length, map, IfErr, IfOk, IsErrOf, MatchResult};
 ghost use Rattle.std.specs.List.{flat_map};
 ghost use Rattle.oram_core.specs.Core.{IsSameDevice};
 ghost use Rattle.oram_session.specs.Honesty.{HasFailed};
 ghost use Rattle.oram_nbd.specs.Beside.{GoesOn, HasArrays};
 ghost use Rattle.oram_nbd.specs.Calls.{FailsByLies, Saves};
 ghost use Rattle.oram_nbd.specs.Operations.{IsWhole, IsWithin, read_len};
-ghost use Rattle.oram_semantics.specs.declared.events.Command.{Command};
 ghost use Rattle.oram_volume.specs.CarriedOut.{Had, IsAfterFirst, Stops, after_commands, bodies_from};
 ghost use Rattle.oram_volume.specs.DiskCalls.{data_of};
 ghost use Rattle.oram_volume.specs.HeldArrays.{HostHears, HoldsArray, KeepsArray, running};

@@ -1,6 +1,6 @@
 //! A core with its link, its keeper and its tape.
 
-ghost use Rattle.std.specs.Prelude.{◌≡◌, ◌≢◌, ◌⊎◌, ◌<◌, ℕ, false, List, [], All, length, map, take, IsOk, IfOk, IfErr, IsErrOf, IsTrue, MatchResult, OnOk};
+ghost use Rattle.std.specs.Prelude.{◌≡◌, ◌≢◌, ◌⊎◌, ◌<◌, false, [], All, map, IsOk, IfOk, IfErr, IsErrOf, IsTrue, MatchResult, OnOk};
 ghost use Rattle.oram_core.specs.Core.{IsSameDevice};
 ghost use Rattle.oram_session.specs.Honesty.{HasFailed};
 ghost use Rattle.oram_session.specs.CoreWork.{HasNoWork};
@@ -91,9 +91,9 @@ impl<S: Sealer, B: BatchLink, K: Keeper, T: Tape> Volume<S, B, K, T> {
         }
     }
 
-    /// Carries out commands in one round, behind what waits, and returns their replies, in their order. After an `Err` the
-    /// first ones, some or none of them, are carried out or will be. An `Ok` of commands says that what they have done is kept. After
-    /// an `Err` the next process would hold what it would have held before, or what the first ones, some or none of them, leave.
+    /// Carries out commands in one round, behind what waits, and returns their replies, in their order. An `Ok` of commands says
+    /// that what they have done is kept. After an `Err` the first ones, some or none of them, are carried out or will be. The
+    /// next process would then hold what it would have held before the call, or what the first ones, some or none, leave.
     pub(crate) fn carry_out_all(
         &mut self,
         alloc: Global,

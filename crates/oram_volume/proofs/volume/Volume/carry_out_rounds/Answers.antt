@@ -1,4 +1,4 @@
-use Rattle.std.proofs.Common.{inr, ◌≡◌, ◌+◌, ◌/◌, ◌^◌, ◌<◌, ◌≤◌, ◌++◌, [], All, List, ℕ, length, take, drop, refl, sym, ap, ◌∙◌, subst, append_assoc, append-nil, arith, rules}
+use Rattle.std.proofs.Common.{inr, ◌≡◌, ◌+◌, ◌/◌, ◌^◌, ◌<◌, ◌≤◌, ◌++◌, [], All, List, ℕ, length, refl, sym, ap, ◌∙◌, subst, append_assoc, append-nil, arith, rules}
 use Rattle.std.proofs.lemmas.Bool.Decides.{nat_tests}
 use Rattle.std.proofs.lemmas.Grind.{common_steps}
 use Rattle.std.proofs.lemmas.List.{nil_from_length}
@@ -34,7 +34,9 @@ returns-clause-goes g c =
     let ops = c.args.operations.now in
     let inv = c.loop-round_number.invariant in
     weaker inv.so_far (λ may_lie world old new h step.
-    let first = (inv.done, rest_of d.block_bytes ops c.loop-round_number.cursor.operation c.loop-round_number.cursor.block, inv.split, step.1) in (first, λ e. cc, part_after_all step.2 first))
+    let first : IsAfterFirst d (all_commands d.block_bytes ops) old.held new.held =
+    (inv.done, rest_of d.block_bytes ops c.loop-round_number.cursor.operation c.loop-round_number.cursor.block, inv.split, step.1) in
+    (first, λ e. cc, part_after_all step.2 first))
 
 pub returns-in_err-commands-clause-goes : goal.returns-in_err-commands-clause-goes
 returns-in_err-commands-clause-goes g c =
@@ -43,7 +45,9 @@ returns-in_err-commands-clause-goes g c =
     let ops = c.args.operations.now in
     let inv = c.loop-round_number.invariant in
     rw p.1 (weaker inv.so_far (λ may_lie world old new h step.
-    let first = (inv.done, rest_of d.block_bytes ops c.loop-round_number.cursor.operation c.loop-round_number.cursor.block, inv.split, step.1) in (first, λ e. cc, part_after_all step.2 first)))
+    let first : IsAfterFirst d (all_commands d.block_bytes ops) old.held new.held =
+    (inv.done, rest_of d.block_bytes ops c.loop-round_number.cursor.operation c.loop-round_number.cursor.block, inv.split, step.1) in
+    (first, λ e. cc, part_after_all step.2 first)))
 
 pub next_round-requires-clause-whole : goal.next_round-requires-clause-whole
 next_round-requires-clause-whole g c =
