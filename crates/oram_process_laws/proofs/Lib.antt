@@ -3,3 +3,5 @@ pub mod Lives
 pub mod TwoLives
 pub mod KeptCommands
 pub mod Replied
+pub mod FetchedPath
+pub mod WholeCommand

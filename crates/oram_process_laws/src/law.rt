@@ -3,6 +3,7 @@ ghost use Rattle.oram_process_laws.specs.KeptCommands.{KeptCommandsFixMessages, 
 ghost use Rattle.oram_process_laws.specs.Lives.{LivesAreOneRun, MessagesAreOfOneRun};
 ghost use Rattle.oram_process_laws.specs.LivesExample.{TwoLivesExample};
 ghost use Rattle.oram_process_laws.specs.Replied.{OneTicketHasOneReply, RepliesAreOfOneRun};
+ghost use Rattle.oram_process_laws.specs.WholeExample.{WholeExample};
 
 use oram_rounds::{BatchLink, Keeper};
 
@@ -54,4 +55,11 @@ pub fn next_fetches_are_of_commands()
 /// file, sends the FETCH ahead again, and its core asks for it then.
 pub fn two_lives_example()
     ensures { TwoLivesExample }
+{}
+
+/// A whole command, over a server in memory, meets the premises of `replies_are_the_arrays` in `oram_rounds`: the read of a
+/// block is submitted and kept, the host answers its FETCH, the core sends its STORE, and the command has the array's reply.
+/// The first process of a device does this, its run is right, and it gives the reply.
+pub fn whole_command_example()
+    ensures { WholeExample }
 {}

@@ -9,5 +9,5 @@ mod law;
 pub use law::{
     kept_commands_fix_messages, lives_are_one_run, messages_are_of_one_run,
     next_fetches_are_of_commands, one_ticket_has_one_reply, replies_are_of_one_run,
-    two_lives_example,
+    two_lives_example, whole_command_example,
 };
