@@ -1,5 +1,5 @@
 -- The answer to the FETCH of a read: the path is checked, the block is put on it, and it is stored.
-use Rattle.std.proofs.Common.{◌≡◌, ◌⊎◌, ℕ, zero, suc, ◌+◌, ◌*◌, ◌/◌, ◌-◌, ◌^◌, ◌<◌, ◌≤◌, arith, Option, None, Some, false, true, List, [], ◌∷◌, length, replicate, slice_index_or, slice_set, Ok, Err, refl, sym, ap, ◌∙◌, subst, inl, inr}
+use Rattle.std.proofs.Common.{◌≡◌, ◌⊎◌, ℕ, zero, suc, ◌+◌, ◌*◌, ◌/◌, ◌-◌, ◌^◌, ◌<◌, ◌≤◌, arith, None, Some, false, true, List, [], ◌∷◌, length, replicate, slice_index_or, slice_set, Ok, Err, refl, sym, ap, ◌∙◌, subst, inl, inr}
 use Rattle.std.specs.Prelude.{Contains, Result}
 use Rattle.std.proofs.lemmas.List.Elements.{All-cons, All-nil}
 use Rattle.std.proofs.lemmas.List.Sorted.{IsPermutation-refl}
@@ -48,14 +48,14 @@ use Rattle.oram_process_laws.specs.WholeExample.{fetched_core, stored, stored_re
 use Rattle.oram_rounds.proofs.Example.{first_leaf}
 use Rattle.oram_rounds.proofs.ReadingCore.{message_is, sound}
 
-abbrev zeros : List ℕ
+abbrev pub zeros : List ℕ
 zeros = replicate 88 0
 
 -- the only path of the tree of one node, with these bytes
-abbrev path : List ℕ → Path
+abbrev pub path : List ℕ → Path
 path bytes = record { depth = 0; leaf = 0; record_len = 88; bytes = bytes }
 
-zeros_at : record_at (path zeros) 0 ≡ zeros
+pub zeros_at : record_at (path zeros) 0 ≡ zeros
 unfolding record_at
 zeros_at = refl
 
@@ -251,7 +251,7 @@ first_tree = omega (arith, one_tree)
 depth_is : 0 ≡ depth_of one_block.device tree
 depth_is = no_depth ∙ ap (depth_of one_block.device) first_tree
 
-leaf_is : 0 ≡ (requested reading_core.message).leaf
+pub leaf_is : 0 ≡ (requested reading_core.message).leaf
 leaf_is = sym (ap (λ (m : List ℕ). (requested m).leaf) message_is ∙ ap (λ e. e.leaf) (requested_fetch 0 0 (omega arith)))
 
 abbrev fetched : Path

@@ -4,4 +4,5 @@ pub mod TwoLives
 pub mod KeptCommands
 pub mod Replied
 pub mod FetchedPath
+pub mod NoPair
 pub mod WholeCommand

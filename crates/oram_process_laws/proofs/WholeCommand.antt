@@ -1,5 +1,5 @@
 -- A whole command: a read of the block of zeros gets its reply.
-use Rattle.std.proofs.Common.{◌≡◌, ℕ, ◌*◌, ◌==◌, arith, if◌then◌else◌, List, [], ◌∷◌, None, Some, Ok, refl, sym, subst, inl, inr}
+use Rattle.std.proofs.Common.{◌≡◌, ℕ, ◌*◌, ◌==◌, if◌then◌else◌, List, [], None, Some, Ok, refl, sym, subst, inl, inr}
 use Rattle.oram_wire.specs.HostMessages.{done_answer, fetch_body}
 use Rattle.oram_geometry.specs.Sizes.{trees_of}
 use Rattle.oram_semantics.specs.Answers.{good_answer, outcome_of}
@@ -29,6 +29,7 @@ use Rattle.oram_rounds.proofs.Example.{first_leaf, first_tree, one_path, one_wai
 use Rattle.oram_process_laws.specs.Lives.{IsRun, Lives, run_of}
 use Rattle.oram_process_laws.proofs.FetchedPath.{takes_path}
 use Rattle.oram_process_laws.proofs.Lives.{right_by}
+use Rattle.oram_process_laws.proofs.NoPair.{no_pair}
 use Rattle.oram_rounds.proofs.ReadingProcess.{accepts, awaits, called, now, now_ahead, reading_process_example, went}
 
 -- the core hears that the STORE is carried out
@@ -114,7 +115,9 @@ whole_example =
           steps,
           right_by v new.trees session_example.0 new.formatted (run_of whole_steps) finished.state
               (subst (λ (s : State). IsRun one_block s (run_of whole_steps) finished.state) new.state run),
+          no_pair,
           refl,
+          record { earlier = []; command = one_read; later = []; place = refl; ticket = refl; either = inl refl },
         ),
       ),
     )

@@ -24,8 +24,9 @@ use Rattle.oram_rounds.specs.ProcessSteps.{DoesSteps, ProcessStep}
 use Rattle.oram_rounds.specs.ProcessSteps.ProcessStep.{Acts, Takes}
 use Rattle.oram_rounds.specs.ReadingExample.{one_read, process_with, reading_core, reads, reads_kept, shown_in, zero_words}
 use Rattle.oram_rounds.specs.Start.{AreSubmitted}
+use Rattle.oram_process_laws.specs.KeptCommands.{ShowsNoPair}
 use Rattle.oram_process_laws.specs.Lives.{IsRightRun, Lives, run_of}
-use Rattle.oram_process_laws.specs.Replied.{given_by}
+use Rattle.oram_process_laws.specs.Replied.{IsReplyIn, given_by}
 
 -- The record that the STORE brings. Its bucket has the block: the address 0 as 1, the leaf 0, and 16 zeros. Behind it are the
 -- digests of no children.
@@ -75,8 +76,8 @@ abbrev pub whole_steps : List ProcessStep
 whole_steps = Takes reads ∷ map (λ (act : Act). Acts act) whole_acts
 
 -- The command is submitted to the core of the device as it was formatted. The process goes on with the array of zeros, over a
--- server in memory, and replies with the zeros of the block. The first process of the device does these steps, its run is right,
--- and the reply is given.
+-- server in memory, and replies with the zeros of the block. The first process of the device does these steps. Its run is right, and
+-- no answer in it shows two records with the same digest. The reply is given, and is the array's reply to this command.
 abbrev pub WholeExample : Type 0
 WholeExample = AreBatches DirectBatches × IsDevice one_block.device × AreSubmitted one_block zero_words 0 new_core (reads ∷ []) reading_core
     × ((may_lie : Bool) → IsGoingOn may_lie one_block (process_with reading_core new_core) new_host zero_array)
@@ -87,4 +88,5 @@ WholeExample = AreBatches DirectBatches × IsDevice one_block.device × AreSubmi
     IsFormatted v trees × Lives one_block DirectBatches reads_kept (new_state v trees) 0 (process_with new_core new_core)
     × DoesSteps one_block DirectBatches reads_kept (process_with new_core new_core) whole_steps whole_process
     × IsRightRun v trees (run_of whole_steps) finished.state
-    × (given_by true whole_steps ≡ reply_by zero_array one_read ∷ [])))
+    × ShowsNoPair v [] (run_of whole_steps) × (given_by true whole_steps ≡ reply_by zero_array one_read ∷ [])
+    × IsReplyIn one_block.device (one_read ∷ []) (reply_by zero_array one_read)))
