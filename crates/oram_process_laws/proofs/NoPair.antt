@@ -1,5 +1,5 @@
 -- No answer of the whole command shows two records with the same digest.
-use Rattle.std.proofs.Common.{◌≡◌, ℕ, ◌+◌, ◌<◌, arith, Bool, not, true, false, if◌then◌else◌, ◌&&◌, Option, None, Some, unwrap_or, List, [], ◌∷◌, ◌++◌, reverse, refl, sym, ap, ◌∙◌, subst}
+use Rattle.std.proofs.Common.{◌≡◌, ℕ, ◌<◌, arith, Bool, not, true, false, if◌then◌else◌, ◌&&◌, Option, None, Some, unwrap_or, List, [], ◌∷◌, ◌++◌, reverse, refl, sym, ap, ◌∙◌, subst}
 use Rattle.std.specs.Option.{option_map_or}
 use Rattle.std.specs.Str.{bytes_eq}
 use Rattle.oram_geometry.specs.Least.{least_from}
