@@ -239,29 +239,29 @@ pub cut_error : (all left later old mid next new : Option (List ℕ)) (number : 
     IfSome all (λ input. Came input left old mid number m) → IfSome left (λ xs. line ≡ take_through 10 xs) → DropsThrough left later 10 → 0 < length line → bytes ≡ strip_last 10 line
     → ((p : Point) → StandsAt p.stage m → IsBad p.stage bytes × (next ≡ mid)) → IsPrintedInPart e (error_text (number + 1)) next new
     → IsGivingUp all old new e
-cut_error None left later old mid next new number m line bytes e came has drops some cut bad told = tt
-cut_error (Some input) left later old mid next new number m line bytes Read came has drops some cut bad told = absurd told
-cut_error (Some input) left later old mid next new number m line bytes OutOfMemory came has drops some cut bad told =
+cut_error None left later old mid next new number m line bytes e came has drops some cut bad reported = tt
+cut_error (Some input) left later old mid next new number m line bytes Read came has drops some cut bad reported = absurd reported
+cut_error (Some input) left later old mid next new number m line bytes OutOfMemory came has drops some cut bad reported =
     let b = bad came.point came.stands in (
       text_at came.point,
       front_of input (lines_of came.rest) came.point OutOfMemory (here input left old mid number m came),
       (λ harmless. clean_front OutOfMemory (text_at came.point) (came_clean input left old mid number m came (before_rest input came.lines (lines_of came.rest) came.split harmless))),
-      subst (λ w. Appends old w (text_at came.point)) (sym (told ∙ b.1)) came.wrote,
+      subst (λ w. Appends old w (text_at came.point)) (sym (reported ∙ b.1)) came.wrote,
     )
-cut_error (Some input) left later old mid next new number m line bytes Write came has drops some cut bad told =
+cut_error (Some input) left later old mid next new number m line bytes Write came has drops some cut bad reported =
     let b = bad came.point came.stands in
     let p = came.point in
     let split = split_at input left later old mid number m line bytes came has drops some cut in
     let whole = text_at p ++ error_text (number + 1) in
     let due : IsScriptText input whole (BadLine (number + 1)) =
     (came.lines, lines_of (drop_through 10 came.rest), bytes, p, split, came.passed, run_done p.stage m came.stands, b.0, ap (λ k. k + 1) (sym came.count), refl) in
-    let begins = beginning_behind (text_at p) whole told.0 (error_text (number + 1)) refl told.1 in (
-      text_at p ++ told.0,
+    let begins = beginning_behind (text_at p) whole reported.0 (error_text (number + 1)) refl reported.1 in (
+      text_at p ++ reported.0,
       (whole, inr (number + 1, due), begins),
       (λ harmless.
           let clean = came_clean input left old mid number m came (before_rest input came.lines (lines_of came.rest) came.split harmless) in
-          beginning_unfailed (text_at p ++ told.0) whole begins (clean_text whole (clean_append (text_at p) (error_text (number + 1)) clean (error_clean (number + 1))))),
-      Appends-trans old next new (text_at p) told.0 (subst (λ w. Appends old w (text_at p)) (sym b.1) came.wrote) told.2,
+          beginning_unfailed (text_at p ++ reported.0) whole begins (clean_text whole (clean_append (text_at p) (error_text (number + 1)) clean (error_clean (number + 1))))),
+      Appends-trans old next new (text_at p) reported.0 (subst (λ w. Appends old w (text_at p)) (sym b.1) came.wrote) reported.2,
     )
 
 -- a fault that is known
@@ -276,22 +276,22 @@ all_told (Some input) old new Read other front = front
 all_told (Some input) old new Write other front = front
 
 -- `out of memory` was printed,
-pub memory_told : (all old mid new : Option (List ℕ)) → IsGivingUp all old mid OutOfMemory → Appends mid new memory_text → HasGivenUp all old new OutOfMemory
-memory_told None old mid new front told = tt
-memory_told (Some input) old mid new front told = (front.0 ++ memory_text, front.1, front.2, Appends-trans old mid new front.0 memory_text front.3 told)
+pub memory_reported : (all old mid new : Option (List ℕ)) → IsGivingUp all old mid OutOfMemory → Appends mid new memory_text → HasGivenUp all old new OutOfMemory
+memory_reported None old mid new front reported = tt
+memory_reported (Some input) old mid new front reported = (front.0 ++ memory_text, front.1, front.2, Appends-trans old mid new front.0 memory_text front.3 reported)
 
 -- or a beginning of it.
 pub memory_cut : (all old mid new : Option (List ℕ)) (e : SimFault) → IsGivingUp all old mid OutOfMemory → (k : ℕ) × Appends mid new (take k memory_text) → e ≡ Write → HasGivenUp all old new e
-memory_cut None old mid new e front told write = tt
-memory_cut (Some input) old mid new e front told write =
+memory_cut None old mid new e front reported write = tt
+memory_cut (Some input) old mid new e front reported write =
     let whole = front.0 ++ memory_text in
-    let part = take told.0 memory_text in
-    let begins = beginning_behind front.0 whole part memory_text refl (told.0, refl) in
+    let part = take reported.0 memory_text in
+    let begins = beginning_behind front.0 whole part memory_text refl (reported.0, refl) in
     let cut : IsCutText input (front.0 ++ part) Write = (whole, inl (front.1.0, front.1.1, inr front.1.2), begins) in (
       front.0 ++ part,
       subst (IsCutText input (front.0 ++ part)) (sym write) cut,
       (λ harmless. beginning_unfailed (front.0 ++ part) whole begins (front.2 harmless)),
-      Appends-trans old mid new front.0 part front.3 told.1,
+      Appends-trans old mid new front.0 part front.3 reported.1,
     )
 
 cut_due : (input text : List ℕ) (e : SimFault) → IsCutText input text e → IsCutText input text Write
@@ -314,8 +314,8 @@ unflushed (Some input) old mid new (Err f) e ok err keeps write =
     (err.0, subst (IsCutText input err.0) (sym write) (cut_due input err.0 f err.1), err.2, Appends-kept old mid new err.0 err.3 keeps)
 
 -- a text whose writing was given up
-pub untold : {T : Type 0} (result : Result T SimFault) (shown text : List ℕ) (old new : Option (List ℕ)) → shown ≡ text → (k : ℕ) × Appends old new (take k shown) → IfErr result (λ e. e ≡ Write)
+pub unreported : {T : Type 0} (result : Result T SimFault) (shown text : List ℕ) (old new : Option (List ℕ)) → shown ≡ text → (k : ℕ) × Appends old new (take k shown) → IfErr result (λ e. e ≡ Write)
     → IfErr result (λ e. IsPrintedInPart e text old new)
-untold (Ok t) shown text old new same cut write = tt
-untold (Err e) shown text old new same cut write =
+unreported (Ok t) shown text old new same cut write = tt
+unreported (Err e) shown text old new same cut write =
     subst (λ (f : SimFault). IsPrintedInPart f text old new) (sym write) (take cut.0 text, (cut.0, refl), subst (λ t. Appends old new (take cut.0 t)) same cut.1)

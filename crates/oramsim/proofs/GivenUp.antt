@@ -98,17 +98,17 @@ drain_cut r mid s m e old between new xs folds gone some on q = (q.0, come q.0 q
   come later (inl same) = (xs, subst (FoldsTo IsDrained r xs) (sym same) folds)
   come later (inr a) = (xs ++ a.0 ∷ [], FoldsTo-push IsDrained r xs mid a.0 later folds (some_there m.outstanding mid.message some gone.0.message, a.1))
 
--- The line is `told`.
-under_as : (r : Running) (l told : Line) (later : Running) → l ≡ told → IsUnder r told later → IsUnder r l later
-under_as r l told later e q = subst (λ (k : Line). IsUnder r k later) (sym e) q
+-- The line is `known`.
+under_as : (r : Running) (l known : Line) (later : Running) → l ≡ known → IsUnder r known later → IsUnder r l later
+under_as r l known later e q = subst (λ (k : Line). IsUnder r k later) (sym e) q
 
 -- Nothing meddled before the line, and the line doesn't either.
 abbrev pub IsUnmeddled : Running → State → Line → Type 0
 IsUnmeddled r s l = (is_meddling l ≡ false) × IsFaithful r s
 
-pub line_cut : (r : Running) (s : State) (l told : Line) (e : SimFault) (old new : Option (List ℕ)) → l ≡ told → GivesUp r (IsFaithful r s) (λ later. (later ≡ r) ⊎ Obeys r told later) e old new
+pub line_cut : (r : Running) (s : State) (l known : Line) (e : SimFault) (old new : Option (List ℕ)) → l ≡ known → GivesUp r (IsFaithful r s) (λ later. (later ≡ r) ⊎ Obeys r known later) e old new
     → GivesUp r (IsUnmeddled r s l) (IsUnder r l) e old new
-line_cut r s l told e old new is q = (q.0, under_as r l told q.0 is (elim q.1 [ inl same ↦ inl same | inr obeys ↦ inr (inl obeys) ]), q.2, (λ h. q.3 h.1), q.4)
+line_cut r s l known e old new is q = (q.0, under_as r l known q.0 is (elim q.1 [ inl same ↦ inl same | inr obeys ↦ inr (inl obeys) ]), q.2, (λ h. q.3 h.1), q.4)
 
 pub line_told : (r : Running) (s : State) (l : Line) (ev : Event) (e : SimFault) (old new : Option (List ℕ)) → l ≡ line.CoreEvent ev
     → GivesUp r (IsHonestAt r s ev) (λ later. (later ≡ r) ⊎ AtEvent r ev later) e old new → GivesUp r (IsUnmeddled r s l) (IsUnder r l) e old new

@@ -20,8 +20,8 @@ use Rattle.oramsim.proofs.Turns.{silent}
 abbrev pub Obeyed : Running → State → Line → Machine → Option (List ℕ) → Option (List ℕ) → Type 0
 Obeyed r s line m old new = (later : Running) × Obeys r line later × RunsOn r later m old new × (is_meddling line ≡ false → IsFaithful r s → IsFaithful later m.core.state)
 
-as_line : (r : Running) (s : State) (line told : Line) (m : Machine) (old new : Option (List ℕ)) → line ≡ told → Obeyed r s told m old new → Obeyed r s line m old new
-as_line r s line told m old new e q = subst (λ (l : Line). Obeyed r s l m old new) (sym e) q
+as_line : (r : Running) (s : State) (line known : Line) (m : Machine) (old new : Option (List ℕ)) → line ≡ known → Obeyed r s known m old new → Obeyed r s line m old new
+as_line r s line known m old new e q = subst (λ (l : Line). Obeyed r s l m old new) (sym e) q
 
 pub told_obeyed : (r : Running) (s : State) (line : Line) (e : Event) (m : Machine) (old new : Option (List ℕ)) → line ≡ CoreEvent e
     → (x : Shown) × RunsOn r (after_turn r e x) m old new × StaysFaithful r s e x m.core.state → Obeyed r s line m old new
@@ -38,9 +38,9 @@ pub drain_obeyed : (r : Running) (s : State) (line : Line) (m : Machine) (old ne
 drain_obeyed r s line m old new is q = as_line r s line Drain m old new is (q.1, (q.0, q.2, q.3), q.4, λ calm h. q.5 h)
 
 -- a line that prints something
-pub spoken_obeyed : (r : Running) (s : State) (line told : Line) (m : Machine) (old new : Option (List ℕ)) → line ≡ told
-    → (later : Running) × Obeys r told later × RunsOn r later m old new × (IsFaithful r s → IsFaithful later m.core.state) → Obeyed r s line m old new
-spoken_obeyed r s line told m old new is q = as_line r s line told m old new is (q.0, q.1, q.2, λ calm h. q.3 h)
+pub spoken_obeyed : (r : Running) (s : State) (line known : Line) (m : Machine) (old new : Option (List ℕ)) → line ≡ known
+    → (later : Running) × Obeys r known later × RunsOn r later m old new × (IsFaithful r s → IsFaithful later m.core.state) → Obeyed r s line m old new
+spoken_obeyed r s line known m old new is q = as_line r s line known m old new is (q.0, q.1, q.2, λ calm h. q.3 h)
 
 same_text : (r later : Running) (line : Line) (m : Machine) (old : Option (List ℕ)) → IsAtRun later m → (k : Running) → later ≡ k → stage_text (Some k) ≡ stage_text (Some r) → RunsOn r later m old old
 same_text r later line m old f k e same = (f, silent (stage_text (Some r)) (stage_text (Some later)) old (ap (λ (l : Running). stage_text (Some l)) e ∙ same))
@@ -60,8 +60,8 @@ tamper_obeyed r s line m tree node offset old is q =
 pub swap_obeyed : (r : Running) (s : State) (line : Line) (m : Machine) (tree_a node_a tree_b node_b : ℕ) (old : Option (List ℕ)) → line ≡ Swap tree_a node_a tree_b node_b
     → (later : Running) × Obeys r (Swap tree_a node_a tree_b node_b) later × IsAtRun later m → Obeyed r s line m old old
 swap_obeyed r s line m tree_a node_a tree_b node_b old is q =
-    let told = Swap tree_a node_a tree_b node_b in
-    as_line r s line told m old old is (q.0, q.1, same_text r q.0 told m old q.2 _ q.1.2 refl, λ calm. refused true calm refl)
+    let known = Swap tree_a node_a tree_b node_b in
+    as_line r s line known m old old is (q.0, q.1, same_text r q.0 known m old q.2 _ q.1.2 refl, λ calm. refused true calm refl)
 
 pub restore_obeyed : (r : Running) (s : State) (line : Line) (m : Machine) (old : Option (List ℕ)) → line ≡ Restore
     → (later : Running) × Obeys r Restore later × IsAtRun later m → Obeyed r s line m old old

@@ -201,8 +201,8 @@ pub came_bad : (all left later old mid next new : Option (List ℕ)) (number : �
     IfSome all (λ input. Came input left old mid number m) → IfSome left (λ xs. line ≡ take_through 10 xs) → DropsThrough left later 10 → 0 < length line → bytes ≡ strip_last 10 line
     → ((p : Point) → StandsAt p.stage m → IsBad p.stage bytes × (next ≡ mid)) → Appends next new (error_text (number + 1))
     → IfSome all (λ input. (text : List ℕ) × IsScriptText input text (BadLine (number + 1)) × (IsHarmlessScript input → HasNoFailure text) × Appends old new text)
-came_bad None left later old mid next new number m line bytes came e drops some cut bad told = tt
-came_bad (Some input) left later old mid next new number m line bytes came e drops some cut bad told =
+came_bad None left later old mid next new number m line bytes came e drops some cut bad reported = tt
+came_bad (Some input) left later old mid next new number m line bytes came e drops some cut bad reported =
     let read = read_rest left later line came.rest e drops came.known in
     let p = bad came.point came.stands in
     let split = came.split ∙ ap (λ l. came.lines ++ l) (lines_first came.rest line read.0 some ∙ ap (λ b. b ∷ lines_of (drop_through 10 came.rest)) (sym cut)) in (
@@ -222,7 +222,7 @@ came_bad (Some input) left later old mid next new number m line bytes came e dro
       (λ harmless.
           let parts = all_split (λ b. IsHarmless (line_of b)) came.lines (bytes ∷ lines_of (drop_through 10 came.rest)) (subst (AllByRecursion (λ b. IsHarmless (line_of b))) split harmless) in
           clean_text (text_at came.point ++ error_text (number + 1)) (clean_append (text_at came.point) (error_text (number + 1)) (came_clean input left old mid number m came parts.0) (error_clean (number + 1)))),
-      Appends-trans _ _ _ _ _ (subst (λ w. Appends old w (text_at came.point)) (sym p.1) came.wrote) told,
+      Appends-trans _ _ _ _ _ (subst (λ w. Appends old w (text_at came.point)) (sym p.1) came.wrote) reported,
     )
 
 -- what is read into an emptied buffer

@@ -1,5 +1,5 @@
 use Rattle.std.proofs.Common.{rules}
-use Rattle.oramsim.proofs.Cut.{all_told, giving_up_as, memory_cut, memory_told}
+use Rattle.oramsim.proofs.Cut.{all_told, giving_up_as, memory_cut, memory_reported}
 use Rattle.oramsim.proofs.GivenUp.{raised}
 use Rattle.oramsim.proofs.script.run_to_end.Goals as goal
 
@@ -11,7 +11,7 @@ returns-in_err-put-in-Err-OutOfMemory-clause-err g c =
 
 pub returns-in_ok-put-in-Err-OutOfMemory-clause-err : goal.returns-in_ok-put-in-Err-OutOfMemory-clause-err
 returns-in_ok-put-in-Err-OutOfMemory-clause-err g c =
-    memory_told _ _ _ _ (giving_up_as _ _ _ _ c.in-Err-OutOfMemory.field-0-is c.in-Err-OutOfMemory.ensures.err) c.in_ok-put-in-Err-OutOfMemory.ensures.ok
+    memory_reported _ _ _ _ (giving_up_as _ _ _ _ c.in-Err-OutOfMemory.field-0-is c.in-Err-OutOfMemory.ensures.err) c.in_ok-put-in-Err-OutOfMemory.ensures.ok
 
 pub returns-in_default : goal.returns-in_default
 returns-in_default g c = search (rules, all_told)
