@@ -12,5 +12,6 @@ pub mod KeptBatches
 pub mod Served
 pub mod Gathered
 pub mod Batched
+pub mod WholeConnection
 pub mod Negotiated
 pub mod Rows

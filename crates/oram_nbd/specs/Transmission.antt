@@ -85,6 +85,14 @@ module _ {D W E : Type 0} (kind : DeviceKind D W E) (size : ℕ) where
     pub begun : GoesOn kind.had kind.hears (HasArrays kind.holds kind.kept) mid
         (λ may_lie before later. AreRequestsBegun arrived before.held later.held × SavesPart (AreRequestsBegun arrived) before later) new
 
+-- All requests that are served over a connection, together. Whatever world goes through the events of their calls: from the
+-- array that was held at first they lead, one after the other, to the one that is held at last, and each reply is that of the
+-- array at its request, or an error. Where the world doesn't lie, no reply says that the device failed.
+abbrev pub ConnectionsServeArrays : {D W E : Type 0} → DeviceKind D W E → Type 0
+ConnectionsServeArrays {D} kind = (size : ℕ) (old new : D) (answered : List AnsweredRequest) → HasServedRequests kind size old new answered
+    → GoesOn kind.had kind.hears (HasArrays kind.holds kind.kept) old
+    (λ may_lie before later. IsService before.held answered later.held × (may_lie ≡ false → NeverFails answered)) new
+
 -- For a device of this kind, which goes from one state to another beside a world.
 module _ {D W E : Type 0} (kind : DeviceKind D W E) (old new : D) where
   -- `count` requests were answered, and then the requests ended
