@@ -54,7 +54,7 @@ ready_tree v s w t o h even fits at =
 pub access_moves : (v : Scheme) (s : State) (w : World) (t new : Tree) (path : Path) (found : Bool) (before records : List ℕ) (why : Reason) (y : Reaction) (u : State) (o : Waits s) → IsSound v.device v.cipher.overhead s → s.entry_number % 2 ≡ 0 → Fits v s w → IsTreeAt v s t →
     path ≡ path_of v.device (entry_tree v.device s.entry_number) (requested s.message).leaf v.cipher.overhead path.bytes → length records ≡ (depth_of v.device (entry_tree v.device s.entry_number) + 1) * record_len v → new.number ≡ t.number →
     (let i = entry_tree v.device s.entry_number in let c : Cell = record { address = block_of v.device i o.oldest; leaf = new_leaf v.device i o.oldest; content = block_after v.device i o.oldest before } in
-    IsUpdate v.cipher.opening v.cipher.overhead v.device path (with_bytes path records) (w.records i) (w.content i) c found before new) →
+    IsUpdate (record { device = v.device; cipher = v.cipher; path = path; written = with_bytes path records; records = w.records i; content = w.content i; block = c; found = found; before = before; after = new })) →
     (let i = entry_tree v.device s.entry_number in let c : Cell = record { address = block_of v.device i o.oldest; leaf = new_leaf v.device i o.oldest; content = block_after v.device i o.oldest before } in
     IsRewritten (record { device = v.device; tree = t.number; cipher = v.cipher; path = path; nonce = s.nonce }) t.stash (with_bytes path records) c new.stash) →
     (let s' : State = record s { trees = slice_set s.trees (entry_tree v.device s.entry_number) new } in

@@ -41,8 +41,18 @@ pub record IsAccess (v : Scheme) (s : State) (w : World) (x : Submission) (path 
   pub update :
       let d = v.device in
       let i = entry_tree d s.entry_number in
-      IsUpdate v.cipher.opening v.cipher.overhead d path (with_bytes path records) (w.records i) (w.content i)
-      (record { address = block_of d i x; leaf = new_leaf d i x; content = block_after d i x before }) found before tree
+      IsUpdate (record {
+        device = d;
+        cipher = v.cipher;
+        path = path;
+        written = with_bytes path records;
+        records = w.records i;
+        content = w.content i;
+        block = record { address = block_of d i x; leaf = new_leaf d i x; content = block_after d i x before };
+        found = found;
+        before = before;
+        after = tree;
+      })
 
 both_ways : (b : Bool) → (not b && not (not b)) ≡ false
 both_ways true = refl

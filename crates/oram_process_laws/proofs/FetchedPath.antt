@@ -358,7 +358,7 @@ unfolding trees_of blocks_in level_for least_from requested next_map_entry
 stored_is = refl
 
 module _ (w : World) (fits : Fits one_block reading_core w) (apart : shows_in one_block reading_core w (Answer (128 ∷ zeros)) ≡ false) where
-  update : IsUpdate one_block.cipher.opening one_block.cipher.overhead one_block.device fetched (with_bytes fetched stored_record) (w.records tree) (w.content tree) changed false (replicate 16 0) new_tree
+  update : IsUpdate (record { device = one_block.device; cipher = one_block.cipher; path = fetched; written = with_bytes fetched stored_record; records = w.records tree; content = w.content tree; block = changed; found = false; before = replicate 16 0; after = new_tree })
   update =
       let ready : IsReadyTree one_block reading_core w one_read old_tree = ready_tree one_block reading_core w old_tree waits_now sound refl fits tree_at in
       let on_path : IsPathOf (w.records tree) fetched = path_stands one_block reading_core w zeros tt passed sound refl refl fits apart checked refl in

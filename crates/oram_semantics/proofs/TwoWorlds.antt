@@ -9,7 +9,7 @@ use Rattle.oram_trace.specs.TapeRearrangement.{tape_len, rearranged_tape, ShowsA
 use Rattle.oram_semantics.specs.Events.{address_of, addresses, tape}
 use Rattle.oram_semantics.specs.Progress.{Setting, Step, accepted, sent, progress, entries, entry_at, submission_of}
 use Rattle.oram_semantics.specs.Run.{Shown, step_of, AllRight, IsRight, AskFor, SendsRight, entries_sent, from_to, is_resent}
-use Rattle.oram_semantics.specs.TwoWorlds.{LookAlike, past_of, AreFirstOf, RunsLookAlike, TwoWorldsLookAlike}
+use Rattle.oram_semantics.specs.TwoWorlds.{LookAlike, past_of, AreFirstOf, LookAlikeFrom, TwoWorldsLookAlike}
 use Rattle.oram_semantics.specs.declared.events.Event.{Event}
 use Rattle.oram_semantics.specs.declared.events.Note.{Note}
 use Rattle.oram_semantics.specs.declared.events.Submission.{Submission}
@@ -152,7 +152,7 @@ along : (v u : Setting) (past other : List Step) (events others : List Event) (x
     → AreOneScheme v.scheme u.scheme → AreMatched v.scheme.device a b t q → AreLevel v u past other
     → LookAlike (take 1 (sent past)) (take 1 (sent other)) → AreFirstOf a t (past_of past events xs)
     → AreFirstOf b (rearranged_tape q t) (past_of other others ys) → map (λ (x : Shown). x.note) xs ≡ map (λ (y : Shown). y.note) ys
-    → AllRight v past events xs → AllRight u other others ys → RunsLookAlike v u past other events others xs ys
+    → AllRight v past events xs → AllRight u other others ys → LookAlikeFrom v u past other events others xs ys
 along v u past other events others [] [] a b t q one match level newest first second notes right also = tt
 along v u past other events others [] (y ∷ ys) a b t q one match level newest first second notes right also = absurd (cc)
 along v u past other events others (x ∷ xs) [] a b t q one match level newest first second notes right also = absurd (cc)

@@ -49,18 +49,24 @@ pub record AreTwoWorlds (first second : OneRun) (words q : List ℕ) : Type 0 wh
   pub first_is : AreFirstOf first.addresses words (past_of [] first.events first.reactions)
   pub second_is : AreFirstOf second.addresses (rearranged_tape q words) (past_of [] second.events second.reactions)
 
--- At each event, the messages sent in one run look like those sent in the other, until an answer shows two records
--- with the same digest in either run.
-abbrev pub RunsLookAlike : Setting → Setting → List Step → List Step → List Event → List Event → List Shown → List Shown → Type 0
-RunsLookAlike v u past other events others [] [] = Unit {0}
-RunsLookAlike v u past other (event ∷ events) (beside ∷ others) (x ∷ xs) (y ∷ ys) =
+-- At each event from some moment on, the messages sent in one run look like those sent in the other, until an answer shows
+-- two records with the same digest in either run. The pasts are those of the two runs at that moment.
+abbrev pub LookAlikeFrom : (first second : Setting) (past other_past : List Step) (events other_events : List Event)
+    (reactions other_reactions : List Shown) → Type 0
+LookAlikeFrom v u past other events others [] [] = Unit {0}
+LookAlikeFrom v u past other (event ∷ events) (beside ∷ others) (x ∷ xs) (y ∷ ys) =
     shows_pair v past event ≡ false → shows_pair u other beside ≡ false
-    → LookAlike x.sends y.sends × RunsLookAlike v u (step_of event x ∷ past) (step_of beside y ∷ other) events others xs ys
-RunsLookAlike v u past other events others xs ys = ⊥
+    → LookAlike x.sends y.sends × LookAlikeFrom v u (step_of event x ∷ past) (step_of beside y ∷ other) events others xs ys
+LookAlikeFrom v u past other events others xs ys = ⊥
+
+-- the two runs look alike from their beginnings on
+abbrev pub RunsLookAlike : OneRun → OneRun → Type 0
+RunsLookAlike first second =
+    LookAlikeFrom first.setting second.setting [] [] first.events second.events first.reactions second.reactions
 
 -- The messages of two right runs in two worlds differ at most in the bytes of records.
 abbrev pub TwoWorldsLookAlike : Type 0
 TwoWorldsLookAlike =
     (first second : OneRun) (words q : List ℕ) → AreTwoWorlds first second words q
     → AllRight first.setting [] first.events first.reactions → AllRight second.setting [] second.events second.reactions
-    → RunsLookAlike first.setting second.setting [] [] first.events second.events first.reactions second.reactions
+    → RunsLookAlike first second

@@ -163,7 +163,7 @@ pub updated : (cipher : Cipher) (nonce leaf : ℕ) (d : Sizes) (p : Path) (bytes
     → IsStoredWith cipher.opening cipher.overhead d t records content → IsPathOf records p → IsAtOrAbsent content c.address leaf
     → IsLookup (IsNear (Reads cipher.opening d t.number) p t.stash) d.block_bytes c.address found before
     → IsRewritten (record { device = d; tree = t.number; cipher = cipher; path = p; nonce = nonce }) t.stash (with_bytes p bytes) c rest → StandsRebuilt p bytes root
-    → (let after : State = record { number = t.number; root = root; stash = rest } in IsUpdate cipher.opening cipher.overhead d p (with_bytes p bytes) records content c found before after)
+    → (let after : State = record { number = t.number; root = root; stash = rest } in IsUpdate (record { device = d; cipher = cipher; path = p; written = with_bytes p bytes; records = records; content = content; block = c; found = found; before = before; after = after }))
 updated cipher nonce leaf d p bytes t root rest records content c found before of e fits stored path named looked w stands =
     let opening = cipher.opening in
     let overhead = cipher.overhead in

@@ -126,11 +126,23 @@ pub record IsRewritten (w : Rewriting) (stash : List Cell) (q : Path) (c : Cell)
   pub sealed : (level : ℕ) → level ≤ w.path.depth → sealed_part (record_at q level) ≡ sealed_at w level (listed lists level)
   pub read_back : (level : ℕ) → level ≤ w.path.depth → reads_in w (sealed_part (record_at q level)) (listed lists level)
 
--- the access reports the map's data at the block's address; and once the path's new records q replace those of p, the
--- records are stored under the new tree and hold the same map, except at this address
-pub record IsUpdate (opening : List ℕ → Option (List ℕ)) (overhead : ℕ) (d : Sizes)
-    (p q : Path) (records : ℕ → List ℕ) (content : Map)
-    (c : Cell) (found : Bool) (before : List ℕ) (t : State) : Type 0 where
-  pub reported : found ≡ is_some (content c.address)
-  pub data_reported : before ≡ content_or_zeros d.block_bytes (content c.address)
-  pub updated : (new : ℕ → List ℕ) → IsReplaced p q records new → IsStoredWith opening overhead d t new (put content c.address (entry_of c))
+-- what an access to a stored tree started from, and what it has made of it
+pub record Update : Type 0 where
+  pub device : Sizes
+  pub cipher : Cipher
+  pub path : Path  -- as it was fetched
+  pub written : Path  -- with its new records
+  pub records : ℕ → List ℕ  -- those of the tree before the access
+  pub content : Map  -- what the tree held before the access
+  pub block : Cell  -- the accessed block, as changed
+  pub found : Bool  -- whether the access has found the block
+  pub before : List ℕ  -- the block's data before the change
+  pub after : State  -- the tree after the access
+
+-- The access reports the map's data at the block's address. Once the path's new records replace the old ones, the records
+-- are stored under the new tree and hold the same map, except at this address.
+pub record IsUpdate (u : Update) : Type 0 where
+  pub reported : u.found ≡ is_some (u.content u.block.address)
+  pub data_reported : u.before ≡ content_or_zeros u.device.block_bytes (u.content u.block.address)
+  pub updated : (new : ℕ → List ℕ) → IsReplaced u.path u.written u.records new
+      → IsStoredWith u.cipher.opening u.cipher.overhead u.device u.after new (put u.content u.block.address (entry_of u.block))

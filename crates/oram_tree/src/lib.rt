@@ -180,14 +180,22 @@ impl Tree {
             (edited_block address new_leaf edit.entry a.before.items) self.new.stash) }
 
         // The effect on any stored tree that has the path, and on the map that this tree and the stash hold.
-        ensures updates { let opens = (S.cipher sealer.now).opening in let overhead = (S.cipher sealer.now).overhead in
+        ensures updates { let cipher = S.cipher sealer.now in
             (records : ℕ → List ℕ) (content : Map)
-            → IsStoredWith opens overhead device.now self.old records content
+            → IsStoredWith cipher.opening cipher.overhead device.now self.old records content
             → IsPathOf records path.now → IsAtOrAbsent content address old_leaf
-            → MatchResult result (λ a. IsUpdate opens overhead device.now
-            path.now (with_bytes path.now a.records.items) records content
-            (edited_block address new_leaf edit.entry a.before.items)
-            a.found a.before.items self.new)
+            → MatchResult result (λ a. IsUpdate (record {
+              device = device.now;
+              cipher = cipher;
+              path = path.now;
+              written = with_bytes path.now a.records.items;
+              records = records;
+              content = content;
+              block = edited_block address new_leaf edit.entry a.before.items;
+              found = a.found;
+              before = a.before.items;
+              after = self.new;
+            }))
             (λ f. f ≡ TreeFault.OutOfMemory) }
     {
         let request = AccessRequest {
@@ -261,15 +269,23 @@ impl Tree {
             (edited_block request.address request.new_leaf edit.entry a.before.items) self.new.stash) }
 
         // The effect on any stored tree that has the path, and on the map that this tree and the stash hold.
-        ensures updates { let opens = (S.cipher sealer.now).opening in let overhead = (S.cipher sealer.now).overhead in
+        ensures updates { let cipher = S.cipher sealer.now in
             (records : ℕ → List ℕ) (content : Map)
-            → IsStoredWith opens overhead device.now self.old records content
+            → IsStoredWith cipher.opening cipher.overhead device.now self.old records content
             → IsPathOf records path.now → IsAtOrAbsent content request.address request.old_leaf
             → MatchResult result (λ a. (gained : List ℕ) → out.new.items ≡ out.old.items ++ gained
-            → IsUpdate opens overhead device.now
-            path.now (with_bytes path.now gained) records content
-            (edited_block request.address request.new_leaf edit.entry a.before.items)
-            a.found a.before.items self.new)
+            → IsUpdate (record {
+              device = device.now;
+              cipher = cipher;
+              path = path.now;
+              written = with_bytes path.now gained;
+              records = records;
+              content = content;
+              block = edited_block request.address request.new_leaf edit.entry a.before.items;
+              found = a.found;
+              before = a.before.items;
+              after = self.new;
+            }))
             (λ f. f ≡ TreeFault.OutOfMemory) }
     {
         prove!(self.number < device.trees());

@@ -39,7 +39,7 @@ returns-clause-updates g c records content stored path named gained e =
     let reads = λ (n : ℕ). Reads opening device n in
     let looked = moved (λ n xs. IsLookup (IsNear (reads n) view xs) device.block_bytes c.args.request.address lookup.found lookup.before.items) _ _ _ _ number_is stash_is c.in_ok-lookup.ensures.lookup in
     let written = moved (λ n xs. IsRewritten (record { device = device; tree = n; cipher = cipher; path = view; nonce = c.args.request.nonce }) xs (with_bytes view bytes) cell stash) _ _ _ _ number_is stash_is w.3 in
-    let P : ℕ → List ℕ → Type 0 = λ n bs. let after : State = record { number = n; root = root; stash = stash } in IsUpdate opening overhead device view (with_bytes view bs) records content cell lookup.found lookup.before.items after in
+    let P : ℕ → List ℕ → Type 0 = λ n bs. let after : State = record { number = n; root = root; stash = stash } in IsUpdate (record { device = device; cipher = cipher; path = view; written = with_bytes view bs; records = records; content = content; block = cell; found = lookup.found; before = lookup.before.items; after = after }) in
     let is : bytes ≡ gained = gained_is c.args.out.now.items c.rewrite.new.out.items bytes gained w.1 e in
     subst (P c.self.inside.number) is (let Q : ℕ → Type 0 = λ n. P n bytes in subst Q (sym number_is)
     (updated cipher c.args.request.nonce c.args.request.old_leaf device view bytes c.args.self.now root stash records content cell lookup.found lookup.before.items

@@ -118,10 +118,10 @@ returns-in-Ok-clause-moves g c = λ w fits on_path.
     subst (λ (k : ℕ). IsAtOrAbsent (w.content i) c.path_access-path_access.result.block k) (sym c.path_access-path_access.ensures.leaf)
     (subst (λ (k : ℕ). IsAtOrAbsent (w.content i) k (requested now.state.message).leaf) (sym at_block) ready.at_leaf) in
     let updates = subst (λ (u : CoreValue g.row.S.Denot). (rs : ℕ → List ℕ) (held : Map) → IsStoredWith (g.S.Sealer.cipher u.sealer).opening (g.S.Sealer.cipher u.sealer).overhead u.device tree_lent rs held → IsPathOf rs path → IsAtOrAbsent held c.path_access-path_access.result.block c.path_access-path_access.result.leaf
-    → MatchResult c.access_to-looked.result (λ a. (gained : List ℕ) → message ≡ header ++ gained → IsUpdate (g.S.Sealer.cipher u.sealer).opening (g.S.Sealer.cipher u.sealer).overhead u.device path (with_bytes path gained) rs held (edited_block c.path_access-path_access.result.block c.path_access-path_access.result.new_leaf c.edit_for.result a.before.items) a.found a.before.items new) (λ f. f ≡ fault.OutOfMemory)) c.self.view_is c.access_to-looked.ensures.updates in
-    let update_if_ok = subst (λ r. MatchResult r (λ a. (gained : List ℕ) → message ≡ header ++ gained → IsUpdate v.cipher.opening v.cipher.overhead now.device path (with_bytes path gained) (w.records i) (w.content i) (edited_block c.path_access-path_access.result.block c.path_access-path_access.result.new_leaf c.edit_for.result a.before.items) a.found a.before.items new) (λ f. f ≡ fault.OutOfMemory)) c.in-Ok.is (updates (w.records i) (w.content i) ready.stored on_path absent) in
-    let update : IsUpdate v.cipher.opening v.cipher.overhead now.device path (with_bytes path records) (w.records i) (w.content i) cell found before new =
-    subst (λ (d : Cell). IsUpdate v.cipher.opening v.cipher.overhead now.device path (with_bytes path records) (w.records i) (w.content i) d found before new) same (update_if_ok records gained) in
+    → MatchResult c.access_to-looked.result (λ a. (gained : List ℕ) → message ≡ header ++ gained → IsUpdate (record { device = u.device; cipher = g.S.Sealer.cipher u.sealer; path = path; written = with_bytes path gained; records = rs; content = held; block = edited_block c.path_access-path_access.result.block c.path_access-path_access.result.new_leaf c.edit_for.result a.before.items; found = a.found; before = a.before.items; after = new })) (λ f. f ≡ fault.OutOfMemory)) c.self.view_is c.access_to-looked.ensures.updates in
+    let update_if_ok = subst (λ r. MatchResult r (λ a. (gained : List ℕ) → message ≡ header ++ gained → IsUpdate (record { device = now.device; cipher = v.cipher; path = path; written = with_bytes path gained; records = w.records i; content = w.content i; block = edited_block c.path_access-path_access.result.block c.path_access-path_access.result.new_leaf c.edit_for.result a.before.items; found = a.found; before = a.before.items; after = new })) (λ f. f ≡ fault.OutOfMemory)) c.in-Ok.is (updates (w.records i) (w.content i) ready.stored on_path absent) in
+    let Updates : Cell → Type 0 = λ d. IsUpdate (record { device = now.device; cipher = v.cipher; path = path; written = with_bytes path records; records = w.records i; content = w.content i; block = d; found = found; before = before; after = new }) in
+    let update : Updates cell = subst Updates same (update_if_ok records gained) in
     let made : IsRewritten (record { device = now.device; tree = tree_lent.number; cipher = v.cipher; path = path; nonce = now.state.nonce }) tree_lent.stash (with_bytes path records) cell new.stash =
     subst (λ (d : Cell). IsRewritten (record { device = now.device; tree = tree_lent.number; cipher = v.cipher; path = path; nonce = now.state.nonce }) tree_lent.stash (with_bytes path records) d new.stash) same written in
     access_moves v now.state w tree_lent new path found before records why c.adopt_access.result c.adopt_access.new.self.state o h.sound c.requires.entry_number fits h.at c.requires.path long c.access_to-looked.ensures.number update made does_at
@@ -147,8 +147,8 @@ returns-in-Unreadable-clause-moves g c = λ w fits on_path.
     subst (λ (k : ℕ). IsAtOrAbsent (w.content i) c.path_access-path_access.result.block k) (sym c.path_access-path_access.ensures.leaf)
     (subst (λ (k : ℕ). IsAtOrAbsent (w.content i) k (requested now.state.message).leaf) (sym at_block) ready.at_leaf) in
     let updates = subst (λ (u : CoreValue g.row.S.Denot). (rs : ℕ → List ℕ) (held : Map) → IsStoredWith (g.S.Sealer.cipher u.sealer).opening (g.S.Sealer.cipher u.sealer).overhead u.device tree_lent rs held → IsPathOf rs path → IsAtOrAbsent held c.path_access-path_access.result.block c.path_access-path_access.result.leaf
-    → MatchResult c.access_to-looked.result (λ a. (gained : List ℕ) → message ≡ header ++ gained → IsUpdate (g.S.Sealer.cipher u.sealer).opening (g.S.Sealer.cipher u.sealer).overhead u.device path (with_bytes path gained) rs held (edited_block c.path_access-path_access.result.block c.path_access-path_access.result.new_leaf c.edit_for.result a.before.items) a.found a.before.items new) (λ f. f ≡ fault.OutOfMemory)) c.self.view_is c.access_to-looked.ensures.updates in
-    let update_if_ok = subst (λ r. MatchResult r (λ a. (gained : List ℕ) → message ≡ header ++ gained → IsUpdate v.cipher.opening v.cipher.overhead now.device path (with_bytes path gained) (w.records i) (w.content i) (edited_block c.path_access-path_access.result.block c.path_access-path_access.result.new_leaf c.edit_for.result a.before.items) a.found a.before.items new) (λ f. f ≡ fault.OutOfMemory)) (c.in-Err.is ∙ ap Err c.in-Unreadable.is) (updates (w.records i) (w.content i) ready.stored on_path absent) in
+    → MatchResult c.access_to-looked.result (λ a. (gained : List ℕ) → message ≡ header ++ gained → IsUpdate (record { device = u.device; cipher = g.S.Sealer.cipher u.sealer; path = path; written = with_bytes path gained; records = rs; content = held; block = edited_block c.path_access-path_access.result.block c.path_access-path_access.result.new_leaf c.edit_for.result a.before.items; found = a.found; before = a.before.items; after = new })) (λ f. f ≡ fault.OutOfMemory)) c.self.view_is c.access_to-looked.ensures.updates in
+    let update_if_ok = subst (λ r. MatchResult r (λ a. (gained : List ℕ) → message ≡ header ++ gained → IsUpdate (record { device = now.device; cipher = v.cipher; path = path; written = with_bytes path gained; records = w.records i; content = w.content i; block = edited_block c.path_access-path_access.result.block c.path_access-path_access.result.new_leaf c.edit_for.result a.before.items; found = a.found; before = a.before.items; after = new })) (λ f. f ≡ fault.OutOfMemory)) (c.in-Err.is ∙ ap Err c.in-Unreadable.is) (updates (w.records i) (w.content i) ready.stored on_path absent) in
     absurd (let no_way : fault.Unreadable ≡ fault.OutOfMemory = update_if_ok in cc)
 
 pub returns-in-Ok-clause-heard : goal.returns-in-Ok-clause-heard
