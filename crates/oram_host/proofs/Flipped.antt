@@ -1,4 +1,4 @@
--- A record of which one bit was flipped.
+-- A record in which one bit was flipped.
 use Rattle.std.proofs.Common.{◌≡◌, ℕ, ◌+◌, ◌-◌, ◌^◌, ◌<◌, inr, Bool, true, false, cond, List, [], ◌∷◌, length, Option, Some, None, IsSome, All, refl, ap, subst, sym, ◌∙◌}
 use Rattle.std.specs.Prelude.{MatchBool}
 use Rattle.std.specs.List.{AllByRecursion}

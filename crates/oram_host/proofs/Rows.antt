@@ -6,7 +6,7 @@ use Rattle.oram_host.specs.Image.{image}
 use Rattle.oram_host.specs.Path.{node_on, record_at}
 use Rattle.oram_host.specs.Refusals.{code_of}
 
--- a tree of depth 1 with records of two bytes, of which two were stored
+-- a tree of depth 1 with records of two bytes; two of its records were stored
 abbrev kept : Kept
 kept = record { depth = 1; record_len = 2; records = (0, 17 ∷ 18 ∷ []) ∷ (2, 19 ∷ 20 ∷ []) ∷ [] }
 
