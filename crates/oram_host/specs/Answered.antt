@@ -8,12 +8,26 @@ use Rattle.oram_wire.specs.FrameStream.{IsBody, frame}
 abbrev pub frames_of : {X : Type 0} → (X → List ℕ) → List X → List ℕ
 frames_of body xs = flat_map (λ x. frame (body x)) xs
 
+-- What answers frames, and the bytes of its reader and of its writer, where they are known.
+pub record Answering (P : Type 0) : Type 0 where
+  pub state : P
+  pub unread : Option (List ℕ)  -- what the reader will give
+  pub written : Option (List ℕ)  -- what was written by now
+
+-- Some things, such as the requests of a connection, that were answered one after the other.
+pub record AnsweredRun (P X : Type 0) : Type 0 where
+  pub before : Answering P
+  pub things : List X
+  pub part : List ℕ  -- what was read behind the frames of their requests
+  pub more : List ℕ  -- what was written behind the frames of their answers
+  pub after : Answering P
+
 -- for things that lead from one state to another, each with a body that is read and one that is written
 module _ {P X : Type 0} (leads : P → X → P → Type 0) (request answer : X → List ℕ) where
-  -- The things `xs` lead from p to q. The frames of their requests were read, and then `part`; the frames of their
-  -- answers were written, and then `more`.
-  pub record HasAnswered (p : P) (xs : List X) (q : P) (part : List ℕ) (unread unread' : Option (List ℕ)) (more : List ℕ) (written written' : Option (List ℕ)) : Type 0 where
-    pub led : FoldsTo leads p xs q
-    pub fits : All (λ x. IsBody (request x)) xs
-    pub read : Consumes unread unread' (frames_of request xs ++ part)
-    pub wrote : Appends written written' (frames_of answer xs ++ more)
+  -- The things lead from the state before to the one after. The frames of their requests were read, and then `part`; the
+  -- frames of their answers were written, and then `more`.
+  pub record HasAnswered (r : AnsweredRun P X) : Type 0 where
+    pub led : FoldsTo leads r.before.state r.things r.after.state
+    pub fits : All (λ x. IsBody (request x)) r.things
+    pub read : Consumes r.before.unread r.after.unread (frames_of request r.things ++ r.part)
+    pub wrote : Appends r.before.written r.after.written (frames_of answer r.things ++ r.more)

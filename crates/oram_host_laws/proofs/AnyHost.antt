@@ -30,7 +30,7 @@ use Rattle.oram_semantics.proofs.AgreeSteps.{agreeing_fits}
 use Rattle.oram_semantics.proofs.Bounds.{IsFit, fit_device, some_trees}
 use Rattle.oram_semantics.proofs.Judged.{bytes_same}
 use Rattle.oram_host_laws.specs.Honest.{KeepsAll}
-use Rattle.oram_host_laws.specs.HostRecords.{HostsBy, HostsWork}
+use Rattle.oram_host_laws.specs.HostRecords.{HostedEvent, HostsBy, HostsWork}
 use Rattle.oram_host_laws.specs.AnyHost.{LyingHostsFail, ShowsPair}
 use Rattle.oram_host_laws.proofs.HonestSteps.{Goes, goes_good, goes_stalled}
 use Rattle.oram_host_laws.proofs.Handed.{fetch_leaves}
@@ -162,9 +162,10 @@ lying_hosts_fail v s t w array bytes x host after device alive waits serving hos
     let off : shows_in v s w (Answer bytes) ≡ false =
     ap (λ (k : Bool). is_waiting (status_in s) && k) (apart v s w fit alive host after b bytes lie.apart)
     ∙ elim (is_waiting (status_in s)) as (λ k. (k && false) ≡ false) [ true ↦ refl | false ↦ refl ] in
+    let event : HostedEvent = record { before = s; world = w; array = array; event = Answer bytes; shown = x; after = t; host = after } in
     elim (lied v s w fit alive host after b lie.answer (met v s w host after lie.answer b.work lie.heard) lie.room o) [
       | inl goes ↦
-          inl (served_on v s t w array (Answer bytes) x after device serving off
+          inl (served_on v event device serving off
           (subst (λ (now : Status). Goes v s w after (on_answer v s w now o)) (sym waits) goes) steps)
       | inr why ↦
           let mv : Moves v s w (Answer bytes) x t = steps w (agreeing_fits v s w fit serving.orderly serving.agrees serving.holds) off in

@@ -23,7 +23,7 @@ use Rattle.oram_semantics.proofs.AgreeSteps.{agreeing_fits}
 use Rattle.oram_semantics.proofs.Bounds.{IsFit, fit_device}
 use Rattle.oram_semantics.proofs.ArrayService.{cores_serve, new_cores_serve}
 use Rattle.oram_host_laws.specs.Honest.{HeardOrNot, IsHonest}
-use Rattle.oram_host_laws.specs.HostRecords.{GoesOnHosted, Hosts, HostsBy, HostsWork}
+use Rattle.oram_host_laws.specs.HostRecords.{GoesOnHosted, HostedEvent, Hosts, HostsBy, HostsWork}
 use Rattle.oram_host_laws.specs.Law.{HonestHostsServe, NewHostsServe}
 use Rattle.oram_host_laws.proofs.FormattedHosts.{formatted_kept}
 use Rattle.oram_host_laws.proofs.HonestSteps.{Goes, goes_again, goes_good, goes_stalled, goes_submitted, goes_unchanged}
@@ -149,27 +149,29 @@ module _ (v : Scheme) (s : State) (w : World) (fit : IsFit v.device) (alive : s.
   apart host after Retry h honest = refl
 
 -- the event doesn't fail the core, and shows no two records with the same digest
-pub served_on : (v : Scheme) (s t : State) (w : World) (array : ℕ → List ℕ) (event : Event) (x : Shown) (after : Host) → IsDevice v.device
-    → IsServing v s w array → shows_in v s w event ≡ false → Goes v s w after (moved v s w event) → StepsByRule v s event x t
-    → GoesOnHosted v s t w array event x after
-served_on v s t w array event x after device serving off one steps =
+pub served_on : (v : Scheme) (e : HostedEvent) → IsDevice v.device → IsServing v e.before e.world e.array → shows_in v e.before e.world e.event ≡ false
+    → Goes v e.before e.world e.host (moved v e.before e.world e.event) → StepsByRule v e.before e.event e.shown e.after → GoesOnHosted v e
+served_on v e device serving off one steps =
     let fit : IsFit v.device = fit_device v.device device in
-    let mv : Moves v s w event x t = steps w (agreeing_fits v s w fit serving.orderly serving.agrees serving.holds) off in
-    let healthy : t.failure ≡ None = ap (λ (u : State). u.failure) mv.state ∙ one.alive in
-    let on = cores_serve v s t w array event x device serving.orderly serving.holds serving.agrees serving.serves off steps healthy in
+    let mv : Moves v e.before e.world e.event e.shown e.after =
+    steps e.world (agreeing_fits v e.before e.world fit serving.orderly serving.agrees serving.holds) off in
+    let healthy : e.after.failure ≡ None = ap (λ (u : State). u.failure) mv.state ∙ one.alive in
+    let on =
+    cores_serve v e.before e.after e.world e.array e.event e.shown device serving.orderly serving.holds serving.agrees serving.serves off steps healthy in
     record {
       apart = off;
       calm = ap fails_now mv.note ∙ one.calm;
       alive = healthy;
       goes_on = on;
-      hosts = one.hosts x t mv (record { alive = healthy; orderly = on.orderly; holds = on.holds; agrees = on.agrees });
+      hosts = one.hosts e.shown e.after mv (record { alive = healthy; orderly = on.orderly; holds = on.holds; agrees = on.agrees });
     }
 
 pub honest_hosts_serve : HonestHostsServe
 honest_hosts_serve v s t w array event x host after device alive serving hosts steps honest =
     let fit : IsFit v.device = fit_device v.device device in
     let off : shows_in v s w event ≡ false = apart v s w fit alive serving.orderly host after event hosts honest in
-    served_on v s t w array event x after device serving off (goes v s w fit alive serving.orderly host after event hosts honest) steps
+    let e : HostedEvent = record { before = s; world = w; array = array; event = event; shown = x; after = t; host = after } in
+    served_on v e device serving off (goes v s w fit alive serving.orderly host after event hosts honest) steps
 
 pub new_hosts_serve : NewHostsServe
 new_hosts_serve v trees host device light made puts =

@@ -46,4 +46,5 @@ abbrev pub LyingHostsFail : Type 0
 LyingHostsFail = (v : Scheme) (s t : State) (w : World) (array : ℕ → List ℕ) (bytes : List ℕ) (x : Shown) (host after : Host)
     → IsDevice v.device → s.failure ≡ None → status_in s ≡ Waiting → IsServing v s w array → Hosts v s w host
     → StepsByRule v s (Answer bytes) x t → IsLie v host s.message bytes after
-    → GoesOnHosted v s t w array (Answer bytes) x after ⊎ FailsAll s x t
+    → GoesOnHosted v (record { before = s; world = w; array = array; event = Answer bytes; shown = x; after = t; host = after })
+    ⊎ FailsAll s x t

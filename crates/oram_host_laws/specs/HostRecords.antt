@@ -35,11 +35,25 @@ HostsBy v s w host (x ∷ rest) = HostsWork v s w host
 abbrev pub Hosts : Scheme → State → World → Host → Type 0
 Hosts v s w host = HostsBy v s w host s.queue
 
+-- One event of a core over a host.
+pub record HostedEvent : Type 0 where
+  pub before : State  -- the core before the event
+  pub world : World  -- the world that its trees stand in
+  pub array : ℕ → List ℕ  -- what the trees hold there
+  pub event : Event
+  pub shown : Shown  -- what the core showed
+  pub after : State  -- the core after the event
+  pub host : Host  -- the host after the event
+
+-- the world after the event
+abbrev pub next_world : Scheme → HostedEvent → World
+next_world v e = world_after v e.world (moved v e.before e.world e.event) e.shown.sends
+
 -- After an event of an honest host: it showed no two records with the same digest and didn't fail the device, the core
 -- goes on and serves the array, and the host keeps the records of the world after the event.
-pub record GoesOnHosted (v : Scheme) (s t : State) (w : World) (array : ℕ → List ℕ) (event : Event) (x : Shown) (after : Host) : Type 0 where
-  pub apart : shows_in v s w event ≡ false
-  pub calm : fails_now x.note ≡ false
-  pub alive : t.failure ≡ None
-  pub goes_on : HasGoneOn v s t (world_after v w (moved v s w event) x.sends) array x
-  pub hosts : Hosts v t (world_after v w (moved v s w event) x.sends) after
+pub record GoesOnHosted (v : Scheme) (e : HostedEvent) : Type 0 where
+  pub apart : shows_in v e.before e.world e.event ≡ false
+  pub calm : fails_now e.shown.note ≡ false
+  pub alive : e.after.failure ≡ None
+  pub goes_on : HasGoneOn v e.before e.after (next_world v e) e.array e.shown
+  pub hosts : Hosts v e.after (next_world v e) e.host

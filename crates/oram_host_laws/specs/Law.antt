@@ -18,7 +18,8 @@ use Rattle.oram_host_laws.specs.HostRecords.{Hosts, GoesOnHosted}
 abbrev pub HonestHostsServe : Type 0
 HonestHostsServe = (v : Scheme) (s t : State) (w : World) (array : ℕ → List ℕ) (event : Event) (x : Shown) (host after : Host)
     → IsDevice v.device → s.failure ≡ None → IsServing v s w array → Hosts v s w host → StepsByRule v s event x t
-    → IsHonest (status_in s) s.message event host after → GoesOnHosted v s t w array event x after
+    → IsHonest (status_in s) s.message event host after
+    → GoesOnHosted v (record { before = s; world = w; array = array; event = event; shown = x; after = t; host = after })
 
 -- A device that has just been formatted, over a host that kept nothing and took each message, serves an array of zeros.
 pub record IsNewHosted (v : Scheme) (s : State) (w : World) (host : Host) : Type 0 where

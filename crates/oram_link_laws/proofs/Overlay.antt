@@ -6,7 +6,7 @@ use Rattle.std.proofs.Math.Nat.{pow-le-pow_right}
 use Rattle.oram_host.specs.Answers.{IsFetched, IsStored}
 use Rattle.oram_host.specs.Host.{Host, Kept, record_of, tree_at}
 use Rattle.oram_host.specs.Path.{IsPath, StoresPath, node_on, record_at}
-use Rattle.oram_link_laws.specs.Overlay.{IsLaidOver, LaidOverIsFetchedLater, LaysAllOver, LaysOver}
+use Rattle.oram_link_laws.specs.Overlay.{IsLaidOver, LaidOverIsFetchedLater, LaysAllOver, LaysOver, TreePath, fetched_path}
 use Rattle.oram_link_laws.specs.ResentStores.{AreStores, IsStore, TakesEach}
 use Rattle.oram_link_laws.proofs.ResentStores.{found_or_not, is_stored}
 
@@ -39,9 +39,9 @@ one_kept : (a b : Kept) → Some a ≡ Some b → a ≡ b
 one_kept a b e = ap (λ (o : Option Kept). unwrap_or o a) e
 
 -- the path after one STORE to its tree
-path_after : (old new : Kept) (leaf other : ℕ) (records bytes laid : List ℕ) → leaf < 2 ^ old.depth → IsPath old leaf bytes → StoresPath old other records new
-    → IsLaidOver old.depth old.record_len leaf other records bytes laid → IsPath new leaf laid
-path_after old new leaf other records bytes laid leaf_in path stores over =
+path_after : (old new : Kept) (tree leaf other : ℕ) (records bytes laid : List ℕ) → leaf < 2 ^ old.depth → IsPath old leaf bytes → StoresPath old other records new
+    → IsLaidOver (record { tree = tree; depth = old.depth; record_len = old.record_len; leaf = leaf }) other records bytes laid → IsPath new leaf laid
+path_after old new tree leaf other records bytes laid leaf_in path stores over =
     let d : ℕ = old.depth in
     let len : ℕ = old.record_len in
     let each : (level : ℕ) → level ≤ old.depth → record_of new (node_on old.depth leaf level) ≡ Some (record_at old.record_len laid level) =
@@ -67,38 +67,38 @@ path_after old new leaf other records bytes laid leaf_in path stores over =
           ∙ ap (λ (l : ℕ). Some (record_at l laid level)) (sym stores.record_len);
     }
 
--- the path was fetched, of a tree with this shape
-record FetchedAs (host : Host) (tree leaf depth len : ℕ) (bytes : List ℕ) : Type 0 where
-  fetched : IsFetched host tree leaf bytes
-  deep : fetched.kept.depth ≡ depth
-  long : fetched.kept.record_len ≡ len
+-- the path was fetched
+record FetchedAs (host : Host) (p : TreePath) (bytes : List ℕ) : Type 0 where
+  fetched : IsFetched host p.tree p.leaf bytes
+  deep : fetched.kept.depth ≡ p.depth
+  long : fetched.kept.record_len ≡ p.record_len
 
-fetched_after : (old new : Host) (tree leaf depth len : ℕ) (bytes laid : List ℕ) (body : List ℕ) (s : IsStore body) → FetchedAs old tree leaf depth len bytes
-    → IsStored old s.tree s.leaf s.records new → LaysOver tree depth len leaf s bytes laid → FetchedAs new tree leaf depth len laid
-fetched_after old new tree leaf depth len bytes laid body s f k (inl over) =
+fetched_after : (old new : Host) (p : TreePath) (bytes laid : List ℕ) (body : List ℕ) (s : IsStore body) → FetchedAs old p bytes
+    → IsStored old s.tree s.leaf s.records new → LaysOver p s bytes laid → FetchedAs new p laid
+fetched_after old new p bytes laid body s f k (inl over) =
     let was : tree_at old s.tree ≡ Some f.fetched.kept = ap (tree_at old) over.0 ∙ f.fetched.shaped in
     let same : k.kept ≡ f.fetched.kept = one_kept k.kept f.fetched.kept (sym k.shaped ∙ was) in
     let stores : StoresPath f.fetched.kept s.leaf s.records k.stored = subst (λ (x : Kept). StoresPath x s.leaf s.records k.stored) same k.stores in
-    let Q : ℕ → Type 0 = λ d. IsLaidOver d len leaf s.leaf s.records bytes laid in
-    let R : ℕ → Type 0 = λ l. IsLaidOver f.fetched.kept.depth l leaf s.leaf s.records bytes laid in
+    let Q : ℕ → Type 0 = λ d. IsLaidOver (record p { depth = d }) s.leaf s.records bytes laid in
+    let R : ℕ → Type 0 = λ l. IsLaidOver (record p { depth = f.fetched.kept.depth; record_len = l }) s.leaf s.records bytes laid in
     let laid_over = subst R (sym f.long) (subst Q (sym f.deep) over.1) in
-    let P : ℕ → Type 0 = λ d. leaf < 2 ^ d in
+    let P : ℕ → Type 0 = λ d. p.leaf < 2 ^ d in
     record {
       fetched = record {
         kept = k.stored;
         shaped = ap (tree_at new) (sym over.0) ∙ k.keeps.here;
         leaf_in = subst P (sym stores.depth) f.fetched.leaf_in;
-        path = path_after f.fetched.kept k.stored leaf s.leaf s.records bytes laid f.fetched.leaf_in f.fetched.path stores laid_over;
+        path = path_after f.fetched.kept k.stored p.tree p.leaf s.leaf s.records bytes laid f.fetched.leaf_in f.fetched.path stores laid_over;
       };
       deep = stores.depth ∙ f.deep;
       long = stores.record_len ∙ f.long;
     }
-fetched_after old new tree leaf depth len bytes laid body s f k (inr other) =
-    let P : List ℕ → Type 0 = λ xs. FetchedAs new tree leaf depth len xs in
+fetched_after old new p bytes laid body s f k (inr other) =
+    let P : List ℕ → Type 0 = λ xs. FetchedAs new p xs in
     subst P (sym other.1) (record {
       fetched = record {
         kept = f.fetched.kept;
-        shaped = k.keeps.others tree (λ e. other.0 (sym e)) ∙ f.fetched.shaped;
+        shaped = k.keeps.others p.tree (λ e. other.0 (sym e)) ∙ f.fetched.shaped;
         leaf_in = f.fetched.leaf_in;
         path = f.fetched.path;
       };
@@ -106,16 +106,15 @@ fetched_after old new tree leaf depth len bytes laid body s f k (inr other) =
       long = f.long;
     })
 
-fetched_later : (bodies : List (List ℕ)) (are : AreStores bodies) (host after : Host) (tree leaf depth len : ℕ) (bytes laid : List ℕ)
-    → FetchedAs host tree leaf depth len bytes → TakesEach host bodies after → LaysAllOver tree depth len leaf bodies are bytes laid
-    → FetchedAs after tree leaf depth len laid
-fetched_later [] are host after tree leaf depth len bytes laid f to over =
-    subst (λ (h : Host). FetchedAs h tree leaf depth len laid) to (subst (λ (xs : List ℕ). FetchedAs host tree leaf depth len xs) over f)
-fetched_later (body ∷ bodies) are host after tree leaf depth len bytes laid f to over =
-    fetched_later bodies are.1 to.0 after tree leaf depth len over.0 laid
-    (fetched_after host to.0 tree leaf depth len bytes over.0 body are.0 f (is_stored host to.0 body are.0 to.1) over.1) to.2 over.2
+fetched_later : (bodies : List (List ℕ)) (are : AreStores bodies) (host after : Host) (p : TreePath) (bytes laid : List ℕ)
+    → FetchedAs host p bytes → TakesEach host bodies after → LaysAllOver p bodies are bytes laid → FetchedAs after p laid
+fetched_later [] are host after p bytes laid f to over =
+    subst (λ (h : Host). FetchedAs h p laid) to (subst (λ (xs : List ℕ). FetchedAs host p xs) over f)
+fetched_later (body ∷ bodies) are host after p bytes laid f to over =
+    fetched_later bodies are.1 to.0 after p over.0 laid
+    (fetched_after host to.0 p bytes over.0 body are.0 f (is_stored host to.0 body are.0 to.1) over.1) to.2 over.2
 
 pub laid_over_is_fetched_later : LaidOverIsFetchedLater
 laid_over_is_fetched_later host after tree leaf bytes new bodies are fetched to over =
-    (fetched_later bodies are host after tree leaf fetched.kept.depth fetched.kept.record_len bytes new
+    (fetched_later bodies are host after (fetched_path fetched) bytes new
     (record { fetched = fetched; deep = refl; long = refl }) to over).fetched

@@ -13,7 +13,7 @@ use Rattle.oram_host.specs.Path.{node_on, record_at}
 use Rattle.oram_host.specs.Service.{Serves}
 use Rattle.oram_host_laws.specs.Honest.{Takes}
 use Rattle.oram_link_laws.specs.Examples.{MendingExample, OverlayExample, ResendingExample, StreamExample, both_stores, over_bytes, small_host, store_left, store_right}
-use Rattle.oram_link_laws.specs.Overlay.{IsLaidOver}
+use Rattle.oram_link_laws.specs.Overlay.{IsLaidOver, fetched_path}
 use Rattle.oram_link_laws.specs.ResentStores.{IsStore, TakesEach}
 use Rattle.oram_link_laws.specs.Runs.{HostRun, acknowledged}
 use Rattle.oram_link_laws.proofs.Put.{first, serves_so}
@@ -192,7 +192,7 @@ leaf_apart zero low apart = absurd (apart refl)
 leaf_apart (suc zero) low apart = refl
 leaf_apart (suc (suc n)) low apart = absurd (omega (arith, low))
 
-root_laid_over : IsLaidOver 1 1 0 1 (30 ∷ 31 ∷ []) (10 ∷ 11 ∷ []) (30 ∷ 11 ∷ [])
+root_laid_over : IsLaidOver (fetched_path is_fetched) 1 (30 ∷ 31 ∷ []) (10 ∷ 11 ∷ []) (30 ∷ 11 ∷ [])
 root_laid_over = record { whole = refl; shared = root_shared; others = leaf_apart }
 
 pub overlay_example : OverlayExample

@@ -19,7 +19,7 @@ use Rattle.oram_session.specs.Streams.{StreamCall, ToStreams}
 use Rattle.oram_session.specs.Turns.{Turn, IsTurn}
 use Rattle.oram_session.specs.declared.link.LinkFault.TheVariants.{Io}
 use Rattle.oram_link_laws.specs.Repair.{AreAmong, HearsEach}
-use Rattle.oram_link_laws.specs.Overlay.{LaysAllOver}
+use Rattle.oram_link_laws.specs.Overlay.{LaysAllOver, fetched_path}
 use Rattle.oram_link_laws.specs.ResentStores.{AreStores, TakesEach}
 use Rattle.oram_link_laws.specs.Runs.{Exchange, HeardRun, HostRun, IsHeldBy, LinkRun, acknowledged, bodies_of, exchanges_in}
 use Rattle.oram_link_laws.specs.Streamed.{Supplies}
@@ -65,7 +65,7 @@ MendingExample = AreStores both_stores × AreAmong (bodies_of heard_twice) both_
 abbrev pub OverlayExample : Type 0
 OverlayExample = (are : AreStores (store_right ∷ [])) × (fetched : IsFetched (small_host 10 11 12) 0 0 (10 ∷ 11 ∷ []))
     × TakesEach (small_host 10 11 12) (store_right ∷ []) (small_host 30 11 31)
-    × LaysAllOver 0 fetched.kept.depth fetched.kept.record_len 0 (store_right ∷ []) are (10 ∷ 11 ∷ []) (30 ∷ 11 ∷ [])
+    × LaysAllOver (fetched_path fetched) (store_right ∷ []) are (10 ∷ 11 ∷ []) (30 ∷ 11 ∷ [])
 
 -- the bytes of such a reader or writer are known
 abbrev pub known : List ℕ → Option (List ℕ)

@@ -81,14 +81,23 @@ HonestLinksAreRun {L} calls = (host_of : L → Host) → IsHonestLink calls host
 abbrev pub BesideGivesInside : {L : Type 0} → (L → List ℕ → Outcome → L → Type 0) → Type 0
 BesideGivesInside {L} calls = SessionsAreTheArraysBeside calls → SessionsAreTheArrays calls
 
+-- some turns of a session, and the core, the link and the host beside it, before and after them
+pub record TurnsBeside (L : Type 0) : Type 0 where
+  pub before : State × L
+  pub host : Host  -- the host before the turns
+  pub turns : List Turn
+  pub after : State × L
+  pub left : Host  -- the host after the turns
+
 -- A session beside a host that receives each message and may lie is a session over one link, the pair of the link and that
 -- host. The host is a function of the pair's value, so every law about links to such a host holds of the host beside.
 pub record IsSessionBeside (may_lie : Bool) (v : Scheme) {L : Type 0} (calls : L → List ℕ → Outcome → L → Type 0) (words : ℕ → ℕ → List ℕ) (session : ℕ)
-    (p : State × L) (host : Host) (turns : List Turn) (q : State × L) (left : Host) : Type 0 where
+    (t : TurnsBeside L) : Type 0 where
   pub heard : IsHeardLink may_lie v {L = L × Host} (Beside calls (IsHeardCall may_lie v)) (λ l. l.1)
-  pub session_of : FoldsTo {P = State × (L × Host)} (IsTurn v (Beside calls (IsHeardCall may_lie v)) words session) (p.0, (p.1, host)) turns (q.0, (q.1, left))
+  pub session_of : FoldsTo {P = State × (L × Host)} (IsTurn v (Beside calls (IsHeardCall may_lie v)) words session)
+      (t.before.0, (t.before.1, t.host)) t.turns (t.after.0, (t.after.1, t.left))
 
 abbrev pub SessionsBesideHeardHosts : {L : Type 0} → (L → List ℕ → Outcome → L → Type 0) → Type 0
 SessionsBesideHeardHosts {L} calls = (may_lie : Bool) (v : Scheme) (words : ℕ → ℕ → List ℕ) (session : ℕ) (p q : State × L) (turns : List Turn) (host left : Host)
     → FoldsTo {P = State × L} (IsTurn v calls words session) p turns q → HeardRun may_lie v host (exchanges_in turns) left
-    → IsSessionBeside may_lie v calls words session p host turns q left
+    → IsSessionBeside may_lie v calls words session (record { before = p; host = host; turns = turns; after = q; left = left })

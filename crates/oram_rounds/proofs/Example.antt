@@ -21,7 +21,7 @@ use Rattle.oram_rounds.specs.Examples.{DirectBatches, OneWaitsExample, one_ahead
 use Rattle.oram_rounds.specs.Rounds.{RoundCall, WentAhead}
 use Rattle.oram_rounds.specs.CatchUp.{CatchesUp, left_by}
 use Rattle.oram_rounds.specs.Law.{AreAhead, IsStocked}
-use Rattle.oram_rounds.specs.Overlay.{IsOverlaid, LaysAllOver, holds_path}
+use Rattle.oram_rounds.specs.Overlay.{IsOverlaid, LaysAllOver, holds_path, tree_path}
 use Rattle.oram_rounds.specs.PathMessages.{IsPathFetch, IsPathStore}
 use Rattle.oram_rounds.proofs.CatchUp.{put_catches}
 use Rattle.oram_rounds.proofs.KeptPaths.{serves_fetch}
@@ -119,9 +119,9 @@ gives = serves_fetch new_host new_host 0 0 (Payload zeros) (omega arith) (fetche
 
 -- the ones are laid over them
 
-laid : IsLaidOver (depth_of one_block.device 0) 88 0 0 ones zeros ones
+laid : IsLaidOver (tree_path one_block.device 88 0 0) 0 ones zeros ones
 laid =
-    let P : ℕ → Type 0 = λ d. IsLaidOver d 88 0 0 ones zeros ones in
+    let P : ℕ → Type 0 = λ d. IsLaidOver (record { tree = 0; depth = d; record_len = 88; leaf = 0 }) 0 ones zeros ones in
     subst P no_depth (record { whole = refl; shared = λ l low same. refl; others = λ l low apart. absurd (apart refl) })
 
 overlaid : IsOverlaid one_block.device 88 0 0 (store_body 0 0 ones ∷ []) (payload_answer zeros) (payload_answer ones)

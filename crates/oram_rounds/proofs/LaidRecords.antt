@@ -27,10 +27,10 @@ copied records rest n a k some within =
     ∙ drop-take a k records
 
 -- the levels down to `shared` are those of the STORE's path, and the levels below it those of the path
-pub laid_over : (depth len leaf other shared : ℕ) (records path : List ℕ) → length records ≡ (depth + 1) * len → length path ≡ (depth + 1) * len → shared ≤ depth
+pub laid_over : (tree depth len leaf other shared : ℕ) (records path : List ℕ) → length records ≡ (depth + 1) * len → length path ≡ (depth + 1) * len → shared ≤ depth
     → ((l : ℕ) → l ≤ depth → (MeetsAt depth leaf other l) ↔ (l ≤ shared))
-    → IsLaidOver depth len leaf other records path (take ((shared + 1) * len) records ++ drop ((shared + 1) * len) path)
-laid_over depth len leaf other shared records path long whole within meets =
+    → IsLaidOver (record { tree = tree; depth = depth; record_len = len; leaf = leaf }) other records path (take ((shared + 1) * len) records ++ drop ((shared + 1) * len) path)
+laid_over tree depth len leaf other shared records path long whole within meets =
     let n : ℕ = (shared + 1) * len in
     let most : (shared + 1) * len ≤ (depth + 1) * len = mul-le-mul_right len (omega (arith, within)) in
     let size : length (take n records) ≡ n = length-take-le n records (omega (arith, most, long)) in

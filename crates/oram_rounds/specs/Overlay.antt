@@ -4,15 +4,19 @@ use Rattle.oram_geometry.specs.declared.Sizes.{Sizes}
 use Rattle.oram_geometry.specs.Sizes.{depth_of}
 use Rattle.oram_wire.specs.HostMessages.{payload_answer}
 use Rattle.oram_wire.specs.declared.host_messages.TheConstants.{GOOD}
-use Rattle.oram_link_laws.specs.Overlay.{IsLaidOver}
+use Rattle.oram_link_laws.specs.Overlay.{IsLaidOver, TreePath}
 use Rattle.oram_rounds.specs.PathMessages.{IsPathStore}
 
 -- of a device, with records of this length, and the path of a leaf
 module _ (d : Sizes) (record_len tree leaf : ℕ) where
+  -- this path
+  abbrev pub tree_path : TreePath
+  tree_path = record { tree = tree; depth = depth_of d tree; record_len = record_len; leaf = leaf }
+
   -- the records of one STORE are laid over the path; a STORE to another tree changes nothing
   abbrev pub LaysOver : List ℕ → List ℕ → List ℕ → Type 0
   LaysOver body bytes new = (s : IsPathStore d record_len body)
-      × (((s.tree ≡ tree) × IsLaidOver (depth_of d tree) record_len leaf s.leaf s.records bytes new) ⊎ ((s.tree ≢ tree) × (new ≡ bytes)))
+      × (((s.tree ≡ tree) × IsLaidOver tree_path s.leaf s.records bytes new) ⊎ ((s.tree ≢ tree) × (new ≡ bytes)))
 
   -- those of several STOREs, one STORE after the other
   abbrev pub LaysAllOver : List (List ℕ) → List ℕ → List ℕ → Type 0

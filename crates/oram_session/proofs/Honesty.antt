@@ -32,7 +32,7 @@ use Rattle.oram_semantics.specs.declared.events.Submission.{Submission}
 use Rattle.oram_core.specs.PlainSteps.{Done as Did, submitted_by}
 use Rattle.oram_core.specs.Steps.{Steps, Heard, did}
 use Rattle.oram_host_laws.specs.Honest.{IsHonest, Takes}
-use Rattle.oram_host_laws.specs.HostRecords.{GoesOnHosted, Hosts, HostsBy, HostsWork}
+use Rattle.oram_host_laws.specs.HostRecords.{GoesOnHosted, HostedEvent, Hosts, HostsBy, HostsWork}
 use Rattle.oram_host_laws.specs.Law.{IsNewHosted}
 use Rattle.oram_host_laws.specs.AnyHost.{IsLie}
 use Rattle.oram_host_laws.proofs.Honest.{honest_hosts_serve, new_hosts_serve}
@@ -184,7 +184,8 @@ module _ (may_lie : Bool) {L : Type 0} (calls : L → List ℕ → Outcome → L
       (Working q x array × (replies ≡ []))
       ⊎ ((IsHeld v host_of q (array_after v.device x.command array) × (replies ≡ reply_by array x ∷ [])) ⊎ Failing q x replies)
 
-  module _ (s t : State) (m : L) (x : Submission) (array : ℕ → List ℕ) (w : World) (o : Outcome) (shown : Shown) (queue : s.queue ≡ x ∷ []) (heard : Heard v s (did shown t)) (on : GoesOnHosted v s t w array (event_of o) shown (host_of m)) where
+  module _ (s t : State) (m : L) (x : Submission) (array : ℕ → List ℕ) (w : World) (o : Outcome) (shown : Shown) (queue : s.queue ≡ x ∷ []) (heard : Heard v s (did shown t))
+      (on : GoesOnHosted v (record { before = s; world = w; array = array; event = event_of o; shown = shown; after = t; host = host_of m })) where
     next : Next (t, m) x array shown.replies
     next = elim on.goes_on.served [
       | inl quiet ↦ inl (
@@ -235,7 +236,8 @@ module _ (may_lie : Bool) {L : Type 0} (calls : L → List ℕ → Outcome → L
         let called : IsHonest (status_in p.0) p.0.message (event_of o) (host_of at) (host_of q.1) =
         subst (λ (now : Status). IsHonest now p.0.message (event_of o) (host_of at) (host_of q.1)) (sym waits)
         (as_honest o p.0.message (host_of at) (host_of q.1) honest) in
-        let on : GoesOnHosted v p.0 q.0 b.world array (event_of o) shown (host_of q.1) =
+        let e : HostedEvent = record { before = p.0; world = b.world; array = array; event = event_of o; shown = shown; after = q.0; host = host_of q.1 } in
+        let on : GoesOnHosted v e =
         honest_hosts_serve v p.0 q.0 b.world array (event_of o) shown (host_of at) (host_of q.1) device b.alive b.serving hosts_at step.moves called in
         next p.0 q.0 q.1 x array b.world o shown b.queue (heard_is v p.0 q.0 o shown waits answered step) on
     answered_by o step answered (inr lie) =
@@ -261,7 +263,8 @@ module _ (may_lie : Bool) {L : Type 0} (calls : L → List ℕ → Outcome → L
       let x : Submission = record { session = session; ticket = p.0.next; command = c; words = words } in
       let event : Event = Submit session c words in
       let rests : p.0.queue ≡ [] = resting p.0 held.no_work held.alive in
-      let on : GoesOnHosted v p.0 begun held.world array event shown (host_of p.1) =
+      let e : HostedEvent = record { before = p.0; world = held.world; array = array; event = event; shown = shown; after = begun; host = host_of p.1 } in
+      let on : GoesOnHosted v e =
       honest_hosts_serve v p.0 begun held.world array event shown (host_of p.1) (host_of p.1) device held.alive held.serving held.hosts step.moves
       (submit_honest (status_in p.0) p.0.message session c words (host_of p.1)) in
       let serves : ServesArray v begun (world_after v held.world (moved v p.0 held.world event) shown.sends) array =

@@ -1,19 +1,18 @@
 //! A session: takes request frames from a reader, and writes reply frames to a writer, with the core in between.
-ghost use Rattle.std.specs.Prelude.{◌≡◌, ◌⊎◌, ℕ, ◌*◌, ◌<◌, ◌≤◌, [], List, length, take, IfOk, IfErr, IsErrOf, OnOk, OnErr};
-ghost use Rattle.std.specs.Io.KnownBytes.{Appends, IsAtEnd};
+ghost use Rattle.std.specs.Prelude.{◌≡◌, ◌⊎◌, ℕ, ◌*◌, [], take, IfOk, IfErr, IsErrOf, OnOk, OnErr};
+ghost use Rattle.std.specs.Io.KnownBytes.{Appends};
 ghost use Rattle.oram_geometry.specs.Sizes.{IsDevice, trees_of};
-ghost use Rattle.oram_wire.specs.FrameStream.{IsBody, IsBroken, IsUnfinished, frame};
+ghost use Rattle.oram_wire.specs.FrameStream.{IsBody, frame};
 ghost use Rattle.oram_wire.specs.SessionMessages.{session_reply_body};
 ghost use Rattle.oram_wire.specs.SessionBodies.{IsSessionReply};
 ghost use Rattle.oram_semantics.specs.Run.{shown_by};
-ghost use Rattle.oram_semantics.specs.State.{State};
 ghost use Rattle.oram_semantics.specs.declared.events.Event.TheVariants.{Submit};
 ghost use Rattle.oram_core.specs.Core.{IsSameDevice, scheme_of};
 ghost use Rattle.oram_core.specs.PlainSteps.{done};
 ghost use Rattle.oram_core.specs.Steps.{Steps};
 ghost use Rattle.oram_session.specs.CoreWork.{HasNoWork, IsBegun};
 ghost use Rattle.oram_session.specs.Turns.{Turn, IsTurn, IsStuck, IsCutTurn};
-ghost use Rattle.oram_session.specs.Sessions.{HasServedSession, IsLeft, LeavesCore, reply_frame};
+ghost use Rattle.oram_session.specs.Sessions.{EndsSession, LeavesCore};
 
 use crate::exchanges::carry_out;
 use crate::link::Link;
@@ -136,110 +135,10 @@ pub fn serve<S: Sealer, R: Read, W: Write, L: Link, T: Tape>(
     ensures kept { IsSameDevice core.old core.new }
     ensures no_work { LeavesCore result core.new.state }
     ensures tape { T.words tape.new ≡ T.words tape.old }
-    ensures ok { let v = scheme_of S.cipher core.old in
-        IfOk result (λ k. (turns : List Turn) × (length turns ≡ k)
-        × HasServedSession v L.calls (T.words tape.old) session (record {
-          before = (core.old.state, link.old);
-          turns = turns;
-          after = (core.new.state, link.new);
-          input = R.remaining reader.old;
-          part = [];
-          rest = R.remaining reader.new;
-          output = W.contents writer.old;
-          more = [];
-          written = W.contents writer.new;
-        })
-        × IsAtEnd (R.remaining reader.new)) }
-
-    // A frame's length is too great, the input ends inside a frame, or the reader fails before a frame is whole.
-    ensures frame { let v = scheme_of S.cipher core.old in
-        IsErrOf result ServeFault.Frame → (turns : List Turn) × (head : List ℕ) × (length head ≡ 4) × IsBroken head
-        × HasServedSession v L.calls (T.words tape.old) session (record {
-          before = (core.old.state, link.old);
-          turns = turns;
-          after = (core.new.state, link.new);
-          input = R.remaining reader.old;
-          part = head;
-          rest = R.remaining reader.new;
-          output = W.contents writer.old;
-          more = [];
-          written = W.contents writer.new;
-        }) }
-    ensures truncated { let v = scheme_of S.cipher core.old in
-        IsErrOf result ServeFault.Truncated → (turns : List Turn) × (part : List ℕ) × (0 < length part) × IsUnfinished part
-        × HasServedSession v L.calls (T.words tape.old) session (record {
-          before = (core.old.state, link.old);
-          turns = turns;
-          after = (core.new.state, link.new);
-          input = R.remaining reader.old;
-          part = part;
-          rest = R.remaining reader.new;
-          output = W.contents writer.old;
-          more = [];
-          written = W.contents writer.new;
-        })
-        × IsAtEnd (R.remaining reader.new) }
-    ensures read { let v = scheme_of S.cipher core.old in
-        IsErrOf result ServeFault.Read → (turns : List Turn) × (part : List ℕ) × IsUnfinished part
-        × HasServedSession v L.calls (T.words tape.old) session (record {
-          before = (core.old.state, link.old);
-          turns = turns;
-          after = (core.new.state, link.new);
-          input = R.remaining reader.old;
-          part = part;
-          rest = R.remaining reader.new;
-          output = W.contents writer.old;
-          more = [];
-          written = W.contents writer.new;
-        }) }
-
-    // Only a beginning of the last reply was written, or all of it but not flushed.
-    ensures write { let v = scheme_of S.cipher core.old in
-        IsErrOf result ServeFault.Write → (turns : List Turn) × (mid : State × L) × (last : Turn) × (count : ℕ) × IsBody last.body
-        × IsTurn v L.calls (T.words tape.old) session mid last (core.new.state, link.new)
-        × HasServedSession v L.calls (T.words tape.old) session (record {
-          before = (core.old.state, link.old);
-          turns = turns;
-          after = mid;
-          input = R.remaining reader.old;
-          part = frame last.body;
-          rest = R.remaining reader.new;
-          output = W.contents writer.old;
-          more = take count (reply_frame last);
-          written = W.contents writer.new;
-        }) }
-
-    // One message of the last request stalled four times.
-    ensures stalled { let v = scheme_of S.cipher core.old in
-        IsErrOf result ServeFault.Stalled → (turns : List Turn) × (mid : State × L) × (body : List ℕ) × IsBody body
-        × IsStuck v L.calls (T.words tape.old) session mid body (core.new.state, link.new)
-        × HasServedSession v L.calls (T.words tape.old) session (record {
-          before = (core.old.state, link.old);
-          turns = turns;
-          after = mid;
-          input = R.remaining reader.old;
-          part = frame body;
-          rest = R.remaining reader.new;
-          output = W.contents writer.old;
-          more = [];
-          written = W.contents writer.new;
-        }) }
-
-    // If memory runs out, everything done before stays done: these turns, and a last one as far as it came.
-    ensures memory { let v = scheme_of S.cipher core.old in
-        IsErrOf result ServeFault.OutOfMemory → (turns : List Turn) × (mid : State × L) × (part : List ℕ)
-        × IsLeft v L.calls (T.words tape.old) session mid part (core.new.state, link.new)
-        × HasServedSession v L.calls (T.words tape.old) session (record {
-          before = (core.old.state, link.old);
-          turns = turns;
-          after = mid;
-          input = R.remaining reader.old;
-          part = part;
-          rest = R.remaining reader.new;
-          output = W.contents writer.old;
-          more = [];
-          written = W.contents writer.new;
-        }) }
+    ensures ends { EndsSession (scheme_of S.cipher core.old) L.calls (T.words tape.old) session
+        (record { state = (core.old.state, link.old); unread = R.remaining reader.old; written = W.contents writer.old })
+        (record { state = (core.new.state, link.new); unread = R.remaining reader.new; written = W.contents writer.new })
+        result }
 {
     for served in 0..u64::MAX {
         let Some(body) = next_frame(alloc, reader)? else {

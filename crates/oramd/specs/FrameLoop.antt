@@ -1,10 +1,11 @@
 -- Session frames that are answered by a device that is made for them.
-use Rattle.std.specs.Prelude.{◌≡◌, ◌⊎◌, ℕ, List, [], Some, Result, Ok, Err, replicate}
+use Rattle.std.specs.Prelude.{◌≡◌, ◌⊎◌, ℕ, List, [], Result, Ok, Err, replicate}
 use Rattle.oram_geometry.specs.declared.Sizes.{Sizes}
 use Rattle.oram_geometry.specs.Sizes.{trees_of}
 use Rattle.oram_bucket.specs.Cipher.{plain_cipher}
 use Rattle.oram_semantics.specs.Scheme.{Scheme}
 use Rattle.oram_semantics.specs.State.{State}
+use Rattle.oram_host.specs.Answered.{Answering}
 use Rattle.oram_session.specs.Outcome.{Outcome}
 use Rattle.oram_session.specs.Sessions.{HasServedSession}
 use Rattle.oram_session.specs.Tapes.{chacha_words}
@@ -44,22 +45,18 @@ after_frames (Err serve.OutOfMemory) = Err OutOfMemory
 abbrev pub IsUnansweredFor : Fault → Type 0
 IsUnansweredFor fault = ((why : FormatFault) × (fault ≡ format_fault why)) ⊎ ((ended : Result ℕ ServeFault) × (Err fault ≡ after_frames ended))
 
--- The device was formatted over a link with these calls, and its session 0 answered these turns. It also read the bytes
+-- The device was formatted over a link with these calls, and its session 0 answered some turns. It also read the bytes
 -- `part` of a frame, and the replies were appended to what was there.
-pub record HasAnswered {L : Type 0} (calls : L → List ℕ → Outcome → L → Type 0) (from : L) (frames part replies replies' : List ℕ) (unread : List ℕ) (to : L) : Type 0 where
+pub record HasAnsweredFrames {L : Type 0} (calls : L → List ℕ → Outcome → L → Type 0) (p : Answering L) (part : List ℕ) (q : Answering L) : Type 0 where
   pub new : State
   pub mid : L
-  pub formatted : IsFormatted loop_scheme calls from new mid
+  pub formatted : IsFormatted loop_scheme calls p.state new mid
   pub turns : List Turn
   pub after : State
   pub served : HasServedSession loop_scheme calls loop_words 0 (record {
-    before = (new, mid);
-    turns = turns;
-    after = (after, to);
-    input = Some frames;
+    before = record { state = (new, mid); unread = p.unread; written = p.written };
+    things = turns;
     part = part;
-    rest = Some unread;
-    output = Some replies;
     more = [];
-    written = Some replies';
+    after = record { state = (after, q.state); unread = q.unread; written = q.written };
   })

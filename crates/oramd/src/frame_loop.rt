@@ -4,7 +4,7 @@ ghost use Rattle.std.specs.Prelude.{◌≡◌, ◌⊎◌, ℕ, [], length, List,
 ghost use Rattle.hex.specs.Hex.{decode_of};
 ghost use Rattle.hex.specs.declared.error.FromHexError.{FromHexError};
 ghost use Rattle.oram_wire.specs.FrameStream.{IsBroken, IsUnfinished};
-ghost use Rattle.oramd.specs.FrameLoop.{HasAnswered, IsUnansweredFor};
+ghost use Rattle.oramd.specs.FrameLoop.{HasAnsweredFrames, IsUnansweredFor};
 ghost use Rattle.oramd.specs.FrameLoop as spec;
 
 use crate::faults::Fault;
@@ -48,10 +48,16 @@ pub fn answer_frames<L: Link>(
     replies: &mut Vec<u8>,
 ) -> Result<(), Fault>
     // All frames were answered.
-    ensures ok { OnOk result (HasAnswered L.calls link.old frames.now [] replies.old.items replies.new.items [] link.new) }
+    ensures ok { OnOk result (HasAnsweredFrames L.calls
+        (record { state = link.old; unread = Some frames.now; written = Some replies.old.items })
+        []
+        (record { state = link.new; unread = Some []; written = Some replies.new.items })) }
     // The frames before one that is too long or cut short were answered.
     ensures hex { IsErrOf result Fault.Hex → (part unread : List ℕ) × (IsUnfinished part ⊎ ((length part ≡ 4) × IsBroken part))
-        × HasAnswered L.calls link.old frames.now part replies.old.items replies.new.items unread link.new }
+        × HasAnsweredFrames L.calls
+        (record { state = link.old; unread = Some frames.now; written = Some replies.old.items })
+        part
+        (record { state = link.new; unread = Some unread; written = Some replies.new.items }) }
     // All other faults come from the formatting or the serving.
     ensures fault { IfErr result (λ fault. IsUnansweredFor fault) }
 {
