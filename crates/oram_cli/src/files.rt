@@ -1,6 +1,7 @@
 //! Files that a program reads as a whole, and files that it replaces as a whole.
 
-ghost use Rattle.std.specs.Prelude.{◌≡◌, ◌++◌, codes, string_bytes, IfOk};
+ghost use Rattle.std.specs.Prelude.{◌≡◌, ◌≢◌, ◌⊎◌, ◌++◌, ℕ, List, [], Some, None, codes, string_bytes, IfOk};
+ghost use Rattle.std.specs.Path.{path_parent};
 
 use crate::file_faults::{FileFault, call_fault};
 use std::alloc::{AllocError, Global};
@@ -47,8 +48,11 @@ pub fn create_for_owner<R: Files>(rt: &R, name: &str) -> io::Result<R::File> {
     options.open(rt, name)
 }
 
-/// Returns the folder of the file `name`.
-pub fn folder_of(name: &str) -> &str {
+/// Returns the folder of the file `name`, which is the working directory if the name has no folder in it.
+pub fn folder_of(name: &str) -> &str
+    ensures named { (folder : List ℕ) → path_parent name.now ≡ Some folder → folder ≢ [] → result.now ≡ folder }
+    ensures working { (path_parent name.now ≡ None) ⊎ (path_parent name.now ≡ Some []) → result.now ≡ codes "." }
+{
     match Path::new(name).parent() {
         Some(folder) if folder.as_str() != "" => folder.as_str(),
         _ => ".",

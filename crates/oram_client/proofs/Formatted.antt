@@ -84,14 +84,14 @@ module _ {R W : Type 0} (remaining : R → Option (List ℕ)) (contents : W → 
   pub seen_more : (v : Scheme) (s : State) (n : ℕ) (a b c : ToHost R W) (records : List ℕ) (d : Sizes) (overhead : ℕ) (root : List ℕ) → AreSeen remaining contents v s n a b
       → HasAnswer remaining contents b (fetch_body n 0) (128 ∷ records) c → IsAccepted (path_of d n 0 overhead records) root
       → d ≡ v.device → overhead ≡ v.cipher.overhead → root ≡ (slice_index_or s.trees n no_tree).root → AreSeen remaining contents v s (n + 1) a c
-  seen_more v s n a b c records d overhead root seen asked accepted device over stands = record {
+  seen_more v s n a b c records d overhead root seen fetched accepted device over stands = record {
     answers = seen.answers ++ records ∷ [];
     answers_count = length-append seen.answers (records ∷ []) ∙ ap (λ (k : ℕ). k + 1) seen.answers_count;
-    due = asked.due ∙ seen.due;
+    due = fetched.due ∙ seen.due;
     wrote = subst (Appends (contents a.writer) (contents c.writer)) (sym (fetches_more n))
-        (Appends-trans (contents a.writer) (contents b.writer) (contents c.writer) (fetches n) (frame (fetch_body n 0)) seen.wrote asked.wrote);
+        (Appends-trans (contents a.writer) (contents b.writer) (contents c.writer) (fetches n) (frame (fetch_body n 0)) seen.wrote fetched.wrote);
     read = subst (Consumes (remaining a.reader) (remaining c.reader)) (sym (paths_more seen.answers records))
-        (Consumes-trans (remaining a.reader) (remaining b.reader) (remaining c.reader) (paths seen.answers) (frame (128 ∷ records)) seen.read asked.read);
+        (Consumes-trans (remaining a.reader) (remaining b.reader) (remaining c.reader) (paths seen.answers) (frame (128 ∷ records)) seen.read fetched.read);
     genuine = genuine_more v s n seen.answers records d overhead root seen.answers_count seen.genuine accepted device over stands;
   }
 
@@ -181,7 +181,7 @@ module _ {R W : Type 0} (remaining : R → Option (List ℕ)) (contents : W → 
   -- The identity was put, the trees were made, and the host gave back the identity.
   pub formatted_ahead : (v : Scheme) (identity : List ℕ) (a b c d : ToHost R W) (s : State) → AreTaken remaining contents a (identity_messages identity) b → AreTreesMade remaining contents v b s c
       → HasAnswer remaining contents c (fetch_body IDENTITY_TREE 0) (128 ∷ identity) d → IsFormattedAhead remaining contents v identity a s d
-  formatted_ahead v identity a b c d s named made asked =
+  formatted_ahead v identity a b c d s named made fetched =
       let ids = identity_messages identity in
       let asking = frame (fetch_body IDENTITY_TREE 0) in
       let giving = frame (128 ∷ identity) in
@@ -189,15 +189,15 @@ module _ {R W : Type 0} (remaining : R → Option (List ℕ)) (contents : W → 
       let all : a.due + length ids + (b.due + length made.messages) ≡ a.due + length (ids ++ made.messages) =
       (let e = named.due in omega (arith, length-append ids made.messages)) in
       let written = Appends-trans (contents a.writer) (contents b.writer) (contents d.writer) (flat_map frame ids) ((messages ++ fetches (trees_of v.device)) ++ asking) named.wrote
-      (Appends-trans (contents b.writer) (contents c.writer) (contents d.writer) (messages ++ fetches (trees_of v.device)) asking made.wrote asked.wrote) in
+      (Appends-trans (contents b.writer) (contents c.writer) (contents d.writer) (messages ++ fetches (trees_of v.device)) asking made.wrote fetched.wrote) in
       let reading = Consumes-trans (remaining a.reader) (remaining b.reader) (remaining d.reader) (dones (a.due + length ids)) ((dones (b.due + length made.messages) ++ paths made.answers) ++ giving) named.read
-      (Consumes-trans (remaining b.reader) (remaining c.reader) (remaining d.reader) (dones (b.due + length made.messages) ++ paths made.answers) giving made.read asked.read) in
+      (Consumes-trans (remaining b.reader) (remaining c.reader) (remaining d.reader) (dones (b.due + length made.messages) ++ paths made.answers) giving made.read fetched.read) in
       record {
         messages = made.messages;
         new = made.new;
         answers = made.answers;
         answers_count = made.answers_count;
-        due = asked.due ∙ made.due;
+        due = fetched.due ∙ made.due;
         wrote = subst (Appends (contents a.writer) (contents d.writer))
             (regrouped (flat_map frame ids) messages (fetches (trees_of v.device)) asking ∙ ap (λ l. (l ++ fetches (trees_of v.device)) ++ asking) (sym (flat_map-append frame ids made.messages))) written;
         read = subst (Consumes (remaining a.reader) (remaining d.reader))

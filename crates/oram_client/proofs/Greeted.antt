@@ -16,11 +16,11 @@ only (y ∷ []) x one is = ap (λ (v : Vec ℕ). v.items ∷ []) (sym is)
 only (y ∷ (z ∷ xs)) x one is = absurd (omega (arith, one))
 
 module _ {S : Type 0} (remaining contents : S → Option (List ℕ)) where
-  -- The host was asked.
-  pub asked : (reader writer : S) (before line : Connection S S) (bodies : List (List ℕ)) (outcome : BatchOutcome) (exchanges : List Exchange)
+  -- The host was sent the greeting.
+  pub sends_greeting : (reader writer : S) (before line : Connection S S) (bodies : List (List ℕ)) (outcome : BatchOutcome) (exchanges : List Exchange)
       → before ≡ connection reader writer → bodies ≡ greeting ∷ [] → StreamBatch remaining contents before bodies outcome exchanges line
       → SendsGreeting remaining contents reader writer outcome exchanges line
-  asked reader writer before line bodies outcome exchanges is greets called =
+  sends_greeting reader writer before line bodies outcome exchanges is greets called =
       subst (λ (b : Connection S S). StreamBatch remaining contents b (greeting ∷ []) outcome exchanges line) is
       (subst (λ (ms : List (List ℕ)). StreamBatch remaining contents before ms outcome exchanges line) greets called)
 
@@ -29,14 +29,14 @@ module _ {S : Type 0} (remaining contents : S → Option (List ℕ)) where
       → before ≡ connection reader writer → bodies ≡ greeting ∷ [] → StreamBatch remaining contents before bodies (Ok answers) exchanges line
       → answers ≡ answer ∷ [] → Shows identity answer trouble → IsUngreetedOver remaining contents reader writer identity trouble
   another reader writer before line bodies identity answer answers exchanges trouble is greets called one shows =
-      inr (Ok answers, exchanges, line, asked reader writer before line bodies (Ok answers) exchanges is greets called, (answer, one, shows))
+      inr (Ok answers, exchanges, line, sends_greeting reader writer before line bodies (Ok answers) exchanges is greets called, (answer, one, shows))
 
   -- It gave no answer.
   pub none : (reader writer : S) (before line : Connection S S) (bodies : List (List ℕ)) (identity : List ℕ) (exchanges : List Exchange) (fault : LinkFault)
       → before ≡ connection reader writer → bodies ≡ greeting ∷ [] → StreamBatch remaining contents before bodies (Err fault) exchanges line
       → IsUngreetedOver remaining contents reader writer identity (OutOfReach fault)
   none reader writer before line bodies identity exchanges fault is greets called =
-      inr (Err fault, exchanges, line, asked reader writer before line bodies (Err fault) exchanges is greets called, refl)
+      inr (Err fault, exchanges, line, sends_greeting reader writer before line bodies (Err fault) exchanges is greets called, refl)
 
   -- The connection may be any.
   pub somewhere : (reader writer : S) (identity : List ℕ) (trouble : Trouble) → IsUngreetedOver remaining contents reader writer identity trouble

@@ -2,7 +2,7 @@
 
 ghost use Rattle.std.specs.Prelude.{◌≡◌, ◌≢◌, ◌↔◌, Ok, Err, None, Some, IfErr, IfOk, IsTrue, OnOk};
 ghost use Rattle.oram_cli.specs.declared.file_faults.FileFault.{FileFault};
-ghost use Rattle.oram_client.specs.Keys.{key_check};
+ghost use Rattle.oram_client.specs.Keys as derived;
 ghost use Rattle.oram_disk_client.specs.Faults.{IsAbout, IsMissing, IsUnreadFor};
 ghost use Rattle.oram_disk_client.specs.Sealers as spec;
 ghost use Rattle.oram_settings.specs.Differences.{AgreeAt, IsFirstDifference, fixed_keys};
@@ -144,8 +144,12 @@ pub fn keys_in(
     name: &str,
 ) -> Result<Keys, Fault>
     // The key is the one that the disk was formatted with.
-    ensures ok { OnOk result (key_check settings.now.key head.now.salt.0 ≡ head.now.key_check.0) }
-    ensures wrong { IfErr result (λ fault. (key_check settings.now.key head.now.salt.0 ≢ head.now.key_check.0) × IsAbout FaultKind.WrongKey name.now fault) }
+    ensures ok { OnOk result (derived.key_check settings.now.key head.now.salt.0 ≡ head.now.key_check.0) }
+    ensures wrong { IfErr result (λ fault. (derived.key_check settings.now.key head.now.salt.0 ≢ head.now.key_check.0) × IsAbout FaultKind.WrongKey name.now fault) }
+    // Each of the keys is the one for its purpose.
+    ensures sealer { IfOk result (λ keys. keys.sealer.0 ≡ derived.bucket_key settings.now.key head.now.salt.0) }
+    ensures tape { IfOk result (λ keys. keys.tape.0 ≡ derived.tape_key settings.now.key head.now.salt.0) }
+    ensures identity { IfOk result (λ keys. keys.identity.0 ≡ derived.identity settings.now.key head.now.salt.0) }
 {
     match keys_for(&DiskKey(settings.key), head) {
         Ok(keys) => Ok(keys),

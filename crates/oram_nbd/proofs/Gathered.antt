@@ -7,7 +7,7 @@ use Rattle.std.proofs.lemmas.Grind.{flat_map-append}
 use Rattle.std.specs.Io.KnownBytes.{Appends, Consumes}
 use Rattle.std.proofs.KnownBytes.{Appends-nil, Appends-trans, Consumes-nil, Consumes-trans}
 use Rattle.std.proofs.lemmas.List.Elements.{All-append, All-cons, All-head, All-nil, All-tail}
-use Rattle.oram_nbd.specs.Batches.{answers_text, asked_part, refusals_text, reply_if, reply_of, AreCollected, AreServedBy, EndsBy, HasRepliedToAll, HasBegun, HasGathered, IsWithoutMemory, LeftBy, DoesRequest, DoesIfAccepted}
+use Rattle.oram_nbd.specs.Batches.{answers_text, refusals_text, reply_if, reply_of, requested_bytes, AreCollected, AreServedBy, EndsBy, HasRepliedToAll, HasBegun, HasGathered, IsWithoutMemory, LeftBy, DoesRequest, DoesIfAccepted}
 use Rattle.oram_nbd.specs.Beside.{GoesOn, Arrays, HasArrays}
 use Rattle.oram_nbd.specs.Bytes.{bytes_at}
 use Rattle.oram_nbd.specs.Calls.{SavesAll, SavesPart}
@@ -23,7 +23,7 @@ use Rattle.oram_nbd.specs.declared.requests.Command.TheVariants as command
 use Rattle.oram_nbd.specs.Messages.{payload_len, reply_text, request_text, IsRequest, SimpleReply}
 use Rattle.oram_nbd.specs.Messages.SimpleReply.{Done, Refused}
 use Rattle.oram_nbd.specs.Operations.{all_done, all_given, done_by, given_by, read_len, AreBegun, IsPartOf, IsWithin, ReadsWhole, TouchSomeByte}
-use Rattle.oram_nbd.specs.Service.{after, array_after_requests, asked_in, given, given_len, refusal_of, touched_len, whole_requests_text, replies_text, AreRequestsBegun, RequestsTouchSomeByte, WholeRequest, FailsForGood, IsAnswer, IsWholeRequest, IsLeftIf, IsPartly, IsRefusal, IsReplied, IsReply, IsService, IsAnsweredBy, NeverFails, SaysFailed, SaysFault, AnsweredRequest}
+use Rattle.oram_nbd.specs.Service.{after, array_after_requests, whole_request_of, given, given_len, refusal_of, touched_len, whole_requests_text, replies_text, AreRequestsBegun, RequestsTouchSomeByte, WholeRequest, FailsForGood, IsAnswer, IsWholeRequest, IsLeftIf, IsPartly, IsRefusal, IsReplied, IsReply, IsService, IsAnsweredBy, NeverFails, SaysFailed, SaysFault, AnsweredRequest}
 use Rattle.oram_nbd.specs.declared.faults.NbdError.{NbdError}
 use Rattle.oram_nbd.specs.declared.faults.NbdError.TheVariants.{Io, NoMemory}
 use Rattle.oram_nbd.specs.declared.operations.Operation.{Operation}
@@ -31,7 +31,7 @@ use Rattle.oram_nbd.specs.declared.operations.Operation.TheVariants.{Read}
 use Rattle.oram_nbd.specs.declared.requests.Request.{Request}
 use Rattle.oram_nbd.proofs.Beside.{at_rest, weaker}
 use Rattle.oram_nbd.proofs.Saving.{all_weaker, part_weaker}
-use Rattle.oram_nbd.proofs.KeptBatches.{all_done_as_asked, done_as_asked, served_one, some_touches}
+use Rattle.oram_nbd.proofs.KeptBatches.{all_done_as_requested, done_as_requested, served_one, some_touches}
 use Rattle.oram_nbd.proofs.ListSteps.{length_done, length_part, part_whole}
 use Rattle.oram_nbd.proofs.Served.{partly_none, refusal_is_other}
 use Rattle.oram_nbd.proofs.Splices.{part_of_block}
@@ -72,7 +72,7 @@ served_by_more block size (x ∷ arrived) (y ∷ ops) a op served one = (served.
 
 -- the operation was done
 answer_done : (block size : ℕ) (a : WholeRequest) (op : Operation) (o : Option NbdError) (bytes : List ℕ) → refusal_of size a.request ≡ o → DoesIfAccepted o block size a op → length bytes ≡ size
-    → IsAnswer bytes a.request a.payload (reply_if o (Done (asked_part block a.request (given_by op bytes)))) (done_by op bytes)
+    → IsAnswer bytes a.request a.payload (reply_if o (Done (requested_bytes block a.request (given_by op bytes)))) (done_by op bytes)
 answer_done block size a op (Some e) bytes is nothing long =
     inl (ap (λ (n : ℕ). refusal_of n a.request) long ∙ is, ap (λ (x : Operation). done_by x bytes) nothing)
 answer_done block size a op None bytes is s long = (ap (λ (n : ℕ). refusal_of n a.request) long ∙ is, s.gives bytes, s.does bytes)
@@ -102,7 +102,7 @@ answered_requests block size [] given = []
 answered_requests block size (a ∷ arrived) [] = []
 answered_requests block size (a ∷ arrived) (bytes ∷ given) = answered_with a (reply_of block size a.request bytes) ∷ answered_requests block size arrived given
 
-pub answered_same : (block size : ℕ) (arrived : List WholeRequest) (given : List (List ℕ)) → length given ≡ length arrived → map asked_in (answered_requests block size arrived given) ≡ arrived
+pub answered_same : (block size : ℕ) (arrived : List WholeRequest) (given : List (List ℕ)) → length given ≡ length arrived → map whole_request_of (answered_requests block size arrived given) ≡ arrived
 answered_same block size [] given many = refl
 answered_same block size (a ∷ arrived) [] many = absurd (omega (arith, many))
 answered_same block size (a ∷ arrived) (bytes ∷ given) many = ap (λ (l : List WholeRequest). a ∷ l) (answered_same block size arrived given (omega (arith, many)))
@@ -114,7 +114,7 @@ answered_text block size (a ∷ arrived) (bytes ∷ given) =
     ap (λ (l : List ℕ). reply_text a.request.cookie (reply_of block size a.request bytes) ++ l) (answered_text block size arrived given)
 
 reply_done : (block size : ℕ) (a : WholeRequest) (op : Operation) (o : Option NbdError) (bytes : List ℕ) → refusal_of size a.request ≡ o → DoesIfAccepted o block size a op → length bytes ≡ read_len op
-    → IsReply size a.request (reply_if o (Done (asked_part block a.request bytes)))
+    → IsReply size a.request (reply_if o (Done (requested_bytes block a.request bytes)))
 reply_done block size a op (Some e) bytes is s long = inl is
 reply_done block size a op None bytes is s long = (is, s.long bytes long)
 
@@ -140,12 +140,12 @@ pub answered_never_fail : (block size : ℕ) (arrived : List WholeRequest) (give
 answered_never_fail block size [] given = tt
 answered_never_fail block size (a ∷ arrived) [] = tt
 answered_never_fail block size (a ∷ arrived) (bytes ∷ given) =
-    (never_io size a.request (refusal_of size a.request) (asked_part block a.request bytes) refl, answered_never_fail block size arrived given)
+    (never_io size a.request (refusal_of size a.request) (requested_bytes block a.request bytes) refl, answered_never_fail block size arrived given)
 
 pub answered_tell_none : (block size : ℕ) (arrived : List WholeRequest) (given : List (List ℕ)) → SaysFailed (answered_requests block size arrived given) → ⊥
 answered_tell_none block size [] given none = none
 answered_tell_none block size (a ∷ arrived) [] none = none
-answered_tell_none block size (a ∷ arrived) (bytes ∷ given) (inl says) = never_io size a.request (refusal_of size a.request) (asked_part block a.request bytes) refl says
+answered_tell_none block size (a ∷ arrived) (bytes ∷ given) (inl says) = never_io size a.request (refusal_of size a.request) (requested_bytes block a.request bytes) refl says
 answered_tell_none block size (a ∷ arrived) (bytes ∷ given) (inr rest) = answered_tell_none block size arrived given rest
 
 pub answered_refuse : (block size : ℕ) (failed : Type 0) (arrived : List WholeRequest) (given : List (List ℕ)) → (failed → ⊥) → FailsForGood failed (answered_requests block size arrived given)
@@ -155,7 +155,7 @@ answered_refuse block size failed (a ∷ arrived) (bytes ∷ given) alive = (
   λ f. absurd (alive f),
   answered_refuse block size (failed ⊎ (reply_of block size a.request bytes ≡ Refused Io)) arrived given (λ e. elim e [
     | inl f ↦ alive f
-    | inr says ↦ never_io size a.request (refusal_of size a.request) (asked_part block a.request bytes) refl says
+    | inr says ↦ never_io size a.request (refusal_of size a.request) (requested_bytes block a.request bytes) refl says
   ]),
 )
 
@@ -187,7 +187,7 @@ all_refusals size (a ∷ arrived) e = All-cons (λ (t : AnsweredRequest). IsRefu
     is_refusal (Some why) = tt
     is_refusal None = tt
 
-pub refused_same : (size : ℕ) (arrived : List WholeRequest) (e : NbdError) → map asked_in (refused_requests size arrived e) ≡ arrived
+pub refused_same : (size : ℕ) (arrived : List WholeRequest) (e : NbdError) → map whole_request_of (refused_requests size arrived e) ≡ arrived
 refused_same size [] e = refl
 refused_same size (a ∷ arrived) e = ap (λ (l : List WholeRequest). a ∷ l) (refused_same size arrived e)
 
@@ -278,10 +278,10 @@ requests_begun block size (a ∷ arrived) (op ∷ ops) bytes later served long (
     (left_part block size a op (refusal_of size a.request) bytes later served.0 part))
 requests_begun block size (a ∷ arrived) (op ∷ ops) bytes later served long (inr rest) =
     let within = (served_one block size (refusal_of size a.request) a op served.0).0 in
-    inr (subst (λ (b : List ℕ). AreRequestsBegun arrived b later) (done_as_asked block size a op bytes served.0 long)
+    inr (subst (λ (b : List ℕ). AreRequestsBegun arrived b later) (done_as_requested block size a op bytes served.0 long)
     (requests_begun block size arrived ops (done_by op bytes) later served.1 (length_done size op bytes long within) rest))
 
--- a request that isn't refused, among those that were asked
+-- a request that isn't refused, among those that arrived
 pub accepted_in : (size : ℕ) (arrived : List WholeRequest) (before after : List Request) (r : Request) → map (λ (a : WholeRequest). a.request) arrived ≡ before ++ r ∷ after → refusal_of size r ≡ None
     → (xs ys : List WholeRequest) × (a : WholeRequest) × (arrived ≡ xs ++ a ∷ ys) × (refusal_of size a.request ≡ None)
 accepted_in size [] [] after r is none = absurd cc
@@ -379,7 +379,7 @@ module _ {D W E : Type 0} {kind : DeviceKind D W E} (block size : ℕ) (old new 
                   (answered_service block size arrived ops before.held collected.all collected.served long)),
               λ honest. answered_never_fail block size arrived given,
               inl (subst (λ (l : List WholeRequest). (later.held ≡ array_after_requests l before.held) × SavesAll (RequestsTouchSomeByte size l) before later) (sym same)
-                  (step.1 ∙ all_done_as_asked block size arrived ops before.held collected.served long, all_weaker step.2 (some_touches block size arrived ops collected.served))),
+                  (step.1 ∙ all_done_as_requested block size arrived ops before.held collected.served long, all_weaker step.2 (some_touches block size arrived ops collected.served))),
             )));
         reported = λ says. absurd (answered_tell_none block size arrived given says);
       }
@@ -444,8 +444,8 @@ pub begun_at_size : {D W E : Type 0} {kind : DeviceKind D W E} {n m : ℕ} {old 
 begun_at_size {kind = kind} {old = old} {new = new} {arrived = arrived} same h = subst (λ (k : ℕ). HasBegun kind k old new arrived) same h
 
 -- how many requests these are
-pub length_same : (arrived : List WholeRequest) (answered : List AnsweredRequest) → map asked_in answered ≡ arrived → length answered ≡ length arrived
-length_same arrived answered same = sym (length-map answered asked_in) ∙ ap length same
+pub length_same : (arrived : List WholeRequest) (answered : List AnsweredRequest) → map whole_request_of answered ≡ arrived → length answered ≡ length arrived
+length_same arrived answered same = sym (length-map answered whole_request_of) ∙ ap length same
 
 pub behind_cut : (f : NbdFault) (part : List ℕ) (new : Option (List ℕ)) → IsCutOff f part new → IsBehind part
 behind_cut fault.Read part new h = inr (inr (inl h))
@@ -592,7 +592,7 @@ without_memory_one close r part unread is ends =
       h.2,
     )
 
--- ---- The texts of the replies to a batch, and what was asked
+-- ---- The texts of the replies to a batch, and of its requests
 
 pub text_refused : (size : ℕ) (arrived : List WholeRequest) (e : NbdError) (requests shown : List Request) → map (λ (a : WholeRequest). a.request) arrived ≡ requests → shown ≡ requests
     → refusals_text size shown e ≡ replies_text (refused_requests size arrived e)

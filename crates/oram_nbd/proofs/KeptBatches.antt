@@ -18,19 +18,19 @@ left_done block size a op (Some e) bytes nothing = ap (λ (x : Operation). done_
 left_done block size a op None bytes s = s.does bytes
 
 -- an operation leaves the array as its request does
-pub done_as_asked : (block size : ℕ) (a : WholeRequest) (op : Operation) (bytes : List ℕ) → DoesIfAccepted (refusal_of size a.request) block size a op → length bytes ≡ size → done_by op bytes ≡ array_after_request a bytes
-done_as_asked block size a op bytes served long =
+pub done_as_requested : (block size : ℕ) (a : WholeRequest) (op : Operation) (bytes : List ℕ) → DoesIfAccepted (refusal_of size a.request) block size a op → length bytes ≡ size → done_by op bytes ≡ array_after_request a bytes
+done_as_requested block size a op bytes served long =
     left_done block size a op (refusal_of size a.request) bytes served
     ∙ ap (λ (n : ℕ). left_if (refusal_of n a.request) bytes (after a.request.command bytes a.request.offset a.request.length a.payload)) (sym long)
 
-pub all_done_as_asked : (block size : ℕ) (arrived : List WholeRequest) (ops : List Operation) (bytes : List ℕ) → AreServedBy block size arrived ops → length bytes ≡ size → all_done ops bytes ≡ array_after_requests arrived bytes
-all_done_as_asked block size [] [] bytes served long = refl
-all_done_as_asked block size [] (op ∷ ops) bytes served long = absurd served
-all_done_as_asked block size (a ∷ arrived) [] bytes served long = absurd served
-all_done_as_asked block size (a ∷ arrived) (op ∷ ops) bytes served long =
+pub all_done_as_requested : (block size : ℕ) (arrived : List WholeRequest) (ops : List Operation) (bytes : List ℕ) → AreServedBy block size arrived ops → length bytes ≡ size → all_done ops bytes ≡ array_after_requests arrived bytes
+all_done_as_requested block size [] [] bytes served long = refl
+all_done_as_requested block size [] (op ∷ ops) bytes served long = absurd served
+all_done_as_requested block size (a ∷ arrived) [] bytes served long = absurd served
+all_done_as_requested block size (a ∷ arrived) (op ∷ ops) bytes served long =
     let within = (served_one block size (refusal_of size a.request) a op served.0).0 in
-    all_done_as_asked block size arrived ops (done_by op bytes) served.1 (length_done size op bytes long within)
-    ∙ ap (λ (l : List ℕ). array_after_requests arrived l) (done_as_asked block size a op bytes served.0 long)
+    all_done_as_requested block size arrived ops (done_by op bytes) served.1 (length_done size op bytes long within)
+    ∙ ap (λ (l : List ℕ). array_after_requests arrived l) (done_as_requested block size a op bytes served.0 long)
 
 -- where a request touches a byte, its operation does
 touches : (block size : ℕ) (o : Option NbdError) (a : WholeRequest) (op : Operation) → DoesIfAccepted o block size a op → 0 < touched_if o (touched_len a.request.command a.request.length) → 0 < len_of op

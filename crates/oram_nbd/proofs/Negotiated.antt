@@ -98,15 +98,15 @@ module _ (e : ExportValue) (zeroes : Bool) where
   whole_text h x same long =
       ap (λ (o : HandshakeOption). option_head o h.length ++ x.content) (sym same) ∙ ap (λ (n : ℕ). option_head x.option n ++ x.content) (sym long)
 
-  asked_whole : (a b c : Option (List ℕ)) (h : OptionHead) (x : AnsweredOption) → x.option ≡ h.option → length x.content ≡ h.length → Consumes a b (option_head h.option h.length) → Consumes b c x.content → Consumes a c (asking x)
-  asked_whole a b c h x same long head rest =
+  reads_whole_option : (a b c : Option (List ℕ)) (h : OptionHead) (x : AnsweredOption) → x.option ≡ h.option → length x.content ≡ h.length → Consumes a b (option_head h.option h.length) → Consumes b c x.content → Consumes a c (asking x)
+  reads_whole_option a b c h x same long head rest =
       subst (Consumes a c) (whole_text h x same long) (Consumes-trans a b c (option_head h.option h.length) x.content head rest)
 
   pub negotiated_on : (from : Streams) (count : ℕ) (now : Streams) (mid : Option (List ℕ)) (later : Streams) (h : OptionHead) (x : AnsweredOption) →
       Negotiated from count now → x.option ≡ h.option → length x.content ≡ h.length → IsAnsweredOption e zeroes x None →
       Consumes now.unread mid (option_head h.option h.length) → Consumes mid later.unread x.content → Appends now.written later.written x.answer → Negotiated from (count + 1) later
   negotiated_on from count now mid later h x s same long is head rest wrote =
-      negotiated_next from count now later x s is (asked_whole now.unread mid later.unread h x same long head rest) wrote
+      negotiated_next from count now later x s is (reads_whole_option now.unread mid later.unread h x same long head rest) wrote
 
   -- the client left, or the last option ended the handshake
   pub agreed_gone : (from : Streams) (count : ℕ) (now : Streams) (later : Option (List ℕ)) →
@@ -119,7 +119,7 @@ module _ (e : ExportValue) (zeroes : Bool) where
   agreed_by from count now mid later h x agreement s same long is head rest wrote = record {
     zeroes = zeroes;
     xs = s.all;
-    ended = inr (x, is, negotiated_then from count now later (asking x) x.answer s (asked_whole now.unread mid later.unread h x same long head rest) wrote);
+    ended = inr (x, is, negotiated_then from count now later (asking x) x.answer s (reads_whole_option now.unread mid later.unread h x same long head rest) wrote);
   }
 
   -- no whole option came
@@ -161,10 +161,10 @@ module _ (e : ExportValue) (zeroes : Bool) where
     ended,
   )
   stopped_behind from count now mid later h fault.Write s is head (x, ends, same, long, ex, came, (n, wrote)) =
-      (zeroes, s.all, x, ends, n, negotiated_then from count now later (asking x) (take n x.answer) s (asked_whole now.unread mid later.unread h x same long head came) wrote, ex)
+      (zeroes, s.all, x, ends, n, negotiated_then from count now later (asking x) (take n x.answer) s (reads_whole_option now.unread mid later.unread h x same long head came) wrote, ex)
   stopped_behind from count now mid later h fault.UnknownExport s is head (content, which, long, other, came, wrote) =
       let x : AnsweredOption = record { option = ExportName; content = content; answer = [] } in
-      (zeroes, s.all, content, negotiated_then from count now later (option_text ExportName content) [] s (asked_whole now.unread mid later.unread h x (sym which) long head came) wrote, other)
+      (zeroes, s.all, content, negotiated_then from count now later (option_text ExportName content) [] s (reads_whole_option now.unread mid later.unread h x (sym which) long head came) wrote, other)
   stopped_behind from count now mid later h fault.OutOfMemory s is head (content, which, came, wrote) = (
     zeroes,
     s.all,

@@ -8,7 +8,7 @@ use Rattle.std.specs.Io.KnownBytes.{Appends, Consumes}
 use Rattle.std.proofs.KnownBytes.{Appends-nil, Appends-trans, Consumes-nil, Consumes-trans}
 use Rattle.oram_nbd.specs.Batches.{HasRepliedToAll, HasBegun}
 use Rattle.oram_nbd.specs.DeviceKind.{DeviceKind}
-use Rattle.oram_nbd.specs.Service.{asked_in, whole_requests_text, asking, greatest_flags, misfit, refusal_of, replying, requests_text, replies_text, WholeRequest, IsWholeRequest, IsPartly, IsReplied, FailsForGood, SaysFailed, AnsweredRequest}
+use Rattle.oram_nbd.specs.Service.{whole_request_of, whole_requests_text, asking, greatest_flags, misfit, refusal_of, replying, requests_text, replies_text, WholeRequest, IsWholeRequest, IsPartly, IsReplied, FailsForGood, SaysFailed, AnsweredRequest}
 use Rattle.oram_nbd.specs.Messages.SimpleReply.{Refused}
 use Rattle.oram_nbd.specs.Streams.{streams, Streams}
 use Rattle.oram_nbd.specs.Transmission.{HasExchanged, HasServedRequests, IsBehind, ServesBatch, StopsServing}
@@ -82,10 +82,10 @@ refuses_join failed failed' (t ∷ xs) ys (first, rest) tells more = (
       (λ e. elim e [ inl d ↦ elim d [ inl f ↦ tells (inl f) | inr io ↦ tells (inr (inl io)) ] | inr later ↦ tells (inr (inr later)) ]) more,
 )
 
--- what was asked
-pub asked_of_answered : (answered : List AnsweredRequest) → requests_text answered ≡ whole_requests_text (map asked_in answered)
-asked_of_answered [] = refl
-asked_of_answered (t ∷ answered) = ap (λ (l : List ℕ). asking t ++ l) (asked_of_answered answered)
+-- the text of requests, without their replies
+pub requests_text_is : (answered : List AnsweredRequest) → requests_text answered ≡ whole_requests_text (map whole_request_of answered)
+requests_text_is [] = refl
+requests_text_is (t ∷ answered) = ap (λ (l : List ℕ). asking t ++ l) (requests_text_is answered)
 
 -- for a device of this kind, from this state on
 module _ {D W E : Type 0} (kind : DeviceKind D W E) (old : D) where
@@ -146,7 +146,7 @@ module _ {D W E : Type 0} (kind : DeviceKind D W E) (old : D) where
       still = λ f. still (s.still f);
       reported = λ e. elim (says_either s.answered answered e) [ inl before ↦ still (s.reported before) | inr says ↦ a.reported says ];
       read = subst (Consumes from.unread now.unread)
-          (ap (λ (l : List ℕ). requests_text s.answered ++ l) (split ∙ ap (λ (l : List ℕ). l ++ rest) (sym (asked_of_answered answered ∙ ap whole_requests_text a.same)))
+          (ap (λ (l : List ℕ). requests_text s.answered ++ l) (split ∙ ap (λ (l : List ℕ). l ++ rest) (sym (requests_text_is answered ∙ ap whole_requests_text a.same)))
           ∙ sym (append_assoc (requests_text s.answered) (requests_text answered) rest) ∙ ap (λ (l : List ℕ). l ++ rest) (sym (flat_map-append asking s.answered answered))) s.read;
       wrote = subst (Appends from.written written) (sym (flat_map-append replying s.answered answered)) (Appends-trans from.written now.written written (replies_text s.answered) (replies_text answered) s.wrote wrote);
     }
@@ -166,7 +166,7 @@ module _ {D W E : Type 0} (kind : DeviceKind D W E) (old : D) where
       all_served new arrived answered a,
       behind,
       record {
-        read = subst (Consumes from.unread now.unread) (ap (λ (l : List ℕ). requests_text s.answered ++ l) (split ∙ ap (λ (l : List ℕ). l ++ rest) (sym (asked_of_answered answered ∙ ap whole_requests_text a.same)))) s.read;
+        read = subst (Consumes from.unread now.unread) (ap (λ (l : List ℕ). requests_text s.answered ++ l) (split ∙ ap (λ (l : List ℕ). l ++ rest) (sym (requests_text_is answered ∙ ap whole_requests_text a.same)))) s.read;
         wrote = Appends-trans from.written now.written written (replies_text s.answered) (take count' (replies_text answered)) s.wrote wrote;
       },
     )

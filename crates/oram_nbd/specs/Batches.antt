@@ -9,7 +9,7 @@ use Rattle.oram_nbd.specs.Streams.{IsBegunText}
 use Rattle.oram_nbd.specs.Messages.{request_text, reply_text, SimpleReply}
 use Rattle.oram_nbd.specs.Messages.SimpleReply.{Done, Refused}
 use Rattle.oram_nbd.specs.Operations.{IsPartOf, IsWithin, ReadsWhole, done_by, given_by, len_of, read_len}
-use Rattle.oram_nbd.specs.Service.{after, asked_in, whole_requests_text, given, given_len, refusal_of, replies_text, touched_len, AnsweredRequest, AreRequestsBegun, IsPartly, IsWholeRequest, SaysFailed, WholeRequest}
+use Rattle.oram_nbd.specs.Service.{after, whole_request_of, whole_requests_text, given, given_len, refusal_of, replies_text, touched_len, AnsweredRequest, AreRequestsBegun, IsPartly, IsWholeRequest, SaysFailed, WholeRequest}
 use Rattle.oram_nbd.specs.Transmission.{HasServedRequests, IsCutOff, IsLast}
 use Rattle.oram_nbd.specs.declared.batches.Close.{Close}
 use Rattle.oram_nbd.specs.declared.batches.Close.TheVariants.{Waits, NoRoom, Leaves, Breaks}
@@ -28,8 +28,8 @@ pub record AreDiskSizes (block size : ℕ) : Type 0 where
   pub bound : size < 2 ^ 63
 
 -- the bytes that a request asks for, among those of the blocks over which its range lies
-abbrev pub asked_part : ℕ → Request → List ℕ → List ℕ
-asked_part block r bytes = take (given_len r.command r.length) (drop (r.offset % block) bytes)
+abbrev pub requested_bytes : ℕ → Request → List ℕ → List ℕ
+requested_bytes block r bytes = take (given_len r.command r.length) (drop (r.offset % block) bytes)
 
 -- The operation does what the request asks for, on a device of `size` bytes in blocks of `block` bytes.
 pub record DoesRequest (block size : ℕ) (a : WholeRequest) (op : Operation) : Type 0 where
@@ -38,8 +38,8 @@ pub record DoesRequest (block size : ℕ) (a : WholeRequest) (op : Operation) : 
   pub touches : touched_len a.request.command a.request.length ≤ len_of op
   pub does : (bytes : List ℕ) → done_by op bytes ≡ after a.request.command bytes a.request.offset a.request.length a.payload
   pub in_part : (old new : List ℕ) → IsPartOf op old new → IsPartly a.request.command old a.request.offset a.request.length a.payload new
-  pub gives : (bytes : List ℕ) → asked_part block a.request (given_by op bytes) ≡ given a.request.command bytes a.request.offset a.request.length
-  pub long : (bytes : List ℕ) → length bytes ≡ read_len op → length (asked_part block a.request bytes) ≡ given_len a.request.command a.request.length
+  pub gives : (bytes : List ℕ) → requested_bytes block a.request (given_by op bytes) ≡ given a.request.command bytes a.request.offset a.request.length
+  pub long : (bytes : List ℕ) → length bytes ≡ read_len op → length (requested_bytes block a.request bytes) ≡ given_len a.request.command a.request.length
 
 -- If the request is refused, its operation does nothing. Otherwise it does what the request asks for.
 abbrev pub DoesIfAccepted : Option NbdError → ℕ → ℕ → WholeRequest → Operation → Type 0
@@ -96,7 +96,7 @@ reply_if None reply = reply
 
 -- the reply to a request for which the device read this
 abbrev pub reply_of : ℕ → ℕ → Request → List ℕ → SimpleReply
-reply_of block size r bytes = reply_if (refusal_of size r) (Done (asked_part block r bytes))
+reply_of block size r bytes = reply_if (refusal_of size r) (Done (requested_bytes block r bytes))
 
 -- what the client receives for requests for which the device read these bytes
 abbrev pub answers_text : ℕ → ℕ → List Request → List (List ℕ) → List ℕ
@@ -112,7 +112,7 @@ refusals_text size requests e = flat_map (λ r. reply_text r.cookie (reply_if (r
 module _ {D W E : Type 0} (kind : DeviceKind D W E) (size : ℕ) (old new : D) (arrived : List WholeRequest) where
   -- Each request of the batch got its reply. If a reply says that the device has failed, it has.
   pub record HasRepliedToAll (answered : List AnsweredRequest) : Type 0 where
-    pub same : map asked_in answered ≡ arrived
+    pub same : map whole_request_of answered ≡ arrived
     pub served : HasServedRequests kind size old new answered
     pub reported : SaysFailed answered → kind.failed new
 

@@ -143,9 +143,9 @@ pub record AnsweredRequest : Type 0 where
   pub payload : List ℕ
   pub reply : SimpleReply
 
--- what the client asked for
-abbrev pub asked_in : AnsweredRequest → WholeRequest
-asked_in a = record { request = a.request; payload = a.payload }
+-- the request, without its reply
+abbrev pub whole_request_of : AnsweredRequest → WholeRequest
+whole_request_of a = record { request = a.request; payload = a.payload }
 
 -- the reply fits the request, whatever the device holds
 pub record IsReplied (size : ℕ) (a : AnsweredRequest) : Type 0 where

@@ -6,7 +6,7 @@ use Rattle.oram_nbd.specs.Beside.{GoesOn, Arrays, HasArrays}
 use Rattle.oram_nbd.specs.Calls.{SavesAll, SavesPart}
 use Rattle.oram_nbd.specs.DeviceKind.{DeviceKind}
 use Rattle.oram_nbd.specs.Messages.{payload_len, request_text, IsRequest}
-use Rattle.oram_nbd.specs.Service.{array_after_requests, asked_in, whole_requests_text, refusal_of, requests_text, replies_text, AnsweredRequest, AreRequestsBegun, FailsForGood, IsRefusal, IsReplied, IsService, IsWholeRequest, NeverFails, RequestsTouchSomeByte, SaysFault, WholeRequest}
+use Rattle.oram_nbd.specs.Service.{array_after_requests, whole_request_of, whole_requests_text, refusal_of, requests_text, replies_text, AnsweredRequest, AreRequestsBegun, FailsForGood, IsRefusal, IsReplied, IsService, IsWholeRequest, NeverFails, RequestsTouchSomeByte, SaysFault, WholeRequest}
 use Rattle.oram_nbd.specs.Streams.{Streams}
 use Rattle.oram_nbd.specs.declared.faults.NbdFault.{NbdFault}
 use Rattle.oram_nbd.specs.declared.faults.NbdFault.TheVariants.{Read, Truncated, Magic, Write, OldClient, UnknownExport, TooManyOptions, OutOfMemory, Stopped}
@@ -56,9 +56,9 @@ module _ {D W E : Type 0} (kind : DeviceKind D W E) (size : ℕ) where
   -- process would hold what it would have held before, or what some beginning of these requests leaves.
   abbrev pub SavesBatch : D → List AnsweredRequest → D → Arrays (List ℕ) → Arrays (List ℕ) → Type 0
   SavesBatch old batch new before later =
-      ((later.held ≡ array_after_requests (map asked_in batch) before.held) × SavesAll (RequestsTouchSomeByte size (map asked_in batch)) before later)
+      ((later.held ≡ array_after_requests (map whole_request_of batch) before.held) × SavesAll (RequestsTouchSomeByte size (map whole_request_of batch)) before later)
       ⊎ (All (λ a. IsRefusal a.reply) batch
-      × (((new ≡ old) × (later ≡ before)) ⊎ (SaysFault batch × SavesPart (AreRequestsBegun (map asked_in batch)) before later)))
+      × (((new ≡ old) × (later ≡ before)) ⊎ (SaysFault batch × SavesPart (AreRequestsBegun (map whole_request_of batch)) before later)))
 
   -- A batch of requests was served. From each array that was held, they lead to one that is held. Where the world doesn't lie,
   -- no reply says that the device failed.

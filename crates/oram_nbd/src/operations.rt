@@ -1,6 +1,6 @@
 //! Operations on the bytes of a device.
 
-ghost use Rattle.std.specs.Prelude.{◌≡◌, ◌+◌, ◌≤◌};
+ghost use Rattle.std.specs.Prelude.{◌≡◌};
 ghost use Rattle.oram_nbd.specs.Operations.{len_of, place_of};
 
 use oram_bytes::Bytes;

@@ -10,7 +10,7 @@ ghost use Rattle.oram_nbd.specs.Streams.{IsBegunText};
 use crate::disk_sizes::DiskSizes;
 use crate::faults::{NbdError, NbdFault};
 use crate::requests::Request;
-use crate::service::{asked_part, refusal, request_at};
+use crate::service::{refusal, request_at, requested_bytes};
 use crate::streams::put;
 use byteorder::{BigEndian, ByteOrder};
 use oram_bytes::Bytes;
@@ -69,7 +69,7 @@ pub(crate) fn put_answers<W: Write>(
 {
     for i in 0..requests.len() {
         let request = request_at(requests, i);
-        let bytes = asked_part(sizes.block, &request, given[i].as_slice());
+        let bytes = requested_bytes(sizes.block, &request, given[i].as_slice());
         put_reply(writer, request.cookie, refusal(&request, sizes.size), bytes)?;
     }
     Ok(())

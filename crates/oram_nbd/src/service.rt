@@ -1,7 +1,7 @@
 //! Which requests are refused, and what others ask for.
 
-ghost use Rattle.std.specs.Prelude.{◌≡◌, ◌∷◌, ◌++◌, ℕ, List, true, false, ◌+◌, ◌<◌, ◌≢◌, All, None, length, nat_le, slice_index_or};
-ghost use Rattle.oram_nbd.specs.Batches.{asked_part};
+ghost use Rattle.std.specs.Prelude.{◌≡◌, ◌∷◌, ◌++◌, List, true, false, ◌+◌, ◌<◌, ◌≢◌, All, None, length, nat_le, slice_index_or};
+ghost use Rattle.oram_nbd.specs.Batches.{requested_bytes};
 ghost use Rattle.oram_nbd.specs.Service.{refusal_of};
 ghost use Rattle.oram_nbd.specs.declared.requests.Request.{Request};
 
@@ -63,9 +63,9 @@ pub(crate) fn is_any_accepted(requests: &[Request], size: u64) -> bool
 }
 
 /// Returns those bytes that a request asks for, of the bytes of the blocks over which its range lies.
-pub(crate) fn asked_part<'a>(block: u64, request: &Request, bytes: &'a [u8]) -> &'a [u8]
+pub(crate) fn requested_bytes<'a>(block: u64, request: &Request, bytes: &'a [u8]) -> &'a [u8]
     requires { 0 < block }
-    ensures { result.now ≡ asked_part block request.now bytes.now }
+    ensures { result.now ≡ requested_bytes block request.now bytes.now }
 {
     let most = match request.command {
         Command::Read => request.length as usize,

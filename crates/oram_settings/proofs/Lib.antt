@@ -1,7 +1,7 @@
 mod Arguments
 mod Tables
 pub mod Program
-pub mod Asked
+pub mod Requested
 pub mod Units
 mod Reports
 mod Rows

@@ -25,6 +25,6 @@ with_time_left done of milliseconds =
 abbrev pub progress_text : ℕ → ℕ → ℕ → List ℕ
 progress_text done of milliseconds = if nat_lt milliseconds 1000 then so_far done of else with_time_left done of milliseconds
 
--- a meter after it was asked at this percentage: if it was due, it is due next a step later
-abbrev pub asked_at : Meter → ℕ → Meter
-asked_at meter percent = if nat_le meter.next percent then record meter { next = min (percent + meter.step) (2 ^ 64 - 1) } else meter
+-- a meter after `is_due` at this percentage: if it was due, it is due next a step later
+abbrev pub meter_after : Meter → ℕ → Meter
+meter_after meter percent = if nat_le meter.next percent then record meter { next = min (percent + meter.step) (2 ^ 64 - 1) } else meter

@@ -234,10 +234,10 @@ fn no_request_for(alloc: Global, error: &Error) -> Result<NoRequest, AllocError>
 }
 
 /// Returns the mistake for words that clap accepts, but that ask for nothing.
-fn nothing_asked(alloc: Global) -> NoRequest
+fn no_request(alloc: Global) -> NoRequest
     ensures { AnswersFaults [] result }
 {
-    match String::from_str(alloc, help::NOTHING_ASKED) {
+    match String::from_str(alloc, help::NO_REQUEST) {
         Ok(text) => NoRequest::Mistake(text),
         Err(_) => NoRequest::OutOfMemory,
     }
@@ -258,14 +258,14 @@ pub fn read_command_line(alloc: Global, words: &[&str]) -> Result<Subcommand, No
         Err(error) => return Err(no_request_for(alloc, &error)?),
     };
     let Some((name, inner)) = matches.subcommand() else {
-        return Err(nothing_asked(alloc));
+        return Err(no_request(alloc));
     };
     let Some(word) = inner.get_str("word") else {
-        return Err(nothing_asked(alloc));
+        return Err(no_request(alloc));
     };
     let is_new = is_given(inner.get_str("new"));
     match subcommand_of(alloc, name, word, is_new, inner.get_str("size"))? {
         Some(words) => Ok(words),
-        None => Err(nothing_asked(alloc)),
+        None => Err(no_request(alloc)),
     }
 }

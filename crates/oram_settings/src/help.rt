@@ -101,5 +101,5 @@ pub(crate) const FOLDER: &str = "The folder to make";
 pub(crate) const SIZE: &str = "How much the disk holds, such as 512MiB or 1GiB";
 
 /// The message for words that ask for nothing though clap accepts them.
-pub(crate) const NOTHING_ASKED: &str =
+pub(crate) const NO_REQUEST: &str =
     "these words ask for nothing\n\nFor more information, try '--help'.";

@@ -90,7 +90,7 @@ impl Meter {
     pub fn is_due(&mut self, percent: u64) -> bool
         ensures due { IsTrue result ↔ (self.old.next ≤ percent) }
         // If it is due, it is due next a step later; if it isn't, nothing changes.
-        ensures next { self.new ≡ spec.asked_at self.old percent }
+        ensures next { self.new ≡ spec.meter_after self.old percent }
     {
         if percent < self.next {
             return false;

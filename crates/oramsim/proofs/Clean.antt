@@ -138,14 +138,14 @@ reply_clean r =
     clean_line (codes "reply " ++ decimal r.session ++ space ++ decimal r.ticket ++ space ++ body_text r.body) 101
     (joined (joined (joined (joined (joined (said (codes "reply ") refl) (number r.session)) gap) (number r.ticket)) gap) (body_ink r.body)) refl (omega arith)
 
-asked_clean : (fetch : Bool) (tree leaf : ℕ) → Clean ((if fetch then codes "fetch " else codes "store ") ++ decimal tree ++ space ++ decimal leaf ++ newline)
-asked_clean true tree leaf =
+path_clean : (fetch : Bool) (tree leaf : ℕ) → Clean ((if fetch then codes "fetch " else codes "store ") ++ decimal tree ++ space ++ decimal leaf ++ newline)
+path_clean true tree leaf =
     clean_line (codes "fetch " ++ decimal tree ++ space ++ decimal leaf) 101 (joined (joined (joined (said (codes "fetch ") refl) (number tree)) gap) (number leaf)) refl (omega arith)
-asked_clean false tree leaf =
+path_clean false tree leaf =
     clean_line (codes "store " ++ decimal tree ++ space ++ decimal leaf) 116 (joined (joined (joined (said (codes "store ") refl) (number tree)) gap) (number leaf)) refl (omega arith)
 
 sent_clean : (m : List ℕ) (b : Bool) → nat_le 6 (length m) ≡ b → Clean (send_text m)
-sent_clean m true e = rw e (asked_clean (slice_index m 0 == 1) (slice_index m 1) (big_number 4 (slice_range m 2 6)))
+sent_clean m true e = rw e (path_clean (slice_index m 0 == 1) (slice_index m 1) (big_number 4 (slice_range m 2 6)))
 sent_clean m false e = rw e clean_nil
 
 replies_clean : (rs : List Reply) → Clean (flat_map reply_text rs)

@@ -78,13 +78,13 @@ addressed _ = None
 
 unfoldable pub read_from : List (List ℕ) → Option Line
 read_from fields = do
-  asked ← addressed fields
-  Some (CoreEvent (event.Submit asked.0 (Read asked.1) asked.2))
+  submitted ← addressed fields
+  Some (CoreEvent (event.Submit submitted.0 (Read submitted.1) submitted.2))
 
 unfoldable pub discard_from : List (List ℕ) → Option Line
 discard_from fields = do
-  asked ← addressed fields
-  Some (CoreEvent (event.Submit asked.0 (Discard asked.1) asked.2))
+  submitted ← addressed fields
+  Some (CoreEvent (event.Submit submitted.0 (Discard submitted.1) submitted.2))
 
 unfoldable pub write_from : List (List ℕ) → Option Line
 write_from (s ∷ a ∷ h ∷ w) = do

@@ -79,18 +79,6 @@ impl<'a> RowWords<'a> {
         }
     }
 
-    /// Reads the next five words as the decimal numbers of a device: its blocks, the bytes of each, the slots of a
-    /// bucket, the greatest number of entries of the table, and the lifetime.
-    pub fn five_numbers(&mut self) -> [u64; 5] {
-        [
-            self.number(),
-            self.number(),
-            self.number(),
-            self.number(),
-            self.number(),
-        ]
-    }
-
     /// Reads the next word as a decimal number below 2^32.
     pub fn short(&mut self) -> u32 {
         match u32::try_from(self.number()) {
@@ -139,6 +127,20 @@ impl<'a> RowWords<'a> {
         }
         array.copy_from_slice(&bytes);
         array
+    }
+
+    /// Returns all words that are left, one by one.
+    pub fn texts(&mut self, alloc: Global) -> Vec<&'a str> {
+        let mut texts = Vec::new(alloc);
+        for _ in 0..u64::MAX {
+            if self.is_empty() {
+                break;
+            }
+            if texts.push(self.text()).is_err() {
+                return self.note(RowFault::OutOfMemory, texts);
+            }
+        }
+        texts
     }
 
     /// Reads all words that are left, each as bytes.

@@ -6,13 +6,12 @@
 
 mod commands;
 mod cores;
-mod host;
 mod runs;
 mod said;
 
 use crate::cores::Cores;
 use oram_geometry::Device;
-use rows::{Page, RowFault, RowWords, Table, run_table};
+use rows::{Page, RowFault, RowWords, Table, run_table, shown_device_in};
 use std::alloc::Global;
 use std::process::ExitCode;
 
@@ -26,20 +25,8 @@ struct Calls {
 impl Calls {
     /// `device SIZES`: writes how many trees the device has, or the number of the fault.
     fn begin(&mut self, words: &mut RowWords, page: &mut Page) -> Result<(), RowFault> {
-        let [blocks, block_bytes, slots, top, lifetime] = words.five_numbers();
         self.cores = Cores::new();
-        self.device = match Device::new(blocks, block_bytes, slots, top, lifetime) {
-            Ok(device) => {
-                page.word("ready");
-                page.number(device.trees());
-                Some(device)
-            }
-            Err(fault) => {
-                page.word("shape");
-                page.number(fault.number());
-                None
-            }
-        };
+        self.device = shown_device_in(words, page);
         Ok(())
     }
 }

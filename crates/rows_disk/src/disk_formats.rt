@@ -4,7 +4,7 @@ use crate::far_end::{Answers, FarEnd, HostBehaviour, Messages};
 use oram_bucket::PlainSeal;
 use oram_client::{Ahead, FormattingFault, Identity, Progress, format_ahead};
 use oram_geometry::Device;
-use rows::{Page, RowFault, RowWords};
+use rows::{Page, RowFault, RowWords, device_in};
 use std::alloc::Global;
 use std::cell::{Cell, RefCell};
 use std::io::BufWriter;
@@ -26,15 +26,6 @@ impl<'a> Progress for Hearer<'a> {
     fn answered(&mut self, messages: u64, of: u64) {
         self.0.messages.set(messages);
         self.0.of.set(of);
-    }
-}
-
-/// Makes the device with the next five numbers.
-fn device_in(words: &mut RowWords) -> Result<Device, RowFault> {
-    let [blocks, block_bytes, slots, top, lifetime] = words.five_numbers();
-    match Device::new(blocks, block_bytes, slots, top, lifetime) {
-        Ok(device) => Ok(device),
-        Err(_) => Err(RowFault::NoRow),
     }
 }
 

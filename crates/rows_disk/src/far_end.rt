@@ -2,13 +2,11 @@
 
 use oram_host::Server;
 use oram_wire::{LONGEST_BODY, next_frame, put_frame};
+use rows::lacks_room;
 use std::alloc::Global;
 use std::cell::RefCell;
 use std::io;
 use std::io::{ErrorKind, Read, Write};
-
-/// The answer of a host that is out of memory.
-const NO_ROOM: [u8; 2] = [0x81, 8];
 
 /// The length in bytes of an answer that gives back an identity.
 const IDENTITY_ANSWER_LEN: usize = 33;
@@ -92,7 +90,7 @@ impl FarEnd {
     /// Returns an honest host's answer to a message.
     pub fn honest_answer(&mut self, body: &[u8]) -> io::Result<Vec<u8>> {
         let answer = self.server.answer(self.alloc, body)?;
-        if answer.as_slice() == NO_ROOM.as_slice() {
+        if lacks_room(&answer) {
             return Err(io::Error::from(ErrorKind::OutOfMemory));
         }
         Ok(answer)

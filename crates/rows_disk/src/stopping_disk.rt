@@ -182,13 +182,13 @@ pub fn range(alloc: Global, words: &mut RowWords, page: &mut Page) -> Result<(),
         &said_of(alloc, Command::Write, 0, SIZE, 1)?,
     )?;
     let before = disk.calls_left;
-    let asked = talked(
+    let done = talked(
         alloc,
         &mut disk,
         &said_of(alloc, command, offset, length, 0xa1)?,
     )?;
     page.number(before.saturating_sub(disk.calls_left));
-    page.bytes(asked.1.bytes());
+    page.bytes(done.1.bytes());
     let read = talked(
         alloc,
         &mut disk,

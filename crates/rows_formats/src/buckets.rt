@@ -1,13 +1,12 @@
 //! The bytes of buckets.
 
-use crate::devices::device_in;
 use crate::fault_text::show_fault;
 use crate::sealers::{Sealing, sealing_in};
 use oram_bucket::{
     Block, BucketFault, OpenFault, Sealer, decode_bucket, encode_bucket, open_bucket, seal_bucket,
 };
 use oram_geometry::Device;
-use rows::{Page, RowFault, RowWords};
+use rows::{Page, RowFault, RowWords, device_in};
 use std::alloc::Global;
 
 /// The device of the next rows, in whose first tree the buckets are.
@@ -32,40 +31,27 @@ fn write_blocks(page: &mut Page, blocks: &[Block]) {
     }
 }
 
-/// `bucket decode BYTES`: writes the blocks that the bytes encode, or the first fault.
+/// `bucket decode BYTES`: writes the blocks that the bytes encode, or the first fault. `bucket again BYTES`: writes the bucket
+/// that encodes these blocks.
 fn decode(
     alloc: Global,
     device: &Device,
+    name: &str,
     words: &mut RowWords,
     page: &mut Page,
 ) -> Result<(), RowFault> {
+    prove!(device.trees() > 0);
     let bytes = words.bytes(alloc);
-    if device.trees() == 0 {
-        return Err(RowFault::NoRow);
-    }
     match decode_bucket(alloc, device, 0, &bytes) {
-        Ok(blocks) => write_blocks(page, &blocks),
+        Ok(blocks) => {
+            if name == "again" {
+                page.bytes(&encode_bucket(alloc, device, 0, &blocks)?);
+            } else {
+                write_blocks(page, &blocks);
+            }
+        }
         Err(BucketFault::OutOfMemory) => return Err(RowFault::OutOfMemory),
         Err(fault) => show_fault(page, fault.number(), &fault),
-    }
-    Ok(())
-}
-
-/// `bucket again BYTES`: decodes the bytes and writes the encoded bucket.
-fn again(
-    alloc: Global,
-    device: &Device,
-    words: &mut RowWords,
-    page: &mut Page,
-) -> Result<(), RowFault> {
-    let bytes = words.bytes(alloc);
-    if device.trees() == 0 {
-        return Err(RowFault::NoRow);
-    }
-    match decode_bucket(alloc, device, 0, &bytes) {
-        Ok(blocks) => page.bytes(&encode_bucket(alloc, device, 0, &blocks)?),
-        Err(BucketFault::OutOfMemory) => return Err(RowFault::OutOfMemory),
-        Err(_) => return Err(RowFault::NoRow),
     }
     Ok(())
 }
@@ -78,9 +64,7 @@ fn write_sealed<S: Sealer>(
     bytes: &[u8],
     page: &mut Page,
 ) -> Result<(), RowFault> {
-    if device.trees() == 0 {
-        return Err(RowFault::NoRow);
-    }
+    prove!(device.trees() > 0);
     match decode_bucket(alloc, device, 0, bytes) {
         Ok(blocks) => {
             let sealed = seal_bucket(alloc, sealer, device, 0, nonce, &blocks)?;
@@ -115,9 +99,7 @@ fn write_opened<S: Sealer>(
     sealed: &[u8],
     page: &mut Page,
 ) -> Result<(), RowFault> {
-    if device.trees() == 0 {
-        return Err(RowFault::NoRow);
-    }
+    prove!(device.trees() > 0);
     match open_bucket(alloc, sealer, device, 0, sealed) {
         Ok(blocks) => write_blocks(page, &blocks),
         Err(OpenFault::OutOfMemory) => return Err(RowFault::OutOfMemory),
@@ -176,8 +158,7 @@ impl Buckets {
             return Err(RowFault::NoRow);
         };
         match name {
-            "decode" => decode(alloc, device, words, page),
-            "again" => again(alloc, device, words, page),
+            "decode" | "again" => decode(alloc, device, name, words, page),
             "seal" => seal(alloc, device, words, page),
             "open" => open(alloc, device, words, page),
             "copy" => copy(alloc, words, page),

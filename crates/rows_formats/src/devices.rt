@@ -1,20 +1,14 @@
 //! The sizes of a device, and the leaves and nodes of its trees.
 
 use crate::fault_text::show_fault;
-use oram_geometry::{Device, ShapeFault};
-use rows::{Page, RowFault, RowWords};
+use oram_geometry::Device;
+use rows::{Page, RowFault, RowWords, device_in};
 use std::alloc::Global;
 
 /// The device that the next rows are about.
 #[derive(Drop)]
 pub struct Devices {
     device: Option<Device>,
-}
-
-/// Makes the device of the next five numbers, or returns why there is none.
-pub fn device_in(words: &mut RowWords) -> Result<Device, ShapeFault> {
-    let [blocks, block_bytes, slots, top, lifetime] = words.five_numbers();
-    Device::new(blocks, block_bytes, slots, top, lifetime)
 }
 
 /// `device record OVERHEAD`: writes the length of a record.
@@ -27,60 +21,53 @@ fn record(device: &Device, words: &mut RowWords, page: &mut Page) -> Result<(), 
     Ok(())
 }
 
-/// `device tree TREE`: writes how many blocks the tree has, and its depth.
-fn tree(device: &Device, words: &mut RowWords, page: &mut Page) -> Result<(), RowFault> {
+/// Answers a row about a tree of the device:
+///
+/// - `device tree TREE`: writes how many blocks the tree has, and its depth.
+/// - `device address TREE ADDRESS`: writes the address in the tree of the block that leads to this block of the device.
+/// - `device leaf TREE WORD`: writes the leaf that a word names.
+/// - `device node TREE LEAF LEVEL`: writes the node at a level of a leaf's path.
+/// - `device shared TREE LEAF LEAF`: writes the greatest level at which the paths of two leaves share a node.
+fn about_tree(
+    device: &Device,
+    name: &str,
+    words: &mut RowWords,
+    page: &mut Page,
+) -> Result<(), RowFault> {
     let tree = words.byte();
     if tree >= device.trees() {
         return Err(RowFault::NoRow);
     }
-    page.number(device.blocks_in(tree));
-    page.number(device.depth(tree));
-    Ok(())
-}
-
-/// `device address TREE ADDRESS`: writes the address in the tree of the block that leads to this block of the device.
-fn address(device: &Device, words: &mut RowWords, page: &mut Page) -> Result<(), RowFault> {
-    let tree = words.byte();
-    let address = words.short();
-    if tree >= device.trees() || address >= device.blocks_in(0) {
-        return Err(RowFault::NoRow);
+    let leaves = 1u32 << device.depth(tree);
+    match name {
+        "tree" => {
+            page.number(device.blocks_in(tree));
+            page.number(device.depth(tree));
+        }
+        "address" => {
+            let address = words.short();
+            if address >= device.blocks_in(0) {
+                return Err(RowFault::NoRow);
+            }
+            page.number(device.address_in(tree, address));
+        }
+        "leaf" => page.number(device.leaf_of(tree, words.number())),
+        "node" => {
+            let (leaf, level) = (words.short(), words.byte());
+            if leaf >= leaves || level > device.depth(tree) {
+                return Err(RowFault::NoRow);
+            }
+            page.number(device.node_on(tree, leaf, level));
+        }
+        "shared" => {
+            let (x, y) = (words.short(), words.short());
+            if x >= leaves || y >= leaves {
+                return Err(RowFault::NoRow);
+            }
+            page.number(device.shared_level(tree, x, y));
+        }
+        _ => return Err(RowFault::NoRow),
     }
-    page.number(device.address_in(tree, address));
-    Ok(())
-}
-
-/// `device leaf TREE WORD`: writes the leaf that a word names.
-fn leaf(device: &Device, words: &mut RowWords, page: &mut Page) -> Result<(), RowFault> {
-    let tree = words.byte();
-    let word = words.number();
-    if tree >= device.trees() {
-        return Err(RowFault::NoRow);
-    }
-    page.number(device.leaf_of(tree, word));
-    Ok(())
-}
-
-/// `device node TREE LEAF LEVEL`: writes the node at a level of a leaf's path.
-fn node(device: &Device, words: &mut RowWords, page: &mut Page) -> Result<(), RowFault> {
-    let tree = words.byte();
-    let leaf = words.short();
-    let level = words.byte();
-    if tree >= device.trees() || level > device.depth(tree) || leaf >= 1 << device.depth(tree) {
-        return Err(RowFault::NoRow);
-    }
-    page.number(device.node_on(tree, leaf, level));
-    Ok(())
-}
-
-/// `device shared TREE LEAF LEAF`: writes the greatest level at which the paths of two leaves share a node.
-fn shared(device: &Device, words: &mut RowWords, page: &mut Page) -> Result<(), RowFault> {
-    let tree = words.byte();
-    let x = words.short();
-    let y = words.short();
-    if tree >= device.trees() || x >= 1 << device.depth(tree) || y >= 1 << device.depth(tree) {
-        return Err(RowFault::NoRow);
-    }
-    page.number(device.shared_level(tree, x, y));
     Ok(())
 }
 
@@ -130,12 +117,7 @@ impl Devices {
         match name {
             "sizes" => sizes(device, page),
             "record" => record(device, words, page),
-            "tree" => tree(device, words, page),
-            "address" => address(device, words, page),
-            "leaf" => leaf(device, words, page),
-            "node" => node(device, words, page),
-            "shared" => shared(device, words, page),
-            _ => Err(RowFault::NoRow),
+            _ => about_tree(device, name, words, page),
         }
     }
 }

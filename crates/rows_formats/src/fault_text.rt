@@ -1,7 +1,6 @@
 //! Faults with numbers.
 
-use rows::{Page, RowFault};
-use std::alloc::Global;
+use rows::Page;
 use std::fmt::Debug;
 
 /// Writes the number of a fault, if it has one, and its name.

@@ -84,58 +84,45 @@ impl Files {
         Ok(())
     }
 
-    /// Returns what is wrong with the file if the lowest bit of this byte is flipped.
-    fn fault_beside(
+    /// Returns what is wrong with the file if the lowest bit of the byte at `place` is flipped, or, for `cuts`, with the file's
+    /// first `place` bytes.
+    fn fault_at(
         &mut self,
         alloc: Global,
+        name: &str,
         place: usize,
     ) -> Result<Option<StateFault>, RowFault> {
+        if name == "cuts" {
+            let Some(cut) = self.file.get(..place) else {
+                return Err(RowFault::NoRow);
+            };
+            return fault_of(alloc, self.sealing, cut);
+        }
         flip(&mut self.file, place)?;
         let fault = fault_of(alloc, self.sealing, &self.file)?;
         flip(&mut self.file, place)?;
         Ok(fault)
     }
 
-    /// `file flips FROM TO`: flips the lowest bit of one byte at a time. Writes what is wrong with the file then, or
-    /// `not alike` if that isn't the same for each byte from `FROM` up to but not including `TO`.
-    fn flips(
+    /// `file flips FROM TO`: flips the lowest bit of one byte at a time. `file cuts FROM TO`: takes only the file's first bytes.
+    /// Writes what is wrong with the file then, or `not alike` if that isn't the same for each byte, or each number of bytes,
+    /// from `FROM` up to but not including `TO`.
+    fn alike(
         &mut self,
         alloc: Global,
+        name: &str,
         words: &mut RowWords,
         page: &mut Page,
     ) -> Result<(), RowFault> {
         let from = words.size();
-        let wanted = self.fault_beside(alloc, from)?;
+        let first = self.fault_at(alloc, name, from)?;
         for place in from..words.size() {
-            if self.fault_beside(alloc, place)? != wanted {
+            if self.fault_at(alloc, name, place)? != first {
                 page.word("not alike");
                 return Ok(());
             }
         }
-        write_fault(page, wanted);
-        Ok(())
-    }
-
-    /// Returns what is wrong with the file's first `len` bytes.
-    fn fault_before(&self, alloc: Global, len: usize) -> Result<Option<StateFault>, RowFault> {
-        let Some(cut) = self.file.get(..len) else {
-            return Err(RowFault::NoRow);
-        };
-        fault_of(alloc, self.sealing, cut)
-    }
-
-    /// `file cuts FROM TO`: writes what is wrong with the file's first bytes, or `not alike` if that isn't the same for
-    /// each number of bytes from `FROM` up to but not including `TO`.
-    fn cuts(&self, alloc: Global, words: &mut RowWords, page: &mut Page) -> Result<(), RowFault> {
-        let from = words.size();
-        let wanted = self.fault_before(alloc, from)?;
-        for len in from..words.size() {
-            if self.fault_before(alloc, len)? != wanted {
-                page.word("not alike");
-                return Ok(());
-            }
-        }
-        write_fault(page, wanted);
+        write_fault(page, first);
         Ok(())
     }
 
@@ -185,8 +172,7 @@ impl Files {
         match name {
             "again" => again(alloc, words, page),
             "kept" => self.keep(alloc, words, page),
-            "flips" => self.flips(alloc, words, page),
-            "cuts" => self.cuts(alloc, words, page),
+            "flips" | "cuts" => self.alike(alloc, name, words, page),
             "flip" => self.flip(alloc, words, page),
             "edit" => self.edit(alloc, words, page),
             "want" => {

@@ -2,18 +2,18 @@
 
 use oram_bytes::Bytes;
 use oram_wire::{
-    HostAnswer, HostRequest, HostView, ListSink, Sink, SinkFault, WireFault, fetch_header,
-    store_header,
+    HostAnswer, HostRequest, HostView, ListSink, WireFault, fetch_header, store_header,
 };
-use rows::{Page, RowFault, RowWords};
+use rows::{Page, RowFault, RowWords, put_all};
 use std::alloc::Global;
 
-/// Writes a fault of a body.
-pub fn write_fault(page: &mut Page, fault: WireFault) -> Result<(), RowFault> {
-    if fault == WireFault::OutOfMemory {
-        return Err(RowFault::OutOfMemory);
+/// Ends a row that reads a body and writes what was read. A fault is written instead, unless memory ran out.
+pub fn end_reading(page: &mut Page, read: Result<(), WireFault>) -> Result<(), RowFault> {
+    match read {
+        Ok(()) => {}
+        Err(WireFault::OutOfMemory) => return Err(RowFault::OutOfMemory),
+        Err(fault) => page.show(&fault),
     }
-    page.show(&fault);
     Ok(())
 }
 
@@ -117,28 +117,15 @@ fn write(alloc: Global, words: &mut RowWords, page: &mut Page) -> Result<(), Row
     Ok(())
 }
 
-/// `host read BODY`: reads a body as a request, and writes it.
-fn read(alloc: Global, words: &mut RowWords, page: &mut Page) -> Result<(), RowFault> {
-    let body = words.bytes(alloc);
-    match HostRequest::decode(alloc, &body) {
-        Ok(request) => {
-            write_view(page, view_of(&request));
-            Ok(())
-        }
-        Err(fault) => write_fault(page, fault),
+/// `host read BODY`, `host view BODY` and `host answered BODY`: reads a body as a request, as a view of one, which has the
+/// body's own bytes, or as an answer, and writes it.
+fn read(alloc: Global, name: &str, body: &[u8], page: &mut Page) -> Result<(), WireFault> {
+    match name {
+        "read" => write_view(page, view_of(&HostRequest::decode(alloc, body)?)),
+        "view" => write_view(page, HostView::read(body)?),
+        _ => write_answer(page, &HostAnswer::decode(alloc, body)?),
     }
-}
-
-/// `host view BODY`: reads a body as a view, which has the body's own bytes, and writes the request.
-fn view(alloc: Global, words: &mut RowWords, page: &mut Page) -> Result<(), RowFault> {
-    let body = words.bytes(alloc);
-    match HostView::read(&body) {
-        Ok(view) => {
-            write_view(page, view);
-            Ok(())
-        }
-        Err(fault) => write_fault(page, fault),
-    }
+    Ok(())
 }
 
 /// `host heads TREE LEAF`: writes the body of a fetch of this path, and the beginning of a store to it.
@@ -162,18 +149,6 @@ pub fn write_answer(page: &mut Page, answer: &HostAnswer) {
             page.word("refused");
             page.number(*code);
         }
-    }
-}
-
-/// `host answered BODY`: reads a body as an answer, and writes it.
-fn answered(alloc: Global, words: &mut RowWords, page: &mut Page) -> Result<(), RowFault> {
-    let body = words.bytes(alloc);
-    match HostAnswer::decode(alloc, &body) {
-        Ok(answer) => {
-            write_answer(page, &answer);
-            Ok(())
-        }
-        Err(fault) => write_fault(page, fault),
     }
 }
 
@@ -203,27 +178,10 @@ fn records(alloc: Global, words: &mut RowWords, page: &mut Page) -> Result<(), R
     Ok(())
 }
 
-/// Puts a body into a sink of any kind. A list of bodies fails only if memory runs out.
-fn put<S: Sink>(sink: &mut S, body: &[u8]) -> Result<(), RowFault> {
-    match sink.put(body) {
-        Ok(()) => Ok(()),
-        Err(SinkFault::OutOfMemory) => Err(RowFault::OutOfMemory),
-        Err(_) => Err(RowFault::NoRow),
-    }
-}
-
-/// Puts the bodies in the words into a sink, and returns it.
-fn filled(alloc: Global, words: &mut RowWords) -> Result<ListSink, RowFault> {
-    let mut sink = ListSink::new(alloc);
-    for body in &words.bodies(alloc) {
-        put(&mut sink, body)?;
-    }
-    Ok(sink)
-}
-
 /// `host kept BODIES`: puts the bodies into a list. Writes how many it keeps, and which.
 fn kept(alloc: Global, words: &mut RowWords, page: &mut Page) -> Result<(), RowFault> {
-    let sink = filled(alloc, words)?;
+    let mut sink = ListSink::new(alloc);
+    put_all(&mut sink, &words.bodies(alloc))?;
     page.number(sink.bodies().len());
     for body in sink.bodies() {
         page.bytes(body);
@@ -240,10 +198,12 @@ pub fn answer(
 ) -> Result<(), RowFault> {
     match name {
         "write" => write(alloc, words, page),
-        "read" => read(alloc, words, page),
-        "view" => view(alloc, words, page),
+        "read" | "view" | "answered" => {
+            let body = words.bytes(alloc);
+            let read = read(alloc, name, &body, page);
+            end_reading(page, read)
+        }
         "heads" => heads(words, page),
-        "answered" => answered(alloc, words, page),
         "done" => done(alloc, page),
         "refused" => refused(alloc, words, page),
         "records" => records(alloc, words, page),

@@ -1,8 +1,8 @@
 //! The messages that a client sends over a session, and the replies.
 
-use crate::messages::write_fault;
+use crate::messages::end_reading;
 use oram_bytes::Bytes;
-use oram_wire::{BAD_REQUEST, DEVICE_FAILED, SessionReply, SessionRequest};
+use oram_wire::{BAD_REQUEST, DEVICE_FAILED, SessionReply, SessionRequest, WireFault};
 use rows::{Page, RowFault, RowWords};
 use std::alloc::Global;
 
@@ -49,18 +49,6 @@ fn write(alloc: Global, words: &mut RowWords, page: &mut Page) -> Result<(), Row
     Ok(())
 }
 
-/// `session read BODY`: reads a body as a request, and writes it.
-fn read(alloc: Global, words: &mut RowWords, page: &mut Page) -> Result<(), RowFault> {
-    let body = words.bytes(alloc);
-    match SessionRequest::decode(alloc, &body) {
-        Ok(request) => {
-            write_request(page, &request);
-            Ok(())
-        }
-        Err(fault) => write_fault(page, fault),
-    }
-}
-
 /// `session data BYTES`: writes the body of the reply with this data.
 fn data(alloc: Global, words: &mut RowWords, page: &mut Page) -> Result<(), RowFault> {
     let bytes = Bytes::from_vec(words.bytes(alloc));
@@ -105,16 +93,13 @@ fn write_reply(page: &mut Page, reply: &SessionReply) {
     }
 }
 
-/// `session replied BODY`: reads a body as a reply, and writes it.
-fn replied(alloc: Global, words: &mut RowWords, page: &mut Page) -> Result<(), RowFault> {
-    let body = words.bytes(alloc);
-    match SessionReply::decode(alloc, &body) {
-        Ok(reply) => {
-            write_reply(page, &reply);
-            Ok(())
-        }
-        Err(fault) => write_fault(page, fault),
+/// `session read BODY` and `session replied BODY`: reads a body as a request or as a reply, and writes it.
+fn read(alloc: Global, name: &str, body: &[u8], page: &mut Page) -> Result<(), WireFault> {
+    match name {
+        "read" => write_request(page, &SessionRequest::decode(alloc, body)?),
+        _ => write_reply(page, &SessionReply::decode(alloc, body)?),
     }
+    Ok(())
 }
 
 /// Answers a row about a session's messages.
@@ -126,12 +111,15 @@ pub fn answer(
 ) -> Result<(), RowFault> {
     match name {
         "write" => write(alloc, words, page),
-        "read" => read(alloc, words, page),
+        "read" | "replied" => {
+            let body = words.bytes(alloc);
+            let read = read(alloc, name, &body, page);
+            end_reading(page, read)
+        }
         "data" => data(alloc, words, page),
         "done" => done(alloc, page),
         "refused" => refused(alloc, words, page),
         "codes" => codes(page),
-        "replied" => replied(alloc, words, page),
         _ => Err(RowFault::NoRow),
     }
 }

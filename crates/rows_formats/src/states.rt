@@ -1,15 +1,13 @@
 //! Cores at work with a bucket host, and the state files that are kept of them.
 
 use crate::cores::AnyCore;
-use crate::devices::device_in;
 use crate::fault_text::show_fault;
 use crate::files::{core_in, write_fault};
 use crate::sealers::sealing_in;
-use crate::servers::answer_to;
 use oram_bytes::{Bytes, Words as WordList};
 use oram_core::{Command, Event, Parts, Pending, Reaction, Reply, ReplyBody};
 use oram_host::Server;
-use rows::{Page, RowFault, RowWords};
+use rows::{Page, RowFault, RowWords, device_in, flip_in, host_answer, swap_in};
 use std::alloc::Global;
 
 /// The core of the next rows, its host, and the message that has no answer yet.
@@ -29,16 +27,6 @@ fn are_alike(one: &Reaction, other: &Reaction) -> bool {
     one.note == other.note && one.replies == other.replies && one.sends == other.sends
 }
 
-/// Makes the event in which a session submits a command, with the words that are left.
-fn submission(alloc: Global, session: u32, command: Command, words: &mut RowWords) -> Event {
-    let words = WordList::from_vec(words.numbers(alloc));
-    Event::Submit {
-        session,
-        command,
-        words,
-    }
-}
-
 /// `core read SESSION ADDRESS WORDS`, `core write SESSION ADDRESS BYTES WORDS` and
 /// `core discard SESSION ADDRESS WORDS`: returns the event of this command.
 fn command_in(alloc: Global, name: &str, words: &mut RowWords) -> Result<Event, RowFault> {
@@ -50,7 +38,11 @@ fn command_in(alloc: Global, name: &str, words: &mut RowWords) -> Result<Event, 
         "discard" => Command::Discard(address),
         _ => return Err(RowFault::NoRow),
     };
-    Ok(submission(alloc, session, command, words))
+    Ok(Event::Submit {
+        session,
+        command,
+        words: WordList::from_vec(words.numbers(alloc)),
+    })
 }
 
 fn write_reply(page: &mut Page, reply: &Reply) {
@@ -240,7 +232,7 @@ impl States {
         let Some(message) = &self.outstanding else {
             return Err(RowFault::NoRow);
         };
-        let answer = answer_to(alloc, &mut self.server, message.as_slice())?;
+        let answer = host_answer(alloc, &mut self.server, message.as_slice())?;
         Ok(Event::Answer(Bytes::from_vec(answer)))
     }
 
@@ -257,37 +249,12 @@ impl States {
         Ok(())
     }
 
-    /// `core tamper TREE NODE PLACE`: flips a bit of a byte in a record. Writes whether there is such a byte.
-    fn tamper(&mut self, words: &mut RowWords, page: &mut Page) -> Result<(), RowFault> {
-        let tree = words.number();
-        let node = words.number();
-        let place = words.number();
-        page.flag(self.server.flip(tree, node, place));
-        Ok(())
-    }
-
-    /// `core swap TREE NODE TREE NODE`: swaps two records. Writes whether there are two that can be swapped.
-    fn swap(&mut self, words: &mut RowWords, page: &mut Page) -> Result<(), RowFault> {
-        let tree_a = words.number();
-        let node_a = words.number();
-        let tree_b = words.number();
-        let node_b = words.number();
-        page.flag(self.server.swap(tree_a, node_a, tree_b, node_b));
-        Ok(())
-    }
-
-    /// `core message`: writes the message that the core sent last.
-    fn message(&self, alloc: Global, page: &mut Page) -> Result<(), RowFault> {
-        let parts = self.core()?.parts(alloc)?;
-        page.bytes(parts.message.as_slice());
-        Ok(())
-    }
-
-    /// Answers a row about what is kept of the core.
+    /// Answers a row about what is kept of the core. `core message` writes the message that it sent last.
     fn kept(&self, alloc: Global, name: &str, page: &mut Page) -> Result<(), RowFault> {
         let core = self.core()?;
         let parts = core.parts(alloc)?;
         match name {
+            "message" => page.bytes(parts.message.as_slice()),
             "counts" => write_counts(page, core.overhead(), &parts),
             "stash" => write_stashes(page, &parts),
             "work" => write_work(page, &parts),
@@ -322,7 +289,9 @@ impl States {
         self.tell(alloc, &event, page)
     }
 
-    /// Answers a row about a core.
+    /// Answers a row about a core. `core tamper TREE NODE PLACE` flips a bit of a byte in a record of the host, and writes
+    /// whether there is such a byte. `core swap TREE NODE TREE NODE` swaps two records, and writes whether there are two that
+    /// can be swapped.
     pub fn answer(
         &mut self,
         alloc: Global,
@@ -331,19 +300,18 @@ impl States {
         page: &mut Page,
     ) -> Result<(), RowFault> {
         match name {
-            "format" => self.format(alloc, words, page),
-            "open" => self.open(alloc, words, page),
-            "drain" => self.drain(alloc, page),
-            "tamper" => self.tamper(words, page),
-            "swap" => self.swap(words, page),
-            "file" => {
-                page.bytes(&self.core()?.file(alloc)?);
-                Ok(())
+            "format" => return self.format(alloc, words, page),
+            "open" => return self.open(alloc, words, page),
+            "drain" => return self.drain(alloc, page),
+            "again" => return self.again(alloc, words, page),
+            "tamper" => page.flag(flip_in(&mut self.server, words)),
+            "swap" => page.flag(swap_in(&mut self.server, words)),
+            "file" => page.bytes(&self.core()?.file(alloc)?),
+            "message" | "counts" | "stash" | "work" | "waiting" | "failure" => {
+                return self.kept(alloc, name, page);
             }
-            "message" => self.message(alloc, page),
-            "again" => self.again(alloc, words, page),
-            "counts" | "stash" | "work" | "waiting" | "failure" => self.kept(alloc, name, page),
-            _ => self.event(alloc, name, words, page),
+            _ => return self.event(alloc, name, words, page),
         }
+        Ok(())
     }
 }

@@ -1,7 +1,7 @@
 //! Devices that are formatted on a host in memory.
 //!
-//! `rows_sessions` has [`device_of`] and [`standing`] too. The crate `rows` can't have them for both, since it knows no device
-//! and no core: otherwise each row program would be proved only after the core.
+//! `rows_sessions` has [`standing`] too. The crate `rows` can't have it for both, since it knows no core: otherwise each row
+//! program would be proved only after the core.
 
 use oram_bucket::PlainSeal;
 use oram_core::Core;
@@ -9,17 +9,8 @@ use oram_geometry::Device;
 use oram_host::Server;
 use oram_rounds::encode_kept;
 use oram_session::{Direct, format_device};
-use rows::RowFault;
+use rows::{RowFault, RowWords, device_in};
 use std::alloc::Global;
-
-/// Makes the device with five numbers.
-fn device_of(numbers: [u64; 5]) -> Result<Device, RowFault> {
-    let [blocks, block_bytes, slots, top, lifetime] = numbers;
-    match Device::new(blocks, block_bytes, slots, top, lifetime) {
-        Ok(device) => Ok(device),
-        Err(_) => Err(RowFault::NoRow),
-    }
-}
 
 /// Formats a device over a link, and returns the file from which its first process begins.
 fn formatted_over(alloc: Global, device: Device, link: &mut Direct) -> Result<Vec<u8>, RowFault> {
@@ -29,13 +20,14 @@ fn formatted_over(alloc: Global, device: Device, link: &mut Direct) -> Result<Ve
     }
 }
 
-/// Formats the device with five numbers on a new server. Returns the server, and the file from which the first process begins.
+/// Formats the device of the next five words on a new server. Returns the server, and the file from which the first process
+/// begins.
 pub(crate) fn new_device(
     alloc: Global,
-    numbers: [u64; 5],
+    words: &mut RowWords,
 ) -> Result<(Box<Server>, Vec<u8>), RowFault> {
     let mut link = Direct::new(alloc, Server::new(alloc));
-    let file = formatted_over(alloc, device_of(numbers)?, &mut link)?;
+    let file = formatted_over(alloc, device_in(words)?, &mut link)?;
     Ok((Box::new(alloc, link.into_server())?, file))
 }
 

@@ -259,7 +259,7 @@ pub(crate) fn ends_everywhere(
     words: &mut RowWords,
     page: &mut Page,
 ) -> Result<(), RowFault> {
-    let (server, file) = new_device(alloc, words.five_numbers())?;
+    let (server, file) = new_device(alloc, words)?;
     let round = words.byte();
     let step = words.number();
     let new = Remains {

@@ -6,12 +6,9 @@ ghost use Rattle.oram_session.specs.Outcome.{faults_after};
 use oram_host::Server;
 use oram_session::{Link, LinkFault};
 use oram_wire::HostView;
-use rows::{Page, RowFault, RowWords};
+use rows::{RowFault, RowWords, lacks_room};
 use std::alloc::Global;
 use std::cell::Cell;
-
-/// A host's answer that it is out of memory.
-const NO_ROOM: [u8; 2] = [0x81, 8];
 
 /// What becomes of the messages that a process sends. Messages count from 0.
 #[derive(Drop)]
@@ -144,7 +141,7 @@ impl Host {
     /// Lets the server answer, which must have memory for it.
     fn serve(&mut self, alloc: Global, body: &[u8]) -> Result<Vec<u8>, LinkFault> {
         match self.server.answer(alloc, body) {
-            Ok(answer) if answer.as_slice() != NO_ROOM.as_slice() => Ok(answer),
+            Ok(answer) if !lacks_room(&answer) => Ok(answer),
             _ => {
                 self.lacks_memory = true;
                 Err(LinkFault::OutOfMemory)

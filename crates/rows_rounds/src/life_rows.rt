@@ -71,7 +71,7 @@ fn tell_reading(
 ///
 /// With another `KEEPER WAY` behind it there is a life between these two, which reads the blocks too and may end early.
 pub(crate) fn lives(alloc: Global, words: &mut RowWords, page: &mut Page) -> Result<(), RowFault> {
-    let (server, file) = new_device(alloc, words.five_numbers())?;
+    let (server, file) = new_device(alloc, words)?;
     let round = words.byte();
     let place = HostPlace::new();
     let keeper = MemoryKeeper::with(alloc, file, Room::read(words)?);

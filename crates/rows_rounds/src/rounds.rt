@@ -77,7 +77,7 @@ impl<'a> Rounds<'a> {
         words: &mut RowWords,
         page: &mut Page,
     ) -> Result<(), RowFault> {
-        let (server, file) = new_device(alloc, words.five_numbers())?;
+        let (server, file) = new_device(alloc, words)?;
         self.place.put(server, Way::Honest);
         let keeper = MemoryKeeper::with(alloc, file, Room::AMPLE);
         let life = Life::begin(alloc, self.place, keeper)?;

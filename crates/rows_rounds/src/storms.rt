@@ -161,7 +161,7 @@ pub(crate) fn run_storm(
     words: &mut RowWords,
     page: &mut Page,
 ) -> Result<(), RowFault> {
-    let (server, file) = new_device(alloc, words.five_numbers())?;
+    let (server, file) = new_device(alloc, words)?;
     let draws = Draws {
         seed: words.number(),
     };

@@ -2,9 +2,8 @@
 
 use crate::ends::{LimitedWriter, RowReader};
 use crate::faults::tell_end;
-use crate::ways::NO_ROOM;
 use oram_host::{BucketServer, Server, host_serve};
-use rows::{Page, RowFault, RowWords};
+use rows::{Page, RowFault, RowWords, lacks_room};
 use std::alloc::{AllocError, Global};
 
 /// A server, and whether it has answered that it is out of memory.
@@ -38,7 +37,7 @@ impl BucketServer for WatchedServer {
 
     fn respond(&mut self, alloc: Global, body: &[u8]) -> Result<Vec<u8>, AllocError> {
         let answer = self.server.answer(alloc, body)?;
-        if answer.as_slice() == NO_ROOM.as_slice() {
+        if lacks_room(&answer) {
             self.lacks_memory = true;
         }
         Ok(answer)

@@ -4,8 +4,9 @@ use crate::answers::WatchedServer;
 use crate::ends::{LimitedWriter, RowReader};
 use crate::faults::tell_end;
 use crate::sessions::{formatted, served};
+use oram_geometry::Device;
 use oram_session::{ListTape, ServeFault, StreamLink, host_serve};
-use rows::{Page, RowFault, RowWords};
+use rows::{Page, RowFault, RowWords, device_in};
 use std::alloc::Global;
 
 /// The most answers that a session may need.
@@ -14,22 +15,22 @@ const MOST_ANSWERS: u64 = 100;
 /// A session, and how far it has come.
 #[derive(Drop)]
 struct RemoteSession {
-    numbers: [u64; 5],
+    device: Device,
     given: RowReader,
     /// The host's answers so far.
     answers: Vec<u8>,
     replies: LimitedWriter,
-    asked: LimitedWriter,
+    sent: LimitedWriter,
 }
 
 impl RemoteSession {
     /// Serves the session from its beginning, with these answers.
     fn serve(&mut self, alloc: Global) -> Result<Result<u64, ServeFault>, RowFault> {
-        let (mut core, _host) = formatted(alloc, self.numbers)?;
+        let (mut core, _host) = formatted(alloc, &self.device)?;
         self.given.rewind();
         self.replies = LimitedWriter::ample(alloc);
-        self.asked = LimitedWriter::ample(alloc);
-        let mut link = StreamLink::new(alloc, self.answers.as_slice(), &mut self.asked);
+        self.sent = LimitedWriter::ample(alloc);
+        let mut link = StreamLink::new(alloc, self.answers.as_slice(), &mut self.sent);
         let mut tape = ListTape {
             words: Vec::new(alloc),
         };
@@ -43,13 +44,13 @@ impl RemoteSession {
         )
     }
 
-    /// Lets a host answer everything that was asked.
+    /// Lets a host answer everything that was sent.
     fn answer(&mut self, alloc: Global) -> Result<(), RowFault> {
-        let (_core, server) = formatted(alloc, self.numbers)?;
+        let (_core, server) = formatted(alloc, &self.device)?;
         let mut host = WatchedServer::over(Box::into_inner(server));
         let mut answers = LimitedWriter::ample(alloc);
-        let mut asked = self.asked.text()?;
-        let _ended = host_serve(alloc, &mut asked, &mut answers, &mut host);
+        let mut sent = self.sent.text()?;
+        let _ended = host_serve(alloc, &mut sent, &mut answers, &mut host);
         host.check_memory()?;
         self.answers = answers.into_text()?;
         Ok(())
@@ -78,11 +79,11 @@ pub(crate) fn far_session(
     page: &mut Page,
 ) -> Result<(), RowFault> {
     let mut far = RemoteSession {
-        numbers: words.five_numbers(),
+        device: device_in(words)?,
         given: RowReader::read(alloc, words)?,
         answers: Vec::new(alloc),
         replies: LimitedWriter::ample(alloc),
-        asked: LimitedWriter::ample(alloc),
+        sent: LimitedWriter::ample(alloc),
     };
     let (wanted, ended) = far.go_on(alloc)?;
     page.bytes(far.replies.text()?);

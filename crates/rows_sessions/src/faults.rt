@@ -2,7 +2,6 @@
 
 use oram_bucket::PlainSeal;
 use oram_core::{Core, Note};
-use oram_geometry::Device;
 use oram_host::ServeFault;
 use oram_session::LinkFault;
 use rows::{Page, RowFault, RowWords};
@@ -59,15 +58,6 @@ pub(crate) fn standing(core: &Core<PlainSeal>) -> &'static str {
         "idle"
     } else {
         "at work"
-    }
-}
-
-/// Makes the device with five numbers.
-pub(crate) fn device_of(numbers: [u64; 5]) -> Result<Device, RowFault> {
-    let [blocks, block_bytes, slots, top, lifetime] = numbers;
-    match Device::new(blocks, block_bytes, slots, top, lifetime) {
-        Ok(device) => Ok(device),
-        Err(_) => Err(RowFault::NoRow),
     }
 }
 

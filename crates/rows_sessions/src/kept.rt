@@ -1,6 +1,6 @@
 //! Rows of a link and of a core over it, which are kept from row to row.
 
-use crate::faults::{device_of, standing, tell_end, tell_note, tell_outcome};
+use crate::faults::{standing, tell_end, tell_note, tell_outcome};
 use crate::network::CuttableNet;
 use crate::ways::AnyLink;
 use oram_bucket::PlainSeal;
@@ -11,7 +11,7 @@ use oram_host::Server;
 use oram_session::{Link, format_device, resume};
 use oram_tree::FormatFault;
 use oram_wire::SinkFault;
-use rows::{Page, RowFault, RowWords};
+use rows::{Page, RowFault, RowWords, device_in, flip_in};
 use std::alloc::Global;
 use std::net::Net;
 
@@ -129,7 +129,7 @@ impl<'a, R: Net> Kept<'a, R> {
         page: &mut Page,
     ) -> Result<(), RowFault> {
         let mut server = self.take_server(alloc)?;
-        let flipped = server.flip(words.number(), words.number(), words.number());
+        let flipped = flip_in(&mut server, words);
         self.link = Some(AnyLink::direct(alloc, server)?);
         page.flag(flipped);
         Ok(())
@@ -142,7 +142,7 @@ impl<'a, R: Net> Kept<'a, R> {
         words: &mut RowWords,
         page: &mut Page,
     ) -> Result<(), RowFault> {
-        let device = device_of(words.five_numbers())?;
+        let device = device_in(words)?;
         self.core = None;
         let Some(link) = &mut self.link else {
             return Err(RowFault::NoRow);

@@ -1,7 +1,7 @@
 //! Rows of whole sessions.
 
 use crate::ends::{LimitedWriter, RowReader};
-use crate::faults::{device_of, standing, tell_end};
+use crate::faults::{standing, tell_end};
 use crate::network::CuttableNet;
 use crate::ways::AnyLink;
 use oram_bucket::PlainSeal;
@@ -11,7 +11,7 @@ use oram_host::Server;
 use oram_session::{
     ChaChaTape, Direct, Link, ListTape, ServeFault, Tape, format_device, has_no_work, serve,
 };
-use rows::{Page, RowFault, RowWords};
+use rows::{Page, RowFault, RowWords, device_in};
 use std::alloc::Global;
 use std::net::Net;
 
@@ -31,10 +31,10 @@ fn formatted_over(
 /// two plain values to drop, and so is proved sooner.
 pub(crate) fn formatted(
     alloc: Global,
-    numbers: [u64; 5],
+    device: &Device,
 ) -> Result<(Box<Core<PlainSeal>>, Box<Server>), RowFault> {
     let mut link = Direct::new(alloc, Server::new(alloc));
-    let core = formatted_over(alloc, device_of(numbers)?, &mut link)?;
+    let core = formatted_over(alloc, device.copy(), &mut link)?;
     Ok((core, Box::new(alloc, link.into_server())?))
 }
 
@@ -62,19 +62,20 @@ pub(crate) fn session<R: Net>(
     words: &mut RowWords,
     page: &mut Page,
 ) -> Result<(), RowFault> {
-    let numbers = words.five_numbers();
+    let device = device_in(words)?;
     match words.text() {
         "zeros" => {
             let mut tape = ListTape {
                 words: Vec::new(alloc),
             };
-            session_with(alloc, net, numbers, &mut tape, words, page)
+            session_with(alloc, net, &device, &mut tape, words, page)
         }
         "chacha" => {
-            let trees = device_of(numbers)?.trees();
-            let key = [0; 32];
-            let mut tape = ChaChaTape { key, trees };
-            session_with(alloc, net, numbers, &mut tape, words, page)
+            let mut tape = ChaChaTape {
+                key: [0; 32],
+                trees: device.trees(),
+            };
+            session_with(alloc, net, &device, &mut tape, words, page)
         }
         _ => Err(RowFault::NoRow),
     }
@@ -84,12 +85,12 @@ pub(crate) fn session<R: Net>(
 fn session_with<R: Net, T: Tape>(
     alloc: Global,
     net: &CuttableNet<R>,
-    numbers: [u64; 5],
+    device: &Device,
     tape: &mut T,
     words: &mut RowWords,
     page: &mut Page,
 ) -> Result<(), RowFault> {
-    let (mut core, server) = formatted(alloc, numbers)?;
+    let (mut core, server) = formatted(alloc, device)?;
     let mut link = AnyLink::read(alloc, words, net, server)?;
     session_over(alloc, &mut core, &mut link, tape, words, page)
 }

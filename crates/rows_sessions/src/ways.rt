@@ -6,7 +6,7 @@ use crate::ends::{LimitedWriter, RowReader};
 use crate::network::CuttableNet;
 use oram_host::Server;
 use oram_session::{Direct, FaultLink, Link, LinkFault, LoopLink, StreamLink};
-use rows::{Page, RowFault, RowWords};
+use rows::{Page, RowFault, RowWords, lacks_room};
 use std::alloc::Global;
 use std::net::Net;
 
@@ -40,13 +40,10 @@ impl<R: Net> Way<'_, R> {
     }
 }
 
-/// A host's answer that it is out of memory.
-pub(crate) const NO_ROOM: [u8; 2] = [0x81, 8];
-
 /// Returns whether memory ran out in a call, here or at the host.
 fn lacks_memory(outcome: &Result<Vec<u8>, LinkFault>) -> bool {
     match outcome {
-        Ok(answer) => answer.as_slice() == NO_ROOM.as_slice(),
+        Ok(answer) => lacks_room(answer),
         Err(fault) => *fault == LinkFault::OutOfMemory,
     }
 }

@@ -62,18 +62,6 @@ pub fn device(words: &mut RowWords, page: &mut Page) -> Result<(), RowFault> {
     Ok(())
 }
 
-/// `first-settings SIZE KEY`: reads the text of a new disk's settings, and writes the settings in it.
-pub fn first_settings(
-    alloc: Global,
-    words: &mut RowWords,
-    page: &mut Page,
-) -> Result<(), RowFault> {
-    let size = words.number();
-    let key = words.array(alloc);
-    let text = disk_text(alloc, size, &key)?;
-    put_settings(alloc, text.as_str(), page)
-}
-
 /// Returns the text of a new disk's settings with those settings set that it has only as comments.
 fn all_set(alloc: Global, text: &str) -> Result<String, RowFault> {
     let mut all = String::new(alloc);
@@ -88,16 +76,20 @@ fn all_set(alloc: Global, text: &str) -> Result<String, RowFault> {
     Ok(all)
 }
 
-/// `first-settings-set SIZE KEY`: the same, but with those settings set that the text has only as comments.
-pub fn first_settings_set(
+/// `first-settings SIZE KEY`: reads the text of a new disk's settings, and writes the settings in it. `first-settings-set SIZE
+/// KEY`: does so with those settings set that the text has only as comments.
+pub fn first_settings(
     alloc: Global,
+    call: &str,
     words: &mut RowWords,
     page: &mut Page,
 ) -> Result<(), RowFault> {
     let size = words.number();
     let key = words.array(alloc);
-    let text = disk_text(alloc, size, &key)?;
-    let text = all_set(alloc, text.as_str())?;
+    let mut text = disk_text(alloc, size, &key)?;
+    if call == "first-settings-set" {
+        text = all_set(alloc, text.as_str())?;
+    }
     put_settings(alloc, text.as_str(), page)
 }
 

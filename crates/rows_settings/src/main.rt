@@ -39,8 +39,9 @@ impl Table for Calls {
             "disk" => disks::disk(alloc, words, page),
             "device" => disks::device(words, page),
             "differs" => disks::differs(alloc, words, page),
-            "first-settings-set" => disks::first_settings_set(alloc, words, page),
-            "first-settings" => disks::first_settings(alloc, words, page),
+            "first-settings" | "first-settings-set" => {
+                disks::first_settings(alloc, call, words, page)
+            }
             "progress" => reports::progress(alloc, words, page),
             "meter" => reports::meter(&mut self.meter, words, page),
             "due" => reports::due(self.meter.as_mut(), words, page),

@@ -95,13 +95,6 @@ pub fn only(
     let Some(table) = document else {
         return Err(RowFault::NoRow);
     };
-    let mut keys = Vec::new(alloc);
-    for _ in 0..64 {
-        if words.is_empty() {
-            break;
-        }
-        keys.push(words.text())?;
-    }
-    page.flag(has_only(table, &keys));
+    page.flag(has_only(table, &words.texts(alloc)));
     Ok(())
 }

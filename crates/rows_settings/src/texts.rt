@@ -25,14 +25,7 @@ pub fn beside_file(alloc: Global, words: &mut RowWords, page: &mut Page) -> Resu
 
 /// `words WORD ..`: writes what a command line asks `oramdisk` for.
 pub fn command_line(alloc: Global, words: &mut RowWords, page: &mut Page) -> Result<(), RowFault> {
-    let mut texts = Vec::new(alloc);
-    for _ in 0..64 {
-        if words.is_empty() {
-            break;
-        }
-        texts.push(words.text())?;
-    }
-    put_request(&read_command_line(alloc, &texts), page)
+    put_request(&read_command_line(alloc, &words.texts(alloc)), page)
 }
 
 fn put_request(read: &Result<Subcommand, NoRequest>, page: &mut Page) -> Result<(), RowFault> {

@@ -4,11 +4,8 @@ use oram_host::Server;
 use oram_redo::MemoryPair;
 use oram_store::FileStore;
 use oram_wire::HostAnswer;
-use rows::{Page, RowFault};
+use rows::{NO_ROOM, Page, RowFault, lacks_room};
 use std::alloc::Global;
-
-/// The code by which a host refuses a body because it has no room.
-pub const NO_ROOM: u8 = 8;
 
 /// Writes an answer. Here a host has no room only if memory ran out, so this fails then.
 pub fn write_answer(page: &mut Page, answer: &HostAnswer) -> Result<(), RowFault> {
@@ -64,7 +61,7 @@ pub fn ask(
 /// Writes the bytes of an answer on their own page. Here a host has no room only if memory ran out, so this fails
 /// then.
 fn spelled(alloc: Global, answer: &[u8]) -> Result<Page, RowFault> {
-    if answer == [0x81, NO_ROOM].as_slice() {
+    if lacks_room(answer) {
         return Err(RowFault::OutOfMemory);
     }
     let mut page = Page::new(alloc);

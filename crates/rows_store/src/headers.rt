@@ -41,34 +41,19 @@ fn write_trees(page: &mut Page, trees: &[Option<Tree>]) {
     }
 }
 
-/// `header trees ENTRIES`: writes the trees.
-fn trees(alloc: Global, words: &mut RowWords, page: &mut Page) -> Result<(), RowFault> {
-    match trees_in(alloc, words)? {
-        Ok(trees) => write_trees(page, &trees),
-        Err(fault) => page.show(&fault),
-    }
-    Ok(())
-}
-
-/// `header next ENTRIES`: writes the place where the cells of the next tree will begin.
-fn next(alloc: Global, words: &mut RowWords, page: &mut Page) -> Result<(), RowFault> {
-    match trees_in(alloc, words)? {
-        Ok(trees) => page.number(next_base(&trees)),
-        Err(fault) => page.show(&fault),
-    }
-    Ok(())
-}
-
-/// Answers a row about a header.
+/// Answers a row about a header. `header trees ENTRIES` writes the trees, and `header next ENTRIES` the place where the cells of
+/// the next tree will begin.
 pub fn answer(
     alloc: Global,
     name: &str,
     words: &mut RowWords,
     page: &mut Page,
 ) -> Result<(), RowFault> {
-    match name {
-        "trees" => trees(alloc, words, page),
-        "next" => next(alloc, words, page),
-        _ => Err(RowFault::NoRow),
+    match (&trees_in(alloc, words)?, name) {
+        (Ok(trees), "trees") => write_trees(page, trees),
+        (Ok(trees), "next") => page.number(next_base(trees)),
+        (Err(fault), "trees" | "next") => page.show(fault),
+        _ => return Err(RowFault::NoRow),
     }
+    Ok(())
 }

@@ -1,6 +1,4 @@
 //! Files that are lent to a store, and fail from some call on.
-ghost use Rattle.std.specs.Prelude.{◌≡◌, ℕ};
-
 use oram_redo::{FileKind, FilePair, RedoError};
 
 /// Files that are lent to a store.

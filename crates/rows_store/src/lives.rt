@@ -1,12 +1,11 @@
 //! Stores over the same files, one after the other. In its life, a store is opened, asked, and closed or cut off.
 
-use crate::answers::NO_ROOM;
 use crate::files::{created, write_bytes};
 use crate::lent::FailingFiles;
 use oram_redo::MemoryPair;
 use oram_store::{FileStore, StoreFault};
 use oram_wire::HostAnswer;
-use rows::{Page, RowFault, RowWords};
+use rows::{NO_ROOM, Page, RowFault, RowWords};
 use std::alloc::Global;
 
 /// The files that the next stores are opened over.

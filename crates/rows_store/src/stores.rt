@@ -1,12 +1,12 @@
 //! A store over two files in memory, beside the bucket server in memory.
 
-use crate::answers::{NO_ROOM, ask, ask_bytes, write_answer};
+use crate::answers::{ask, ask_bytes, write_answer};
 use crate::files::created;
 use oram_host::Server;
 use oram_redo::{FileKind, FilePair, MemoryPair};
 use oram_store::{FileStore, StoreFault};
 use oram_wire::{HostAnswer, Sink, SinkFault};
-use rows::{Page, RowFault, RowWords};
+use rows::{NO_ROOM, Page, RowFault, RowWords};
 use std::alloc::Global;
 
 /// The store that the next rows ask, and the server that gets the same bodies.
@@ -43,22 +43,6 @@ fn fill(files: &mut MemoryPair, file: FileKind, bytes: &[u8]) -> Result<(), RowF
     }
 }
 
-/// `store full BODY`: writes that the store has no room for a body, and why.
-fn full(
-    alloc: Global,
-    store: &mut FileStore<MemoryPair>,
-    words: &mut RowWords,
-    page: &mut Page,
-) -> Result<(), RowFault> {
-    let body = words.bytes(alloc);
-    match store.handle(&body) {
-        HostAnswer::Refused(NO_ROOM) => page.word("refused 8"),
-        answer => write_answer(page, &answer)?,
-    }
-    write_failure(store, page);
-    Ok(())
-}
-
 /// `store failure`: writes why there was no room, the last time that there was none.
 fn write_failure(store: &FileStore<MemoryPair>, page: &mut Page) {
     match store.failure() {
@@ -67,31 +51,32 @@ fn write_failure(store: &FileStore<MemoryPair>, page: &mut Page) {
     }
 }
 
-/// `store put BODY`: writes whether the store takes a body of a formatting.
-fn put(
+/// `store alone BODY`: asks the store alone, and writes its answer. `store full BODY`: writes that the store has no room for a
+/// body, and why. `store put BODY`: writes whether the store takes a body of a formatting.
+fn tell(
     alloc: Global,
     store: &mut FileStore<MemoryPair>,
+    name: &str,
     words: &mut RowWords,
     page: &mut Page,
 ) -> Result<(), RowFault> {
     let body = words.bytes(alloc);
-    match store.put(&body) {
-        Ok(()) => page.word("taken"),
-        Err(SinkFault::OutOfMemory) => return Err(RowFault::OutOfMemory),
-        Err(fault) => page.show(&fault),
+    match name {
+        "alone" => write_answer(page, &store.handle(&body))?,
+        "full" => {
+            match store.handle(&body) {
+                HostAnswer::Refused(NO_ROOM) => page.word("refused 8"),
+                answer => write_answer(page, &answer)?,
+            }
+            write_failure(store, page);
+        }
+        _ => match store.put(&body) {
+            Ok(()) => page.word("taken"),
+            Err(SinkFault::OutOfMemory) => return Err(RowFault::OutOfMemory),
+            Err(fault) => page.show(&fault),
+        },
     }
     Ok(())
-}
-
-/// `store alone BODY`: asks the store alone, and writes its answer.
-fn alone(
-    alloc: Global,
-    store: &mut FileStore<MemoryPair>,
-    words: &mut RowWords,
-    page: &mut Page,
-) -> Result<(), RowFault> {
-    let body = words.bytes(alloc);
-    write_answer(page, &store.handle(&body))
 }
 
 /// Answers a row about the store alone.
@@ -103,9 +88,7 @@ fn answer_of(
     page: &mut Page,
 ) -> Result<(), RowFault> {
     match name {
-        "alone" => alone(alloc, store, words, page),
-        "full" => full(alloc, store, words, page),
-        "put" => put(alloc, store, words, page),
+        "alone" | "full" | "put" => tell(alloc, store, name, words, page),
         "commit" => write_end(page, store.commit_puts()),
         "failure" => {
             write_failure(store, page);

@@ -16,7 +16,7 @@ use crate::hashes::Hashes;
 use crate::stashes::Stashes;
 use crate::trees::Trees;
 use oram_geometry::Device;
-use rows::{Page, RowFault, RowWords, Table, run_table};
+use rows::{Page, RowFault, RowWords, Table, run_table, shown_device_in};
 use std::alloc::Global;
 use std::process::ExitCode;
 
@@ -73,18 +73,9 @@ impl Calls {
         words: &mut RowWords,
         page: &mut Page,
     ) -> Result<(), RowFault> {
-        let [blocks, block_bytes, slots, top, lifetime] = words.five_numbers();
-        self.layers = match Device::new(blocks, block_bytes, slots, top, lifetime) {
-            Ok(device) => {
-                page.word("ready");
-                page.number(device.trees());
-                Some(Box::new(alloc, Layers::new(alloc, device))?)
-            }
-            Err(fault) => {
-                page.word("shape");
-                page.number(fault.number());
-                None
-            }
+        self.layers = match shown_device_in(words, page) {
+            Some(device) => Some(Box::new(alloc, Layers::new(alloc, device))?),
+            None => None,
         };
         Ok(())
     }

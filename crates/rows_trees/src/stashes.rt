@@ -33,11 +33,8 @@ fn block_of(alloc: Global, word: &str) -> Result<Block, RowFault> {
 /// Reads the blocks in all words that are left.
 fn blocks_of(alloc: Global, words: &mut RowWords) -> Result<Vec<Block>, RowFault> {
     let mut blocks = Vec::new(alloc);
-    for _ in 0..u64::MAX {
-        if words.is_empty() {
-            break;
-        }
-        blocks.push(block_of(alloc, words.text())?)?;
+    for word in &words.texts(alloc) {
+        blocks.push(block_of(alloc, word)?)?;
     }
     Ok(blocks)
 }
@@ -187,21 +184,24 @@ impl Stashes {
         Ok(())
     }
 
-    /// `stash get ADDRESS`: writes the block, or `none`.
-    fn get(&self, alloc: Global, words: &mut RowWords, page: &mut Page) -> Result<(), RowFault> {
-        show_found(alloc, self.stash.get(words.short()), page);
-        Ok(())
-    }
-
-    /// `stash take ADDRESS`: takes the block out of the stash. Writes the block, or `none`.
-    fn take(
+    /// `stash get ADDRESS`: writes the block, or `none`. `stash take ADDRESS`: does so, and takes the block out of the stash.
+    /// `stash contains ADDRESS`: writes whether the stash has the block.
+    fn find(
         &mut self,
         alloc: Global,
+        call: &str,
         words: &mut RowWords,
         page: &mut Page,
     ) -> Result<(), RowFault> {
-        let taken = self.stash.take(words.short());
-        show_found(alloc, taken.as_ref(), page);
+        let address = words.short();
+        match call {
+            "get" => show_found(alloc, self.stash.get(address), page),
+            "take" => {
+                let taken = self.stash.take(address);
+                show_found(alloc, taken.as_ref(), page);
+            }
+            _ => page.flag(self.stash.contains(address)),
+        }
         Ok(())
     }
 
@@ -215,31 +215,6 @@ impl Stashes {
         if page.is_empty() {
             page.word("-");
         }
-        Ok(())
-    }
-
-    /// `stash contains ADDRESS`: writes whether the stash has the block.
-    fn contains(&self, words: &mut RowWords, page: &mut Page) -> Result<(), RowFault> {
-        page.flag(self.stash.contains(words.short()));
-        Ok(())
-    }
-
-    /// `stash list`: writes the blocks.
-    fn list(&self, alloc: Global, page: &mut Page) -> Result<(), RowFault> {
-        show_blocks(alloc, &self.stash.list(alloc)?, page);
-        Ok(())
-    }
-
-    /// `stash copied`: writes the blocks of the copy.
-    fn copied(&self, alloc: Global, page: &mut Page) -> Result<(), RowFault> {
-        show_blocks(alloc, &self.copy.list(alloc)?, page);
-        Ok(())
-    }
-
-    /// `stash copy`: keeps a copy, and writes how many blocks it has.
-    fn copy(&mut self, alloc: Global, page: &mut Page) -> Result<(), RowFault> {
-        self.copy = self.stash.copy(alloc)?;
-        page.number(self.copy.len());
         Ok(())
     }
 
@@ -322,17 +297,22 @@ impl Stashes {
         let other = Stash::new(alloc);
         let room = self.stash.room_with(alloc, &other)?;
         self.stash.keep_left_over(other, &stays, room);
-        self.list(alloc, page)
+        show_blocks(alloc, &self.stash.list(alloc)?, page);
+        Ok(())
     }
 
-    /// Makes a call on the stash as a whole: `empty` writes whether it has no blocks, `len` how many it has.
+    /// Makes a call on the stash as a whole: `empty` writes whether it has no blocks, `len` how many it has, `list` the blocks.
+    /// `copy` keeps a copy, and writes how many blocks it has; `copied` writes the blocks of the copy.
     fn answer_whole(&mut self, alloc: Global, call: &str, page: &mut Page) -> Result<(), RowFault> {
         match call {
             "empty" => page.flag(self.stash.is_empty()),
             "len" => page.number(self.stash.len()),
-            "list" => return self.list(alloc, page),
-            "copied" => return self.copied(alloc, page),
-            "copy" => return self.copy(alloc, page),
+            "list" => show_blocks(alloc, &self.stash.list(alloc)?, page),
+            "copied" => show_blocks(alloc, &self.copy.list(alloc)?, page),
+            "copy" => {
+                self.copy = self.stash.copy(alloc)?;
+                page.number(self.copy.len());
+            }
             _ => return Err(RowFault::NoRow),
         }
         Ok(())
@@ -346,19 +326,18 @@ impl Stashes {
         words: &mut RowWords,
         page: &mut Page,
     ) -> Result<(), RowFault> {
-        match words.text() {
+        let call = words.text();
+        match call {
             "of" => self.of(alloc, words, page),
             "made" => self.made(alloc, words, page),
             "absorb" => self.absorb(alloc, words, page),
-            "get" => self.get(alloc, words, page),
-            "take" => self.take(alloc, words, page),
+            "get" | "take" | "contains" => self.find(alloc, call, words, page),
             "found" => self.found(alloc, words, page),
-            "contains" => self.contains(words, page),
             "evict" => self.evict(alloc, device, words, page),
             "place" => self.place(alloc, device, words, page),
             "keep" => self.keep_left_over(alloc, words, page),
             "random" => random::evictions(alloc, words, page),
-            call => self.answer_whole(alloc, call, page),
+            _ => self.answer_whole(alloc, call, page),
         }
     }
 }

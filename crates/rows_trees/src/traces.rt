@@ -1,5 +1,5 @@
 //! Rows about places on the tape. Addresses and words are written as lists, each in one word.
-ghost use Rattle.std.specs.Prelude.{◌≡◌, ◌<◌, ◌≤◌, ◌^◌, All, IfOk, length, true};
+ghost use Rattle.std.specs.Prelude.{◌≡◌, ◌<◌, ◌≤◌, All, length, true};
 ghost use Rattle.oram_geometry.specs.Sizes.{blocks_in};
 
 use crate::lists;

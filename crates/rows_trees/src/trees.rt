@@ -12,9 +12,9 @@ use crate::trees::accesses::{AccessWords, Target, access, stored, tell_host};
 use oram_bucket::{Block, PlainSeal};
 use oram_geometry::Device;
 use oram_host::Server;
-use oram_tree::{Edit, FormatFault, Lookup, PartsFault, Tree, TreeParts};
-use oram_wire::{HostRequest, ListSink, Sink, SinkFault};
-use rows::{Page, RowFault, RowWords};
+use oram_tree::{Edit, Lookup, PartsFault, Tree, TreeParts};
+use oram_wire::{HostRequest, ListSink};
+use rows::{Page, RowFault, RowWords, host_of};
 use std::alloc::{AllocError, Global};
 
 /// The parts of a tree, its host, and the messages that formatted it, which are kept from row to row.
@@ -24,27 +24,6 @@ pub struct Trees {
     parts: Option<TreeParts>,
     host: Server,
     messages: Vec<Vec<u8>>,
-}
-
-/// Makes the host that took these messages.
-pub fn host_of(alloc: Global, messages: &[Vec<u8>]) -> Result<Server, RowFault> {
-    let mut host = Server::new(alloc);
-    for message in messages {
-        match host.put(message) {
-            Ok(()) => {}
-            Err(SinkFault::OutOfMemory) => return Err(RowFault::OutOfMemory),
-            Err(_) => return Err(RowFault::NoRow),
-        }
-    }
-    Ok(host)
-}
-
-/// Returns the row's fault for a fault of a formatting.
-pub fn row_fault(fault: FormatFault) -> RowFault {
-    match fault {
-        FormatFault::OutOfMemory => RowFault::OutOfMemory,
-        FormatFault::Sink(_) => RowFault::NoRow,
-    }
 }
 
 /// Makes the tree with these parts; `None` if no tree has them.
@@ -96,11 +75,8 @@ fn block_of(alloc: Global, word: &str) -> Result<Block, RowFault> {
 /// Makes the parts of a tree with this root digest, and with the blocks in all words that are left.
 fn parts_of(alloc: Global, root: [u8; 32], words: &mut RowWords) -> Result<TreeParts, RowFault> {
     let mut stash = Vec::new(alloc);
-    for _ in 0..u64::MAX {
-        if words.is_empty() {
-            break;
-        }
-        stash.push(block_of(alloc, words.text())?)?;
+    for word in &words.texts(alloc) {
+        stash.push(block_of(alloc, word)?)?;
     }
     Ok(TreeParts { root, stash })
 }
@@ -147,7 +123,7 @@ impl OwnedEdit {
     }
 }
 
-/// Formats a tree. Returns the messages, and the parts of the tree.
+/// Formats a tree. Returns the messages, and the parts of the tree. A list of messages refuses one only if memory ran out.
 fn formatted(
     alloc: Global,
     device: &Device,
@@ -166,7 +142,7 @@ fn formatted(
         &mut sink,
     ) {
         Ok(tree) => Ok((sink.into_bodies(), tree.parts(alloc)?)),
-        Err(fault) => Err(row_fault(fault)),
+        Err(_) => Err(RowFault::OutOfMemory),
     }
 }
 

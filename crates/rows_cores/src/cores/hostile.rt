@@ -30,7 +30,7 @@ fn tell<S: Sealer>(
 }
 
 /// Gives a core an answer, and then a read, a retry, a loss and a good answer. Writes the reactions.
-fn show_asked<S: Sealer>(
+fn tell_in_turn<S: Sealer>(
     alloc: Global,
     core: &mut Core<S>,
     answer: &[u8],
@@ -74,7 +74,7 @@ impl<S: Sealer + Copy> Machine<S> {
     ) -> Result<(), RowFault> {
         let mut core = self.core_again(alloc)?;
         let mut said = Page::new(alloc);
-        show_asked(alloc, &mut core, answer, &mut said)?;
+        tell_in_turn(alloc, &mut core, answer, &mut said)?;
         groups.add(number as u64, &said, page);
         Ok(())
     }

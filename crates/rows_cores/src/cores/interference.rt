@@ -4,7 +4,7 @@ use super::machine::Machine;
 use oram_bucket::Sealer;
 use oram_bytes::Bytes;
 use oram_semantics::Event;
-use rows::{Page, RowFault, RowWords};
+use rows::{Page, RowFault, RowWords, flip_in, swap_in};
 use std::alloc::Global;
 
 impl<S: Sealer + Copy> Machine<S> {
@@ -44,20 +44,8 @@ impl<S: Sealer + Copy> Machine<S> {
         Ok(true)
     }
 
-    /// `core tamper TREE NODE OFFSET`: flips the lowest bit of a byte of a record.
-    fn tamper(&mut self, words: &mut RowWords) -> bool {
-        let (tree, node) = (words.number(), words.number());
-        self.host.flip(tree, node, words.number())
-    }
-
-    /// `core swap TREE NODE TREE NODE`: swaps two records.
-    fn swap(&mut self, words: &mut RowWords) -> bool {
-        let (tree_a, node_a) = (words.number(), words.number());
-        self.host
-            .swap(tree_a, node_a, words.number(), words.number())
-    }
-
-    /// Makes a call. A call that changes the host writes whether that could be done.
+    /// Makes a call. A call that changes the host writes whether that could be done: `core tamper TREE NODE OFFSET` flips the
+    /// lowest bit of a byte of a record, and `core swap TREE NODE TREE NODE` swaps two records.
     pub fn meddle(
         &mut self,
         alloc: Global,
@@ -71,8 +59,8 @@ impl<S: Sealer + Copy> Machine<S> {
             "same" => return self.same(alloc, page),
             "snapshot" => self.snapshot(alloc)?,
             "restore" => self.restore(alloc)?,
-            "tamper" => self.tamper(words),
-            "swap" => self.swap(words),
+            "tamper" => flip_in(&mut self.host, words),
+            "swap" => swap_in(&mut self.host, words),
             _ => return Err(RowFault::NoRow),
         };
         page.word(if done { "done" } else { "no" });

@@ -2,7 +2,6 @@
 
 use super::seen::{Seen, show_run};
 use crate::commands::event_of;
-use crate::host::{host_answer, host_of, row_fault};
 use crate::said::{show_answered, show_message, show_reaction, show_reason};
 use oram_bucket::Sealer;
 use oram_bytes::Bytes;
@@ -11,7 +10,7 @@ use oram_geometry::Device;
 use oram_host::Server;
 use oram_semantics::{Event, Reaction};
 use oram_wire::ListSink;
-use rows::{Page, RowFault, RowWords};
+use rows::{Page, RowFault, RowWords, host_answer, host_of};
 use std::alloc::Global;
 
 /// The most answers that one `drain` gives: more than any row needs.
@@ -45,7 +44,8 @@ pub fn core_of<S: Sealer>(
     }
 }
 
-/// Formats a device. Returns its core, and the messages of the formatting.
+/// Formats a device. Returns its core, and the messages of the formatting. A list of messages refuses one only if memory ran
+/// out.
 fn formatted<S: Sealer>(
     alloc: Global,
     device: &Device,
@@ -54,7 +54,7 @@ fn formatted<S: Sealer>(
     let mut sink = ListSink::new(alloc);
     match Core::format(alloc, device.copy(), sealer, &mut sink) {
         Ok(core) => Ok((core, sink.into_bodies())),
-        Err(fault) => Err(row_fault(fault)),
+        Err(_) => Err(RowFault::OutOfMemory),
     }
 }
 

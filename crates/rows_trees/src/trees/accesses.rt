@@ -11,11 +11,8 @@ use oram_geometry::Device;
 use oram_host::Server;
 use oram_tree::{Access, AccessRequest, Edit, Lookup, Tree, TreeFault, TreeParts};
 use oram_wire::{GOOD, fetch_header, store_header};
-use rows::{RowFault, RowWords};
+use rows::{RowFault, RowWords, host_answer};
 use std::alloc::Global;
-
-/// The answer of a host that has no room.
-const NO_ROOM: [u8; 2] = [0x81, 8];
 
 /// What a row says of an access: the address, both leaves of the block, and the nonce.
 #[derive(Clone, Copy)]
@@ -44,15 +41,6 @@ pub struct Reached {
     pub lookup: Lookup,
     pub parts: TreeParts,
     pub records: Vec<u8>,
-}
-
-/// Returns the host's answer. Here a host has no room only if memory ran out, so this fails then.
-fn host_answer(alloc: Global, host: &mut Server, body: &[u8]) -> Result<Vec<u8>, RowFault> {
-    let answer = host.answer(alloc, body)?;
-    if answer.as_slice() == NO_ROOM.as_slice() {
-        return Err(RowFault::OutOfMemory);
-    }
-    Ok(answer)
 }
 
 /// Sends the host a message that it answers with done.

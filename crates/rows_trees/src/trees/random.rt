@@ -2,13 +2,11 @@
 ghost use Rattle.std.specs.Prelude.{◌≢◌, ◌<◌};
 
 use super::accesses::{AccessWords, Reached, Target, access};
-use super::{host_of, row_fault};
 use crate::stashes::next;
 use oram_bucket::{ChaChaSeal, PlainSeal, Sealer};
 use oram_geometry::Device;
 use oram_host::Server;
 use oram_tree::{Edit, Lookup, Tree, TreeParts};
-use oram_wire::ListSink;
 use rows::{Page, RowFault, RowWords};
 use std::alloc::Global;
 use std::mem::replace;
@@ -34,25 +32,20 @@ struct Pair {
     plain: [Held; BLOCKS],
 }
 
-/// Formats a tree, and makes a map without blocks.
+/// Formats a tree on a new host, and makes a map without blocks. Such a host refuses a message only if memory ran out.
 fn formatted<S: Sealer>(alloc: Global, device: &Device, sealer: &S) -> Result<Pair, RowFault> {
     prove!(device.trees() > 0 && device.depth(0) <= 24);
-    let mut sink = ListSink::new(alloc);
-    match Tree::format(alloc, device, 0, sealer, 7, &mut sink) {
-        Ok(tree) => pair_of(alloc, tree.parts(alloc)?, sink.bodies()),
-        Err(fault) => Err(row_fault(fault)),
-    }
-}
-
-/// Makes a tree with these parts, the host that took these messages, and a map without blocks.
-fn pair_of(alloc: Global, parts: TreeParts, messages: &[Vec<u8>]) -> Result<Pair, RowFault> {
+    let mut host = Server::new(alloc);
+    let Ok(tree) = Tree::format(alloc, device, 0, sealer, 7, &mut host) else {
+        return Err(RowFault::OutOfMemory);
+    };
     let absent = Held {
         leaf: None,
         fill: 0,
     };
     Ok(Pair {
-        parts,
-        host: host_of(alloc, messages)?,
+        parts: tree.parts(alloc)?,
+        host,
         plain: [absent; BLOCKS],
     })
 }

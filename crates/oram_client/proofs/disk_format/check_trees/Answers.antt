@@ -22,8 +22,8 @@ stands g c =
 pub loop-tree-preserved : goal.loop-tree-preserved
 loop-tree-preserved g c =
     let v = scheme_of g.S.Sealer.cipher c.args.core.now in
-    let asked = c.in_ok-check_tree.ensures.ok in
-    seen_more g.R.Read.remaining g.W.Write.contents v c.args.core.now.state c.loop-tree.tree c.args.ahead.now c.loop-tree.ahead c.check_tree.new.ahead asked.0 _ _ _ c.loop-tree.invariant asked.1 asked.2
+    let fetched = c.in_ok-check_tree.ensures.ok in
+    seen_more g.R.Read.remaining g.W.Write.contents v c.args.core.now.state c.loop-tree.tree c.args.ahead.now c.loop-tree.ahead c.check_tree.new.ahead fetched.0 _ _ _ c.loop-tree.invariant fetched.1 fetched.2
     c.device-in-loop-tree.ensures.value c.overhead.ensures (stands g (goal.at.loop-tree-preserved g c).After-check_tree)
 
 pub returns-in_err-parts-clause-err : goal.returns-in_err-parts-clause-err

@@ -9,11 +9,11 @@ pub returns-in-Err-judge-clause-err : goal.returns-in-Err-judge-clause-err
 returns-in-Err-judge-clause-err g c =
     let message = c.in_ok-greeting.field-0.items in
     let answers = texts c.in-Ok.answers.items in
-    let asked = c.in-Ok.ensures in
-    let batch = streams_are_batches g.S.Read.remaining g.S.Write.contents c.in_ok-line.line c.call_all.new.self (message ∷ []) (Ok answers) asked.0 asked.1 in
+    let called = c.in-Ok.ensures in
+    let batch = streams_are_batches g.S.Read.remaining g.S.Write.contents c.in_ok-line.line c.call_all.new.self (message ∷ []) (Ok answers) called.0 called.1 in
     another g.S.Read.remaining g.S.Write.contents c.args.reader c.args.writer c.in_ok-line.line c.call_all.new.self (message ∷ [])
-    c.args.identity.now c.index.result.now.items answers asked.0 c.in-Err-judge.trouble c.in_ok-line.ensures.ok
-    (ap (λ (m : List ℕ). m ∷ []) c.in_ok-greeting.ensures.ok) asked.1
+    c.args.identity.now c.index.result.now.items answers called.0 c.in-Err-judge.trouble c.in_ok-line.ensures.ok
+    (ap (λ (m : List ℕ). m ∷ []) c.in_ok-greeting.ensures.ok) called.1
     (only c.in-Ok.answers.items c.index.result.now batch.0 c.index.ensures)
     (subst (λ (answer : List ℕ). Shows c.args.identity.now answer c.in-Err-judge.trouble) c.deref.ensures.value c.in-Err-judge.ensures.err)
 

@@ -10,7 +10,7 @@ returns-clause-ok g c =
     let call = c.in_ok-answer.ensures in
     let answer : HostAnswer = call.ok.0 in
     let bytes : c.in_ok-answer.answer.items ≡ answer_body answer = call.ok.2 in
-    let asked : c.deref.result.now ≡ answer_body answer = c.deref.ensures.value ∙ bytes in
+    let answered : c.deref.result.now ≡ answer_body answer = c.deref.ensures.value ∙ bytes in
     let counted : c.deref-2.result.now ≡ answer_body answer = c.deref-2.ensures.value ∙ bytes in (
       answer,
       served_by g.F.FilePair.model _ _ _ _ _ c.self.view_is (record {
@@ -25,8 +25,8 @@ returns-clause-ok g c =
         goes_on = λ message numbers is granted. (call.ok.3 message numbers is).2 granted;
         op = λ h. sym bytes ∙ call.op h;
         misfit = λ h. sym bytes ∙ call.misfit h;
-        full = λ is. c.failure-failure.ensures.full (asked ∙ is);
-        spare = λ isnt. c.failure-failure.ensures.spare (λ same. isnt (sym asked ∙ same));
+        full = λ is. c.failure-failure.ensures.full (answered ∙ is);
+        spare = λ isnt. c.failure-failure.ensures.spare (λ same. isnt (sym answered ∙ same));
       }),
       call.ok.1,
       bytes,

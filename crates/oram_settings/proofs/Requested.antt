@@ -31,10 +31,10 @@ entered_is (Some b) name rows named found = ap₂ (λ n r. Some (n, r)) (same_So
 
 -- an error other than running out of memory is a fault that clap finds, and then the words ask for
 -- nothing
-refused : (kinds : Kinds) (e : Error) (asked : Option Request) → HasKind kinds e → kind_of e ≢ OutOfMemory → unless_faulty kinds asked ≡ None
-refused [] e asked (inl memory) other = absurd (other memory)
-refused [] e asked (inr h) other = absurd h
-refused (kind ∷ kinds) e asked h other = refl
+refused : (kinds : Kinds) (e : Error) (request : Option Request) → HasKind kinds e → kind_of e ≢ OutOfMemory → unless_faulty kinds request ≡ None
+refused [] e request (inl memory) other = absurd (other memory)
+refused [] e request (inr h) other = absurd h
+refused (kind ∷ kinds) e request h other = refl
 
 -- an error that doesn't become OutOfMemory isn't one of memory
 not_memory : (k : ErrorKind) (reason : NoRequest) → AnswersFault k reason → reason ≢ why.OutOfMemory → k ≢ OutOfMemory
@@ -64,9 +64,9 @@ module _ (a : App) (same : a ≡ program) (words : List Text) where
   free : is_simple_and_free a ≡ true
   free = ap is_simple_and_free same ∙ is_free
 
-  pub asked_refused : (e : Error) → (is_simple_and_free a ≡ true → HasKind (fault_of a words) e) → (reason : NoRequest) → AnswersFault (kind_of e) reason → reason ≢ why.OutOfMemory
+  pub request_refused : (e : Error) → (is_simple_and_free a ≡ true → HasKind (fault_of a words) e) → (reason : NoRequest) → AnswersFault (kind_of e) reason → reason ≢ why.OutOfMemory
       → request_in words ≡ None
-  asked_refused e kinds reason is other =
+  request_refused e kinds reason is other =
       sym (ap (λ (b : App). unless_faulty (fault_of b words) (option_and_then request_by (subcommand_of b words))) same)
       ∙ refused (fault_of a words) e _ (kinds free) (not_memory (kind_of e) reason is other)
 
@@ -88,10 +88,10 @@ module _ (a : App) (same : a ≡ program) (words : List Text) where
         sym (ap (λ (b : App). unless_faulty (fault_of b words) (option_and_then request_by (subcommand_of b words))) same)
         ∙ ap₂ (λ kinds t. unless_faulty kinds (option_and_then request_by t)) (sound free) entered
 
-    pub asked_is : (name : Text) (rows : List Row) (word size : Option Text) (is_new : Bool) → Some name ≡ subcommand_name_of m
+    pub request_is : (name : Text) (rows : List Row) (word size : Option Text) (is_new : Bool) → Some name ≡ subcommand_name_of m
         → Some rows ≡ option_map (λ (p : Text × List Row). p.1) (subcommand_rows_of m) → word ≡ first_of (codes "word") rows → is_new ≡ is_given (first_of (codes "new") rows) → size ≡ first_of (codes "size") rows
         → request_in words ≡ option_and_then (λ (w : Text). request_of name w is_new size) word
-    asked_is name rows word size is_new named found read said sized =
+    request_is name rows word size is_new named found read said sized =
         by_entered (Some (name, rows)) (sym (matches simple).1 ∙ entered_is _ name rows (sym named) (sym found))
         ∙ ap (λ (n : Bool). option_and_then (λ (x : Text). request_of name x n (first_of (codes "size") rows)) (first_of (codes "word") rows)) (sym said)
         ∙ ap₂ (λ (s : Option Text) (w : Option Text). option_and_then (λ (x : Text). request_of name x is_new s) w) (sym sized) (sym read)
@@ -101,5 +101,5 @@ module _ (a : App) (same : a ≡ program) (words : List Text) where
     no_rows (Some p) e = cc
 
     -- if it entered none, they ask for nothing
-    pub asked_none : None ≡ option_map (λ (p : Text × List Row). p.1) (subcommand_rows_of m) → request_in words ≡ None
-    asked_none none = by_entered None (sym (matches simple).1 ∙ no_rows _ none)
+    pub request_none : None ≡ option_map (λ (p : Text × List Row). p.1) (subcommand_rows_of m) → request_in words ≡ None
+    request_none none = by_entered None (sym (matches simple).1 ∙ no_rows _ none)

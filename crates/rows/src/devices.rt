@@ -1,0 +1,37 @@
+//! Devices, whose sizes rows give.
+
+use crate::page::Page;
+use crate::table::RowFault;
+use crate::words::RowWords;
+use oram_geometry::{Device, ShapeFault};
+
+impl From<ShapeFault> for RowFault {
+    fn from(_fault: ShapeFault) -> RowFault {
+        RowFault::NoRow
+    }
+}
+
+/// Makes the device of the next five words: its blocks, the bytes of each, the slots of a bucket, the greatest number of
+/// entries of the table, and the lifetime.
+pub fn device_in(words: &mut RowWords) -> Result<Device, ShapeFault> {
+    let (blocks, block_bytes, slots) = (words.number(), words.number(), words.number());
+    let (top, lifetime) = (words.number(), words.number());
+    Device::new(blocks, block_bytes, slots, top, lifetime)
+}
+
+/// Makes the device of the next five words, and writes how many trees it has. If there is none, writes the number of the
+/// fault.
+pub fn shown_device_in(words: &mut RowWords, page: &mut Page) -> Option<Device> {
+    match device_in(words) {
+        Ok(device) => {
+            page.word("ready");
+            page.number(device.trees());
+            Some(device)
+        }
+        Err(fault) => {
+            page.word("shape");
+            page.number(fault.number());
+            None
+        }
+    }
+}
