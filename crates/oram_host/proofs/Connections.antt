@@ -1,7 +1,7 @@
 -- A bucket server's exchanges up to some request.
-use Rattle.std.proofs.Common.{◌≡◌, ℕ, ◌+◌, List, [], Ok, Err, refl, inl}
+use Rattle.std.proofs.Common.{◌≡◌, ℕ, ◌+◌, List, [], Err, refl, inl}
 use Rattle.std.specs.Io.KnownBytes.{Appends, Consumes}
-use Rattle.oram_wire.specs.FrameIo.{GivesBrokenHead, GivesCutFrame, GivesEnd, GivesHead, GivesPart}
+use Rattle.oram_wire.specs.FrameIo.{GivesBrokenHead, GivesCutFrame, GivesHead, GivesPart}
 use Rattle.oram_wire.specs.FrameStream.{IsBody, frame}
 use Rattle.oram_wire.specs.HostMessages.{answer_body}
 use Rattle.oram_wire.specs.declared.frame_io.FrameFault.{FrameFault}
@@ -27,12 +27,7 @@ module _ {H : Type 0} (serves : H → List ℕ → HostAnswer → H → Type 0) 
       → HasHosted serves (record { before = p; things = k.all; part = part; more = more; after = z })
   hosted_then = answered_then (IsExchange serves) (λ x. x.body) (λ x. answer_body x.answer)
 
-  -- then no request was read
-
-  pub ends_well : (p : Answering H) (n : ℕ) (q z : Answering H) (k : Served p n q) → z.state ≡ q.state → Appends q.written z.written []
-      → GivesEnd q.unread z.unread → EndsConnection serves p z (Ok n)
-  ends_well p n q z k same quiet given = (k.all, k.count, hosted_then p n q z [] [] k same given.0 quiet, given.1)
-
+  -- then no request could be read
   pub ends_cut : (p : Answering H) (n : ℕ) (q z : Answering H) (k : Served p n q) → z.state ≡ q.state → Appends q.written z.written [] → (f : FrameFault)
       → (f ≡ frames.Read → GivesPart q.unread z.unread) → (f ≡ frames.Frame → GivesBrokenHead q.unread z.unread)
       → (f ≡ frames.Truncated → GivesCutFrame q.unread z.unread) → (f ≡ frames.OutOfMemory → GivesHead q.unread z.unread)

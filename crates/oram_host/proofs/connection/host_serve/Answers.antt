@@ -1,4 +1,4 @@
-use Rattle.std.proofs.Common.{◌≡◌, ◌∙◌, List, ℕ, [], Err, refl, sym, ap, subst, inr, arith, take}
+use Rattle.std.proofs.Common.{◌∙◌, List, ℕ, [], Err, refl, sym, ap, subst, inr, arith, take}
 use Rattle.std.specs.Io.KnownBytes.{Appends}
 use Rattle.std.proofs.KnownBytes.{Appends-nil, Consumes-nil}
 use Rattle.std.proofs.lemmas.Result.{err_from_is_err_and}
@@ -6,7 +6,7 @@ use Rattle.oram_wire.specs.FrameStream.{frame}
 use Rattle.oram_wire.specs.HostMessages.{answer_body}
 use Rattle.oram_host.specs.Connections.{EndsConnection, Exchange}
 use Rattle.oram_host.proofs.Answered.{answering}
-use Rattle.oram_host.proofs.Connections.{ends_cut, ends_well, hosted_more, hosted_then}
+use Rattle.oram_host.proofs.Connections.{ends_cut, hosted_more, hosted_then}
 use Rattle.oram_host.proofs.connection.host_serve.Goals as goal
 
 -- the reader ends the loop
@@ -21,16 +21,12 @@ returns-in_err-body g c =
     (λ h. c.in_err-body.ensures.read (ap Err h)) (λ h. c.in_err-body.ensures.frame (ap Err h))
     (λ h. c.in_err-body.ensures.truncated (ap Err h)) (λ h. c.in_err-body.ensures.memory (ap Err h)))
 
-pub returns-in_none-body : goal.returns-in_none-body
-returns-in_none-body g c =
-    let to = answering c.loop-served.server (g.R.Read.remaining c.next_frame.new.reader) (g.W.Write.contents c.loop-served.writer) in
-    ends_well g.H.BucketServer.serves _ _ _ to c.loop-served.invariant refl (Appends-nil _) (rw c.in-None.is at c.in_ok-body.ensures.ok)
-
 pub returns : goal.returns
 returns g c =
     let k = c.loop-served.invariant in
-    let to = answering c.loop-served.server (g.R.Read.remaining c.loop-served.reader) (g.W.Write.contents c.loop-served.writer) in
-    (k.all, [], (λ h. absurd (omega arith)), hosted_then g.H.BucketServer.serves _ _ _ to [] [] k refl (Consumes-nil _) (Appends-nil _))
+    let from = answering c.args.server.now (g.R.Read.remaining c.args.reader.now) (g.W.Write.contents c.args.writer.now) in
+    let here = answering c.loop-served.server (g.R.Read.remaining c.loop-served.reader) (g.W.Write.contents c.loop-served.writer) in
+    (k.all, [], (λ h. absurd (omega arith)), hosted_then g.H.BucketServer.serves from _ here here [] [] k refl (Consumes-nil _) (Appends-nil _))
 
 -- or a request does, because memory runs out
 
