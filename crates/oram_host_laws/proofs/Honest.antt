@@ -11,7 +11,7 @@ use Rattle.oram_semantics.specs.Moves.{Moves, moved, goes_on, on_answer, on_loss
 use Rattle.oram_semantics.specs.Progress.{Status}
 use Rattle.oram_semantics.specs.Progress.Status.{Idle, Waiting, Stalling, Over}
 use Rattle.oram_semantics.specs.Law.{IsServing, StepsByRule}
-use Rattle.oram_semantics.specs.Run.{Shown, fails_now, is_over, is_waiting, refusal_of}
+use Rattle.oram_semantics.specs.Run.{fails_now, is_over, is_waiting, refusal_of}
 use Rattle.oram_semantics.specs.Scheme.{Scheme}
 use Rattle.oram_semantics.specs.State.{State, World, status_by, status_in}
 use Rattle.oram_semantics.specs.declared.events.Event.{Event}
