@@ -5,7 +5,6 @@ use Rattle.std.specs.List.{FoldsTo, flat_map}
 use Rattle.std.proofs.lemmas.Fn.{FoldsTo-push}
 use Rattle.oram_link_laws.specs.Runs.{Exchange}
 use Rattle.oram_rounds.specs.Batches.{BatchOutcome}
-use Rattle.oram_client.specs.declared.dialer.Limits.{Limits}
 use Rattle.oram_client.specs.declared.dialer.Trouble.{Trouble}
 use Rattle.oram_client.specs.Reconnect.{Attempt, DialerKind, IsDelayed, IsPaused, IsTimedOut, IsTried, IsTroubleIn, MakesTries, NextTry, ReconnectState, VainTry, first_pause, limits, link_outcome}
 

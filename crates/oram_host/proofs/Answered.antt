@@ -3,9 +3,9 @@ use Rattle.std.proofs.Common.{◌≡◌, ℕ, ◌+◌, ◌∷◌, ◌++◌, List
 use Rattle.std.specs.List.{FoldsTo}
 use Rattle.std.proofs.lemmas.Fn.{FoldsTo-push}
 use Rattle.std.proofs.lemmas.List.Concat.{flat_map-append}
-use Rattle.std.proofs.lemmas.List.Elements.{All-push, All-nil}
+use Rattle.std.proofs.lemmas.List.Elements.{All-push}
 use Rattle.std.specs.Io.KnownBytes.{Appends, Consumes}
-use Rattle.std.proofs.KnownBytes.{Appends-nil, Consumes-nil, Appends-trans, Consumes-trans}
+use Rattle.std.proofs.KnownBytes.{Appends-trans, Consumes-trans}
 use Rattle.oram_wire.specs.FrameStream.{IsBody, frame}
 use Rattle.oram_wire.specs.declared.frame_io.FrameFault.{FrameFault}
 use Rattle.oram_wire.specs.declared.frame_io.FrameFault.TheVariants as frames
@@ -22,9 +22,6 @@ module _ {P X : Type 0} (leads : P → X → P → Type 0) (request answer : X �
     pub fits : All (λ x. IsBody (request x)) all
     pub read : Consumes unread unread' (frames_of request all)
     pub wrote : Appends written written' (frames_of answer all)
-
-  pub answered_new : (p : P) (r w : Option (List ℕ)) → Answered p r w 0 p r w
-  answered_new p r w = record { all = []; count = refl; led = refl; fits = All-nil (λ x. IsBody (request x)); read = Consumes-nil r; wrote = Appends-nil w }
 
   pub answered_more : (p : P) (r w : Option (List ℕ)) (n : ℕ) (q : P) (r' w' : Option (List ℕ)) (x : X) (z : P) (r'' w'' : Option (List ℕ)) →
       Answered p r w n q r' w' → leads q x z → IsBody (request x) → Consumes r' r'' (frame (request x)) → Appends w' w'' (frame (answer x)) → Answered p r w (n + 1) z r'' w''

@@ -1,6 +1,6 @@
 //! Sizes as people write them.
 
-ghost use Rattle.std.specs.Prelude.{ℕ, ◌≡◌, ◌≤◌, ◌<◌, ◌^◌, ◌≢◌, IfSome, None, decimal};
+ghost use Rattle.std.specs.Prelude.{ℕ, ◌≡◌, ◌<◌, ◌^◌, ◌≢◌, IfSome, None, decimal};
 ghost use Rattle.oram_settings.specs.Sizes.{IsSize, IsSizeIn};
 
 use oram_cli::begins_number;

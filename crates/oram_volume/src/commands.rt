@@ -1,6 +1,6 @@
 //! The commands of a list of operations.
 
-ghost use Rattle.std.specs.Prelude.{◌≡◌, ◌⊎◌, ◌+◌, ◌/◌, ◌∷◌, ◌++◌, ◌<◌, ◌≤◌, ◌^◌, [], All, drop, length, slice_index_or, IfOk};
+ghost use Rattle.std.specs.Prelude.{◌≡◌, ◌⊎◌, ◌+◌, ◌/◌, ◌∷◌, ◌++◌, ◌<◌, ◌^◌, [], All, drop, length, slice_index_or, IfOk};
 ghost use Rattle.oram_nbd.specs.Operations.{IsWhole, len_of, place_of};
 ghost use Rattle.oram_nbd.specs.declared.operations.Operation.{Operation};
 ghost use Rattle.oram_volume.specs.RangeCommands.{commands_of, rest_of};
