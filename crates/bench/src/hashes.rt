@@ -2,8 +2,8 @@
 //!
 //! The path is one of depth 16, of buckets with 4 slots of 4,096 bytes.
 
-ghost use Rattle.std.specs.Prelude.{◌≡◌, ◌<◌, ◌≤◌, ◌+◌, ◌^◌, All, IfOk, vec_len};
-ghost use Rattle.oram_geometry.specs.Sizes.{trees_of, depth_of};
+ghost use Rattle.std.specs.Prelude.{◌≡◌, ◌<◌, ◌+◌, ◌^◌, All, IfOk, vec_len};
+ghost use Rattle.oram_geometry.specs.Sizes.{trees_of};
 
 use oram_geometry::Device;
 use oram_hash::{NO_DIGEST, check_path, node_digest, rebuild};

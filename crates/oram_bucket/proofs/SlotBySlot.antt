@@ -1,11 +1,11 @@
 -- Slots without a fault, one after the other, spell the blocks that they hold.
-use Rattle.std.proofs.Common.{◌≡◌, ℕ, zero, suc, ◌+◌, ◌-◌, ◌*◌, ◌^◌, ◌<◌, ◌≤◌, ◌==◌, ◌&&◌, Bool, true, false, List, [], ◌∷◌, ◌++◌, length, take, drop, All, replicate, Option, Some, None, refl, sym, ap, ◌∙◌, inl, inr, arith, append_assoc, nat_lt}
+use Rattle.std.proofs.Common.{◌≡◌, ℕ, zero, suc, ◌+◌, ◌-◌, ◌*◌, ◌^◌, ◌<◌, ◌≤◌, ◌==◌, ◌&&◌, Bool, true, false, List, [], ◌∷◌, ◌++◌, length, take, drop, All, replicate, Option, Some, refl, sym, ap, ◌∙◌, inl, inr, arith, append_assoc, nat_lt}
 use Rattle.std.proofs.Math.Nat.{mul-le-mul_right}
 use Rattle.std.proofs.Math.Seq.{take-add, take-append_seam, drop-append_seam}
 use Rattle.std.proofs.lemmas.Bool.{cases_lt, eqb-true}
 use Rattle.std.proofs.lemmas.Bool.Decides.{nat_tests}
 use Rattle.std.proofs.lemmas.List.{length-append, length-drop, drop-drop, take_all, take-append-drop, length-take-le, append-nil, replicate-append-replicate, length_push, flat_map_more}
-use Rattle.std.proofs.lemmas.List.Elements.{All-nil, All-push}
+use Rattle.std.proofs.lemmas.List.Elements.{All-push}
 use Rattle.std.proofs.lemmas.List.Quantifiers.{all_pairs_push}
 use Rattle.std.proofs.lemmas.Nat.{be_bytes_4}
 use Rattle.std.specs.List.{flat_map, list_all}
@@ -28,18 +28,6 @@ pub record IsReadTo (d : Sizes) (i : ℕ) (bytes : List ℕ) (k : ℕ) (before :
   pub rising : IsRising cells
   pub blocks : All (IsBlockOf d i) cells
   pub follows : (n : ℕ) → may_follow before n ≡ true → (dummies ≡ 0) × All (λ c. c.address + 1 < n) cells
-
-pub read_none : (d : Sizes) (i : ℕ) (bytes : List ℕ) → IsReadTo d i bytes 0 None []
-read_none d i bytes =
-    let nothing : 0 * slot_len d ≡ 0 = omega arith in
-    record {
-      dummies = 0;
-      count = refl;
-      spelled = ap (λ (n : ℕ). take n bytes) nothing ∙ ap (λ (n : ℕ). replicate {A = ℕ} n 0) (sym nothing);
-      rising = λ j k c low high. absurd (omega arith);
-      blocks = All-nil (IsBlockOf d i);
-      follows = λ n h. (refl, All-nil (λ (c : Cell). c.address + 1 < n));
-    }
 
 -- one more slot's bytes
 slot_more : (d : Sizes) (bytes : List ℕ) (k : ℕ) → take ((k + 1) * slot_len d) bytes ≡ take (k * slot_len d) bytes ++ slot_at d bytes k

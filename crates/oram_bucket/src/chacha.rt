@@ -1,5 +1,5 @@
 //! A sealer that uses the stream cipher ChaCha20.
-ghost use Rattle.std.specs.Prelude.{◌≡◌, ℕ, List, ◌+◌, ◌*◌, ◌^◌, ◌<◌, ◌++◌, OnOk, OnErr, length, vec_len, vec_capacity, bit_xor};
+ghost use Rattle.std.specs.Prelude.{◌≡◌, ◌+◌, ◌*◌, ◌^◌, ◌<◌, ◌++◌, OnOk, OnErr, length, vec_len, vec_capacity, bit_xor};
 ghost use Rattle.std.specs.Simd.Lanes.{zip2};
 ghost use Rattle.rand_chacha.specs.ChaCha.{key_of};
 ghost use Rattle.oram_bucket.specs.Keystream.{next_words, xored_from, chacha_sealing, chacha_opening};

@@ -1,5 +1,5 @@
 //! A bucket as the host keeps it: encoded and then sealed.
-ghost use Rattle.std.specs.Prelude.{◌≡◌, ◌+◌, ◌<◌, ◌++◌, length, map, vec_len, List, Some, Err, IfOk, OnOk, OnErr, MatchResult};
+ghost use Rattle.std.specs.Prelude.{◌≡◌, ◌+◌, ◌<◌, ◌++◌, length, map, vec_len, List, IfOk, OnOk, OnErr, MatchResult};
 ghost use Rattle.oram_geometry.specs.Sizes.{trees_of, bucket_len};
 ghost use Rattle.oram_bucket.specs.Cell.{Cell};
 ghost use Rattle.oram_bucket.specs.Bucket.{IsBucketOf, spelling};

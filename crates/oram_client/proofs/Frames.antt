@@ -1,15 +1,12 @@
 -- The frames of messages that are sent at once.
-use Rattle.std.proofs.Common.{◌≡◌, ℕ, List, [], ◌∷◌, ◌++◌, Option, inl, inr, sym, ap, ◌∙◌, subst, append_assoc, append-nil}
+use Rattle.std.proofs.Common.{◌≡◌, ℕ, List, [], ◌∷◌, ◌++◌, inl, inr, sym, ap, ◌∙◌, subst, append_assoc, append-nil}
 use Rattle.std.specs.List.{All, flat_map}
-use Rattle.std.specs.Io.KnownBytes.{Consumes}
-use Rattle.std.proofs.KnownBytes.{Consumes-trans}
 use Rattle.std.proofs.lemmas.Grind.{flat_map-append}
 use Rattle.std.proofs.lemmas.List.Elements.{All-push}
 use Rattle.oram_wire.specs.FrameStream.{IsBody, frame}
-use Rattle.oram_wire.specs.FrameIo.{GivesFrame}
 use Rattle.oram_session.specs.declared.link.LinkFault.{LinkFault}
 use Rattle.oram_link_laws.specs.Repair.{IsAmong}
-use Rattle.oram_client.specs.StreamBatches.{AreUnframed, GivesFrames}
+use Rattle.oram_client.specs.StreamBatches.{AreUnframed}
 
 -- one more frame
 pub frames_more : (front : List (List ℕ)) (body : List ℕ) → flat_map frame (front ++ body ∷ []) ≡ flat_map frame front ++ frame body
@@ -44,11 +41,3 @@ among_one bodies body x among (inr none) = absurd none
 pub unframed_among : (some all : List (List ℕ)) (fault : LinkFault) → ((x : List ℕ) → IsAmong x some → IsAmong x all) → AreUnframed some fault → AreUnframed all fault
 unframed_among some all fault inside (inl memory) = inl memory
 unframed_among some all fault inside (inr long) = inr (long.0, (long.1.0, inside long.1.0 long.1.1, long.1.2))
-
--- one more frame was read
-pub read_next : (old mid new : Option (List ℕ)) (front next : List (List ℕ)) (body : List ℕ) → next ≡ front ++ body ∷ [] → GivesFrames old mid front → GivesFrame mid new body
-    → GivesFrames old new next
-read_next old mid new front next body is read more = (
-  fit_next front next body is read.0 more.0,
-  subst (Consumes old new) (sym (ap (flat_map frame) is ∙ frames_more front body)) (Consumes-trans old mid new (flat_map frame front) (frame body) read.1 more.1),
-)

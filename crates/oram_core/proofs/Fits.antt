@@ -2,7 +2,7 @@
 use Rattle.std.proofs.Common.{◌≡◌, ℕ, zero, suc, ◌+◌, ◌-◌, ◌<◌, ◌≤◌, List, [], ◌∷◌, length, slice_index_or, Option, Some, None, Result, Err, IsErrAnd, All, refl, ap, sym, ◌∙◌, subst, arith}
 use Rattle.std.proofs.lemmas.List.Elements.{All-nil, All-head, All-tail, All-cons}
 use Rattle.oram_geometry.specs.declared.Sizes.{Sizes}
-use Rattle.oram_geometry.specs.Sizes.{IsDevice, trees_of}
+use Rattle.oram_geometry.specs.Sizes.{IsDevice}
 use Rattle.oram_bucket.specs.Cell.{IsRising}
 use Rattle.oram_tree.specs.Parts.{Parts as TreeParts}
 use Rattle.oram_semantics.specs.Agree.{IsAllowed, TicketsFrom}
@@ -155,22 +155,6 @@ trees_by o p (Some e) w rising = subst (AreTrees p.device 0) (sym (no_trees p.tr
 
 pub trees_of_parts : (o : ℕ) (p : Parts) → AreParts o p → AreTrees p.device 0 p.trees
 trees_of_parts o p h = trees_by o p p.failure h.sound.whole h.rising
-
--- there are no more trees than the device has
-few_by : (o : ℕ) (p : Parts) (f : Option Reason) → IsFitting o p f → length p.trees ≤ trees_of p.device
-few_by o p None w = omega (arith, w.count)
-few_by o p (Some e) w = omega (arith, ap length w.nothing.trees)
-
-pub few_trees : (o : ℕ) (p : Parts) → IsFitting o p p.failure → length p.trees ≤ trees_of p.device
-few_trees o p w = few_by o p p.failure w
-
-begun_by : (o : ℕ) (p : Parts) (f : Option Reason) → IsFitting o p f → length p.waiting ≤ p.tickets
-begun_by o p None w = w.waiting.begun
-begun_by o p (Some e) w = omega (arith, ap length w.nothing.waiting)
-
--- each of the commands was accepted
-pub begun_waiting : (o : ℕ) (p : Parts) → IsFitting o p p.failure → length p.waiting ≤ p.tickets
-begun_waiting o p w = begun_by o p p.failure w
 
 -- a property of an error is one of the error that it equals
 pub at_err : {A E : Type 0} (r : Result A E) (P : E → Type 0) (e : E) → r ≡ Err e → IsErrAnd r P → P e

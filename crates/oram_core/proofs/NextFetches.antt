@@ -2,7 +2,7 @@
 use Rattle.std.proofs.Common.{◌≡◌, ◌≢◌, ℕ, ◌+◌, ◌-◌, ◌<◌, ◌≤◌, ◌==◌, List, [], ◌∷◌, ◌++◌, drop, length, slice_index, slice_index_or, slice_set, take, refl, ap, sym, ◌∙◌, arith, add-one}
 use Rattle.std.specs.Global.{Vec}
 use Rattle.std.proofs.Math.Seq.{take-suc}
-use Rattle.std.proofs.lemmas.List.{drop-append-le, drop-take, get_or-set_other, get_or-set_same, length-take-le, map-append, take_all}
+use Rattle.std.proofs.lemmas.List.{drop-append-le, drop-take, get_or-set_other, get_or-set_same, length-take-le, map-append}
 use Rattle.oram_geometry.specs.declared.Sizes.{Sizes}
 use Rattle.oram_geometry.specs.Sizes.{trees_of}
 use Rattle.oram_trace.specs.declared.entries.Entry.{Entry}
@@ -33,10 +33,6 @@ between_more from at xs x low high is =
     ap (λ k. drop from (take k xs)) (add-one at) ∙ ap (drop from) (take-suc xs at x high)
     ∙ drop-append-le from (take at xs) (slice_index_or xs at x ∷ []) (omega (arith, long))
     ∙ ap (λ y. between from at xs ++ y ∷ []) (sym is)
-
--- and all at the end
-pub between_all : {X : Type 0} (from at : ℕ) (xs : List X) → length xs ≤ at → between from at xs ≡ drop from xs
-between_all from at xs long = ap (drop from) (take_all at xs long)
 
 -- the entry of a block once one more command has had its answer: the new leaf, if it is the command's block,
 pub entry_behind : (d : Sizes) (table : List ℕ) (queue : List Submission) (from at block : ℕ) (y : Submission) → from ≤ at → at < length queue

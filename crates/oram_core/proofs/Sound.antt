@@ -21,7 +21,7 @@ use Rattle.oram_semantics.specs.Moves.{fetch_at, leaf_for, latest}
 use Rattle.oram_semantics.specs.Blocks.{next_map_entry, kept_of}
 use Rattle.oram_semantics.specs.Progress.Status.{Idle, Waiting, Stalling, Over}
 use Rattle.oram_semantics.specs.Nonces.{next_nonce, buckets_below, formatted}
-use Rattle.oram_semantics.specs.State.{State, failed_state, map_entry_now, no_tree, status_by, status_in}
+use Rattle.oram_semantics.specs.State.{State, map_entry_now, no_tree, status_by, status_in}
 use Rattle.oram_semantics.specs.declared.events.Reason.{Reason}
 use Rattle.oram_semantics.specs.declared.events.Submission.{Submission}
 use Rattle.oram_semantics.proofs.Bounds.{some_trees, depth_small}
@@ -30,7 +30,7 @@ use Rattle.oram_semantics.proofs.Nonces.{nonce_split, nonce_stored, nonce_fetche
 use Rattle.oram_semantics.proofs.Others.{tickets_push}
 use Rattle.oram_semantics.specs.Agree.{IsAllowed, TicketsFrom}
 use Rattle.oram_semantics.specs.Progress.{Setting}
-use Rattle.oram_core.specs.Core.{IsTreeKept, IsStoreOf, IsAtWork, IsResting, AtWork, IsHealthy, IsReasonOf, IsWhole, IsSound, most_map_entry}
+use Rattle.oram_core.specs.Core.{IsTreeKept, IsStoreOf, IsAtWork, IsResting, AtWork, IsHealthy, IsWhole, IsSound, most_map_entry}
 use Rattle.oram_core.proofs.Small.{map_entry_none}
 use Rattle.oram_core.specs.PlainSteps.{fetch_of, first_message, first_messages}
 
@@ -334,31 +334,6 @@ sound_finished d o s x rest h alive queue calm end =
 work_accessed : (d : Sizes) (o : ℕ) (s : State) (trees : List Tree) (queue : List Submission) → AtWork d o s queue → AtWork d o (record s { trees = trees }) queue
 work_accessed d o s trees [] w = record { entry_number = w.entry_number; held_entry = w.held_entry; held_data = w.held_data; message = w.message; lost = w.lost }
 work_accessed d o s trees (x ∷ rest) w = record { entry_number = w.entry_number; fetch = w.fetch; store = w.store; held_entry = w.held_entry; held_data = w.held_data }
-
-work_lost : (d : Sizes) (o : ℕ) (s : State) (b : Bool) (queue : List Submission) → 0 < length queue → AtWork d o s queue → AtWork d o (record s { lost = b }) queue
-work_lost d o s b [] some w = absurd (omega (arith, some))
-work_lost d o s b (x ∷ rest) some w = record { entry_number = w.entry_number; fetch = w.fetch; store = w.store; held_entry = w.held_entry; held_data = w.held_data }
-
--- the message counts as lost, or is sent again
-pub sound_lost : (d : Sizes) (o : ℕ) (s : State) (b : Bool) → IsSound d o s → s.failure ≡ None → 0 < length s.queue → IsSound d o (record s { lost = b })
-sound_lost d o s b h alive some =
-    let q = healthy_of d o s h alive in
-    sound_by d o (record s { lost = b }) h.ranges h.small h.next alive (record {
-      table = q.table;
-      map_entries = q.map_entries;
-      count = q.count;
-      kept = q.kept;
-      queue = q.queue;
-      tickets = q.tickets;
-      most = q.most;
-      begun = q.begun;
-      work = work_lost d o s b s.queue some q.work;
-      nonce = q.nonce;
-    })
-
--- the device fails
-pub sound_failed : (d : Sizes) (o : ℕ) (s : State) (e : Reason) → IsSound d o s → IsReasonOf d e → IsSound d o (failed_state s.next s.nonce e)
-sound_failed d o s e h reason = record { ranges = h.ranges; small = h.small; next = h.next; whole = (reason, refl) }
 
 -- one tree changes by an access
 pub sound_accessed : (d : Sizes) (o : ℕ) (s : State) (i : ℕ) (tree : Tree) → IsSound d o s → s.failure ≡ None → i < trees_of d → IsTreeKept d i tree → IsSound d o (record s { trees = slice_set s.trees i tree })

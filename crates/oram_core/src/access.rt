@@ -1,5 +1,5 @@
 //! The core has received a path: it changes the oldest command's block and stores the path again.
-ghost use Rattle.std.specs.Prelude.{◌≡◌, ◌+◌, ◌-◌, ◌*◌, ◌%◌, ◌<◌, ◌≤◌, ◌^◌, ℕ, List, [], ◌∷◌, length, map, IfOk, OnErr, slice_set, ◌==◌, if◌then◌else◌};
+ghost use Rattle.std.specs.Prelude.{◌≡◌, ◌+◌, ◌-◌, ◌*◌, ◌%◌, ◌<◌, ◌≤◌, ◌^◌, ℕ, List, [], ◌∷◌, length, IfOk, OnErr, slice_set, ◌==◌, if◌then◌else◌};
 ghost use Rattle.oram_geometry.specs.Sizes.{trees_of, depth_of, blocks_in};
 ghost use Rattle.oram_hash.specs.Path.{path_of};
 ghost use Rattle.oram_hash.specs.Tree.{IsPathOf};
@@ -9,7 +9,7 @@ ghost use Rattle.oram_semantics.specs.declared.events.Note.TheVariants as note;
 ghost use Rattle.oram_wire.specs.HostMessages.{store_body};
 ghost use Rattle.oram_semantics.specs.Content.{block_of, new_leaf, entry_tree};
 ghost use Rattle.oram_semantics.specs.Messages.{requested};
-ghost use Rattle.oram_semantics.specs.Moves.{Fits, MovesTo, on_answer, stores};
+ghost use Rattle.oram_semantics.specs.Moves.{Fits, MovesTo, on_answer};
 ghost use Rattle.oram_semantics.specs.Blocks.{next_map_entry, kept_of};
 ghost use Rattle.oram_semantics.specs.Progress.Status.{Waiting};
 ghost use Rattle.oram_semantics.specs.Run.{shown_by};

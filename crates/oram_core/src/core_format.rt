@@ -4,7 +4,7 @@ ghost use Rattle.oram_geometry.specs.Sizes.{trees_of};
 ghost use Rattle.oram_tree.specs.Format.{IsBegun, IsBrokenOff};
 ghost use Rattle.oram_semantics.specs.Formatting.{IsFormatBegun};
 ghost use Rattle.oram_semantics.specs.Nonces.{formatted, formatted_below};
-ghost use Rattle.oram_core.specs.Core.{CoreValue, scheme_with};
+ghost use Rattle.oram_core.specs.Core.{scheme_with};
 ghost use Rattle.oram_core.specs.Formatting.{AreMade, IsMade, IsNew};
 
 use crate::machine::Core;

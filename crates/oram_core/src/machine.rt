@@ -1,16 +1,15 @@
 //! The core and its steps.
-ghost use Rattle.std.specs.Prelude.{◌≡◌, ◌==◌, ◌+◌, ◌*◌, ◌%◌, ◌<◌, ◌≤◌, ◌^◌, ℕ, true, false, List, [], ◌∷◌, ◌++◌, length, IsOk, IfOk, OnOk, OnErr, Option, Some, None, slice_index, slice_index_or};
-ghost use Rattle.oram_geometry.specs.Sizes.{trees_of, depth_of};
-ghost use Rattle.oram_wire.specs.HostMessages.{fetch_body};
+ghost use Rattle.std.specs.Prelude.{◌≡◌, ◌==◌, ◌+◌, ◌*◌, ◌%◌, ◌<◌, true, false, [], ◌∷◌, ◌++◌, length, IsOk, IfOk, OnErr, Option, Some, None, slice_index_or};
+ghost use Rattle.oram_geometry.specs.Sizes.{trees_of};
 ghost use Rattle.oram_semantics.specs.Run.{refusal_of, is_over, is_waiting, shown_by};
 ghost use Rattle.oram_semantics.specs.Progress.Status.{Waiting};
 ghost use Rattle.oram_semantics.specs.declared.events.Note.TheVariants as note;
-ghost use Rattle.oram_semantics.specs.State.{World, no_tree, status_in};
-ghost use Rattle.oram_semantics.specs.Moves.{Fits, Moves, shows_in, fetch_at, leaf_for};
+ghost use Rattle.oram_semantics.specs.State.{no_tree, status_in};
+ghost use Rattle.oram_semantics.specs.Moves.{leaf_for};
 ghost use Rattle.oram_semantics.specs.Agree.{IsAllowed};
 ghost use Rattle.oram_core.specs.Core.{CoreValue, IsSound, IsSameDevice, scheme_of};
 ghost use Rattle.oram_core.specs.Steps.{Steps};
-ghost use Rattle.oram_core.specs.PlainSteps.{is_idle, is_stalled, Done, plain_step, is_free_note, done, accepted_by, stalled_by, resent_by, noted, first_message};
+ghost use Rattle.oram_core.specs.PlainSteps.{is_idle, is_stalled, Done, plain_step, is_free_note, done, accepted_by, stalled_by, resent_by, first_message};
 
 use crate::messages::MessageCopies;
 use crate::path_access::leaf_for;

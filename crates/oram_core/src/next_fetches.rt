@@ -1,9 +1,8 @@
 //! The FETCHes with which the commands that wait begin.
-ghost use Rattle.std.specs.Prelude.{◌≡◌, ◌+◌, ◌-◌, ◌*◌, ◌<◌, ◌≤◌, ◌^◌, List, All, IfOk, drop, length, slice_index, take};
+ghost use Rattle.std.specs.Prelude.{◌≡◌, ◌+◌, ◌-◌, ◌<◌, ◌≤◌, ◌^◌, All, IfOk, drop, length, slice_index, take};
 ghost use Rattle.oram_geometry.specs.Sizes.{blocks_in, depth_of, trees_of};
 ghost use Rattle.oram_wire.specs.ListOfBodies.{bodies_in};
 ghost use Rattle.oram_semantics.specs.Agree.{IsAllowed};
-ghost use Rattle.oram_semantics.specs.Content.{block_of};
 ghost use Rattle.oram_semantics.specs.Moves.{fetch_at};
 ghost use Rattle.oram_semantics.specs.NextFetches.{fetch_bodies, first_fetches, next_fetches, table_after};
 ghost use Rattle.oram_core.specs.InTurn.{SoundCoresAreInTurn};

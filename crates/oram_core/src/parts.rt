@@ -1,5 +1,5 @@
 //! The parts of a core that a client keeps in its state file.
-ghost use Rattle.std.specs.Prelude.{◌≡◌, ◌+◌, length, map, All, IfOk, IsOk, Err};
+ghost use Rattle.std.specs.Prelude.{◌≡◌, map, All, IfOk};
 ghost use Rattle.oram_bucket.specs.Cell.{IsRising};
 ghost use Rattle.oram_tree.specs.Parts.{parts_of as tree_parts};
 ghost use Rattle.oram_core.specs.Parts.{AreParts, parts_of, pending_of, state_of};

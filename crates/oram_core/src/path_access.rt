@@ -1,5 +1,5 @@
 //! The access that a command makes to a tree.
-ghost use Rattle.std.specs.Prelude.{◌≡◌, ◌+◌, ◌-◌, ◌*◌, ◌%◌, ◌<◌, ◌≤◌, ◌^◌, ℕ, List, ◌∷◌, length, map, replicate, slice_index, slice_range, ◌==◌, if◌then◌else◌};
+ghost use Rattle.std.specs.Prelude.{◌≡◌, ◌+◌, ◌-◌, ◌*◌, ◌%◌, ◌<◌, ◌≤◌, ◌^◌, ℕ, List, ◌∷◌, length, replicate, slice_index, slice_range, ◌==◌, if◌then◌else◌};
 ghost use Rattle.std.specs.Int.{w32, from_be_bytes};
 ghost use Rattle.oram_geometry.specs.Sizes.{trees_of, depth_of, blocks_in, fanout, leaf_of};
 ghost use Rattle.oram_tree.specs.Edits.{IsEditOf, edited_content};

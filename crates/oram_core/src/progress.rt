@@ -1,5 +1,5 @@
 //! The host has stored a path: the core fetches the next path, or replies to the oldest command.
-ghost use Rattle.std.specs.Prelude.{◌≡◌, ◌+◌, ◌-◌, ◌*◌, ◌%◌, ◌<◌, List, [], ◌∷◌, length, map, IfOk, OnOk, OnErr, None, drop, ◌==◌};
+ghost use Rattle.std.specs.Prelude.{◌≡◌, ◌+◌, ◌-◌, ◌*◌, ◌%◌, ◌<◌, List, [], ◌∷◌, length, IfOk, OnOk, OnErr, None, drop, ◌==◌};
 ghost use Rattle.oram_geometry.specs.Sizes.{trees_of};
 ghost use Rattle.oram_semantics.specs.Answers.Outcome.{Good};
 ghost use Rattle.oram_semantics.specs.declared.events.Note.TheVariants as note;

@@ -1,11 +1,11 @@
 //! Judges an answer to the outstanding message.
 ghost use Rattle.std.specs.Prelude.{◌≡◌, ◌≢◌, ◌↔◌, ◌%◌, false, IfOk};
-ghost use Rattle.oram_semantics.specs.Answers.{outcome_of, pair_in};
+ghost use Rattle.oram_semantics.specs.Answers.{pair_in};
 ghost use Rattle.oram_semantics.specs.Messages.{requested};
 ghost use Rattle.oram_semantics.specs.Moves.{Fits};
 ghost use Rattle.oram_semantics.specs.Progress.Status.{Waiting};
 ghost use Rattle.oram_semantics.specs.State.{World, status_in};
-ghost use Rattle.oram_core.specs.Core.{CoreValue, IsSound, scheme_of};
+ghost use Rattle.oram_core.specs.Core.{IsSound, scheme_of};
 ghost use Rattle.oram_core.specs.AnswerMeaning.{IsChecked, path_now};
 ghost use Rattle.oram_core.specs.Verdicts.{Means, Tells, refusal_in};
 ghost use Rattle.oram_wire.specs.HostMessages.{no_room_answer, payload_answer};

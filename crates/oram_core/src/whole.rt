@@ -4,7 +4,7 @@ ghost use Rattle.oram_trace.specs.Tape.{ArePlacesApart};
 ghost use Rattle.oram_semantics.specs.Law.{StepsAlong};
 ghost use Rattle.oram_semantics.specs.Nonces.{AreNoncesApart};
 ghost use Rattle.oram_semantics.specs.Run.{AllRight, shown_by};
-ghost use Rattle.oram_core.specs.Core.{CoreValue, scheme_of, scheme_with};
+ghost use Rattle.oram_core.specs.Core.{scheme_of, scheme_with};
 ghost use Rattle.oram_core.specs.Runs.{setting_by, IsCarriedOut, IsCutShort};
 
 use crate::machine::Core;

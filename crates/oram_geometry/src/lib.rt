@@ -6,7 +6,7 @@
 //! client itself keeps the entries of the last tree, in its table.
 #![tactic(auto)]
 
-ghost use Rattle.std.specs.Prelude.{◌≡◌, ◌+◌, ◌-◌, ◌^◌, ◌<◌, ◌≤◌, ◌↔◌, ℕ, slice_index};
+ghost use Rattle.std.specs.Prelude.{◌≡◌, ◌+◌, ◌-◌, ◌^◌, ◌<◌, ◌≤◌, ◌↔◌, ℕ};
 ghost use Rattle.oram_geometry.specs.Least.{IsLeastFrom};
 ghost use Rattle.oram_geometry.specs.declared.Sizes.{Sizes};
 ghost use Rattle.oram_geometry.specs.Sizes.{IsDevice, fanout, blocks_in, fits_table, trees_of, has_leaves, depth_of, record_len_of, address_in, leaf_of, fault_number, device_of};

@@ -1,10 +1,9 @@
 -- Records that are joined from sealed parts and a path's digests.
-use Rattle.std.proofs.Common.{◌≡◌, ℕ, zero, suc, ◌+◌, ◌-◌, ◌*◌, ◌<◌, ◌≤◌, ◌==◌, refl, sym, arith, ap, ◌∙◌, inl, inr, List, [], ◌∷◌, ◌++◌, length, take, drop, slice_index_or, All, append_assoc, length-append, true, false}
+use Rattle.std.proofs.Common.{◌≡◌, ℕ, zero, suc, ◌+◌, ◌-◌, ◌*◌, ◌<◌, ◌≤◌, refl, sym, arith, ap, ◌∙◌, inl, inr, List, [], ◌∷◌, ◌++◌, length, take, drop, slice_index_or, All, append_assoc, length-append}
 use Rattle.std.proofs.Math.Seq.{take-add}
 use Rattle.std.proofs.lemmas.Bool.{cases_eq, eq-eqb, ne_eqb}
 use Rattle.std.proofs.lemmas.List.{take_at, drop_at, drop-drop, append-nil}
 use Rattle.std.proofs.lemmas.List.Elements.{All-head, All-tail}
-use Rattle.std.specs.Prelude.{if◌then◌else◌, ◌≢◌}
 use Rattle.oram_hash.specs.Record.{no_digest, left_digest, right_digest}
 use Rattle.oram_hash.specs.Path.{Path, HasLength, with_bytes, record_at, digests_at}
 use Rattle.oram_hash.specs.Rebuild.{IsJoined, joined_from}

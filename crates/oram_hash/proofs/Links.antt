@@ -1,11 +1,10 @@
 -- How joined records are linked, from the leaf's record up.
-use Rattle.std.proofs.Common.{◌≡◌, ℕ, ◌+◌, ◌-◌, ◌*◌, ◌<◌, ◌≤◌, refl, sym, arith, ap, subst, ◌∙◌, List, [], ◌++◌, length, take, drop, slice_index_or, append_assoc, length-append, length-drop, Bool, true, false}
+use Rattle.std.proofs.Common.{◌≡◌, ℕ, ◌+◌, ◌-◌, ◌*◌, ◌<◌, ◌≤◌, refl, sym, arith, ap, subst, ◌∙◌, List, [], ◌++◌, length, drop, slice_index_or, append_assoc, length-append, length-drop, true, false}
 use borrow.Rule.Slice.PartMut.{put_mid}
 use Rattle.std.proofs.Math.Nat.{mul-le-mul_right}
 use Rattle.std.proofs.lemmas.List.{take_at, drop_at, take_all, drop-take, append-nil}
 use Rattle.std.proofs.lemmas.Grind.{common_steps}
 use Rattle.std.proofs.lemmas.Slice.{take-put_mid_below}
-use Rattle.std.specs.Prelude.{if◌then◌else◌}
 use Rattle.sha2.specs.Sha256.{sha256}
 use Rattle.oram_hash.specs.Record.{left_digest, right_digest, is_left_child}
 use Rattle.oram_hash.specs.Path.{Path, HasLength, with_bytes, record_at, node_at, record_over, digests_at}

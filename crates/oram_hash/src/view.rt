@@ -1,10 +1,10 @@
 //! A path as the host's answer contains it, and the check of its digests.
 ghost use Rattle.std.specs.Prelude.{MatchResult, IsOk, ◌≡◌, ◌^◌, ◌<◌, ◌≤◌, ◌+◌, ◌-◌, ◌*◌, ◌↔◌, ◌⊎◌, ℕ, List, length, IsTrue, IfOk};
-ghost use Rattle.oram_geometry.specs.Sizes.{trees_of, depth_of, record_len_of};
-ghost use Rattle.oram_hash.specs.Path.{path_of, IsAccepted, IsTamperedAt, Path, HasLength, IsGenuine, digest_for, expected, node_at, record_at, digests_at};
+ghost use Rattle.oram_geometry.specs.Sizes.{trees_of, depth_of};
+ghost use Rattle.oram_hash.specs.Path.{path_of, IsAccepted, IsTamperedAt, Path, HasLength, IsGenuine, digest_for, node_at, record_at, digests_at};
 ghost use Rattle.oram_hash.specs.Record.{is_left_child, left_digest, right_digest, sealed_part};
 ghost use Rattle.oram_hash.specs.Verdict.{IsFaultOf};
-ghost use Rattle.oram_hash.specs.Tree.{Collides, IsFirstOther, IsPathOf, IsStored};
+ghost use Rattle.oram_hash.specs.Tree.{Collides, IsPathOf, IsStored};
 
 use crate::{DIGEST_LEN, DIGESTS_LEN, HashFault, node_digest};
 use oram_geometry::Device;

@@ -3,9 +3,9 @@ use Rattle.std.proofs.Common.{◌≡◌, ℕ, ◌+◌, ◌∷◌, ◌++◌, List
 use Rattle.std.specs.List.{FoldsTo}
 use Rattle.std.proofs.lemmas.Fn.{FoldsTo-push}
 use Rattle.std.proofs.lemmas.List.Concat.{flat_map-append}
-use Rattle.std.proofs.lemmas.List.Elements.{All-push, All-nil}
+use Rattle.std.proofs.lemmas.List.Elements.{All-push}
 use Rattle.std.specs.Io.KnownBytes.{Appends, Consumes}
-use Rattle.std.proofs.KnownBytes.{Appends-nil, Consumes-nil, Appends-trans, Consumes-trans}
+use Rattle.std.proofs.KnownBytes.{Appends-trans, Consumes-trans}
 use Rattle.oram_wire.specs.FrameStream.{IsBody, frame}
 use Rattle.oram_host.specs.Answered.{Answering, HasAnswered, frames_of}
 
@@ -21,10 +21,6 @@ module _ {P X : Type 0} (leads : P → X → P → Type 0) (request answer : X �
     pub fits : All (λ x. IsBody (request x)) all
     pub read : Consumes p.unread q.unread (frames_of request all)
     pub wrote : Appends p.written q.written (frames_of answer all)
-
-  pub answered_new : (p : Answering P) → Answered p 0 p
-  answered_new p =
-      record { all = []; count = refl; led = refl; fits = All-nil (λ x. IsBody (request x)); read = Consumes-nil p.unread; wrote = Appends-nil p.written }
 
   pub answered_more : (p : Answering P) (n : ℕ) (q : Answering P) (x : X) (z : Answering P) → Answered p n q → leads q.state x z.state → IsBody (request x)
       → Consumes q.unread z.unread (frame (request x)) → Appends q.written z.written (frame (answer x)) → Answered p (n + 1) z

@@ -1,5 +1,5 @@
 -- A host after one of its trees has changed.
-use Rattle.std.proofs.Common.{◌≡◌, ◌≢◌, ℕ, ◌+◌, ◌-◌, ◌<◌, ◌^◌, filter, Bool, true, false, cond, IsSome, List, [], ◌∷◌, length, map, All, Option, Some, None, Result, Ok, Err, MatchResult, OnErr, refl, ap, subst, ◌∙◌, sym}
+use Rattle.std.proofs.Common.{◌≡◌, ◌≢◌, ℕ, ◌+◌, ◌-◌, ◌<◌, ◌^◌, filter, Bool, true, false, cond, IsSome, List, [], ◌∷◌, map, All, Option, Some, None, Result, Ok, Err, MatchResult, OnErr, refl, ap, subst, ◌∙◌, sym}
 use Rattle.std.specs.Prelude.{MatchOption}
 use Rattle.std.specs.Option.{option_map}
 use Rattle.std.specs.BTreeMap.{BTreeMap, IsOrdered, Updates, WritesThrough, get, insert_entry, is_at}

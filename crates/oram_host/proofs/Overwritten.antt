@@ -1,11 +1,11 @@
 -- Records that were overwritten in place.
-use Rattle.std.proofs.Common.{◌≡◌, ◌≢◌, ℕ, ◌+◌, ◌-◌, ◌*◌, ◌^◌, ◌<◌, ◌≤◌, inl, inr, List, length, take, drop, Option, Some, None, IsSome, refl, ap, subst, sym, ◌∙◌, arith}
+use Rattle.std.proofs.Common.{◌≡◌, ◌≢◌, ℕ, ◌+◌, ◌-◌, ◌*◌, ◌<◌, ◌≤◌, inl, inr, List, length, take, drop, Option, Some, None, IsSome, refl, ap, sym, ◌∙◌, arith}
 use Rattle.std.specs.BTreeMap.{BTreeMap, WritesThrough, get}
 use Rattle.std.specs.Ordering.{nat_cmp}
 use Rattle.std.proofs.lemmas.Bool.{cases_eq}
 use Rattle.oram_host.specs.declared.trees.Tree.{Tree}
 use Rattle.oram_host.specs.Host.{Kept, record_of}
-use Rattle.oram_host.specs.Path.{PutsRecord, StoresPath, node_on, record_at}
+use Rattle.oram_host.specs.Path.{PutsRecord, node_on, record_at}
 use Rattle.oram_host.specs.Trees.{IsTree, kept_by}
 use Rattle.oram_host.proofs.Flipped.{record_in_map, record_kept_at, tree_written}
 use Rattle.oram_host.proofs.LoadedHosts.{is_kept}

@@ -58,9 +58,6 @@ module _ (v : Scheme) (s : State) (w : World) (fit : IsFit v.device) (alive : s.
 
   -- the answer to the outstanding message is good, or says that there is no room
 
-  meaning : (bytes : List ℕ) → Outcome
-  meaning bytes = outcome_of v w.records (requested s.message) bytes
-
   goes_met : (host after : Host) (answer : HostAnswer) → IsBusy v s w host → Met v s w host answer after
       → Goes v s w after (on_answer v s w Waiting (outcome_of v w.records (requested s.message) (answer_body answer)))
   goes_met host after answer b (inl good) =

@@ -1,7 +1,7 @@
 -- A bucket file that is new, and one that a tree is added to.
-use Rattle.std.proofs.Common.{◌%◌, ◌≡◌, ◌≢◌, ◌⊎◌, inl, inr, ℕ, zero, suc, ◌+◌, ◌<◌, ◌≤◌, [], ◌∷◌, length, get_or, replicate, set, Option, Some, None, refl, sym, ◌∙◌, ap, subst, arith}
+use Rattle.std.proofs.Common.{◌%◌, ◌≡◌, ◌≢◌, ◌⊎◌, inl, inr, ℕ, zero, suc, ◌+◌, ◌<◌, ◌≤◌, [], ◌∷◌, length, get_or, replicate, Option, Some, None, refl, sym, ◌∙◌, ap, subst, arith}
 use Rattle.std.proofs.lemmas.Bool.{cases_eq, cases_lt}
-use Rattle.std.proofs.lemmas.List.{get_or-replicate, get_or-set_other, get_or-set_same, get_or_past, length-append, length-replicate, length-set}
+use Rattle.std.proofs.lemmas.List.{get_or-replicate, get_or_past, length-append, length-replicate}
 use Rattle.oram_redo.specs.Content.{Content, bytes_at, put}
 use Rattle.oram_redo.specs.Log.{put_all}
 use Rattle.oram_redo.proofs.Bytes.{bytes_at-agrees, has-put, has_front, has_same, put_outside}
@@ -137,16 +137,6 @@ module _ (trees more : Trees) (c : Content) (n : ℕ) (tree : Tree) (is : IsBuck
 pub tree_added : TreeIsAdded
 tree_added trees more c new n tree is added base same =
     subst (λ (e : Content). KeepsRecords trees c more e) (sym (content_is (put_all (tree_patch n tree ∷ []) c) new same)) (added_is trees more c n tree is added base)
-
--- writing a tree at a free number of a list adds that tree
-pub adds_set : (trees : Trees) (number : ℕ) (tree : Tree) → length trees ≡ 256 → number < 256 → tree_at trees number ≡ None → AddsTree trees number tree (set trees number (Some tree))
-adds_set trees number tree long h free = record {
-  within = h;
-  all = length-set trees number (Some tree) ∙ long;
-  free = free;
-  there = get_or-set_same trees number (Some tree) None (omega (arith, long));
-  others = λ n differ. get_or-set_other trees number n (Some tree) None differ;
-}
 
 -- a list that has no tree at any number
 pub has_no_tree : (n : ℕ) (trees : Trees) → n ≡ 256 → trees ≡ replicate n None → HasNoTree trees

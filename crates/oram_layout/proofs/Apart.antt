@@ -1,6 +1,6 @@
 -- Trees that are found apart one by one: each from those before it.
 use Rattle.std.proofs.Common.{◌≡◌, ◌⊎◌, inl, inr, ℕ, ◌+◌, ◌%◌, ◌<◌, ◌≤◌, length, take, Option, Some, None, sym, ◌∙◌, ap, arith}
-use Rattle.std.proofs.lemmas.Bool.{cases_eq, cases_lt, cases_order}
+use Rattle.std.proofs.lemmas.Bool.{cases_eq, cases_lt}
 use Rattle.std.proofs.lemmas.List.{get_or-take, get_or_past, length-take}
 use Rattle.oram_layout.specs.Trees.{AreApart, IsApartFrom, IsPlaced, Trees, end_of, tree_at}
 use Rattle.oram_layout.specs.declared.trees.Tree.{Tree}
@@ -13,13 +13,6 @@ Apart other tree = (end_of other ≤ tree.base) ⊎ (end_of tree ≤ other.base)
 abbrev pub IsApartBelow : Tree → Trees → ℕ → Type 0
 IsApartBelow tree others i = (n : ℕ) (other : Tree) → n < i → tree_at others n ≡ Some other → Apart other tree
 
-pub apart_more : (tree : Tree) (others : Trees) (i : ℕ) (item : Option Tree) → tree_at others i ≡ item → ((other : Tree) → item ≡ Some other → Apart other tree) → IsApartBelow tree others i → IsApartBelow tree others (i + 1)
-apart_more tree others i item is here below n other h there =
-    elim (cases_eq n i) [
-      | inl same ↦ here other (sym is ∙ ap (tree_at others) (sym same) ∙ there)
-      | inr differ ↦ below n other (omega arith) there
-    ]
-
 tree_within : (trees : Trees) (n : ℕ) (tree : Tree) → tree_at trees n ≡ Some tree → n < length trees
 tree_within trees n tree there =
     elim (cases_lt n (length trees)) [
@@ -29,9 +22,6 @@ tree_within trees n tree there =
   where
     none : tree_at trees n ≡ None → ⊥
     none is = cc
-
-pub apart_all : (tree : Tree) (others : Trees) (i : ℕ) → length others ≤ i → IsApartBelow tree others i → IsApartFrom tree others
-apart_all tree others i all below n other there = below n other (omega (arith, tree_within others n other there)) there
 
 -- the trees below a number are after the header, and apart
 pub record AreApartBelow (trees : Trees) (i : ℕ) : Type 0 where
@@ -57,26 +47,6 @@ placed_more trees i item is here below = record {
   where
     its : (n : ℕ) (tree : Tree) → n ≡ i → tree_at trees n ≡ Some tree → item ≡ Some tree
     its n tree same there = sym is ∙ ap (tree_at trees) (sym same) ∙ there
-
-pub none_placed : (trees : Trees) → AreApartBelow trees 0
-none_placed trees = record { from = λ n tree h there. absurd (omega arith); even = λ n tree h there. absurd (omega arith); apart = λ m n s t before h p q. absurd (omega arith) }
-
-turned : (s t : Tree) → Apart s t → Apart t s
-turned s t (inl before) = inr before
-turned s t (inr behind) = inl behind
-
-pub all_placed : (trees : Trees) (i : ℕ) → length trees ≤ i → AreApartBelow trees i → AreApart trees
-all_placed trees i all below = record {
-  from = λ n tree there. below.from n tree (omega (arith, tree_within trees n tree there)) there;
-  even = λ n tree there. below.even n tree (omega (arith, tree_within trees n tree there)) there;
-  apart = λ m n s t differ p q. elim (cases_order m n) [
-    | inl same ↦ absurd (differ same)
-    | inr other ↦ elim other [
-      | inl before ↦ below.apart m n s t before (omega (arith, tree_within trees n t q)) p q
-      | inr after ↦ turned t s (below.apart n m t s after (omega (arith, tree_within trees m s p)) q p)
-    ]
-  ];
-}
 
 pub placed_there : (trees : Trees) (i : ℕ) (tree : Tree) → AreApart trees → tree_at trees i ≡ Some tree → IsPlaced tree (take i trees)
 placed_there trees i tree apart there = record { from = apart.from i tree there; even = apart.even i tree there; apart = before }

@@ -1,5 +1,5 @@
 //! The entries of trees in the header.
-ghost use Rattle.std.specs.Prelude.{◌≡◌, ◌<◌, ◌≤◌, ◌+◌, ◌*◌, ◌^◌, ◌↔◌, ℕ, Option, length, IfOk, IsErrOf, IsTrue, MatchOption, OnErr, Some};
+ghost use Rattle.std.specs.Prelude.{◌≡◌, ◌<◌, ◌≤◌, ◌+◌, ◌*◌, ◌^◌, ◌↔◌, Option, length, IfOk, IsErrOf, IsTrue, MatchOption, OnErr, Some};
 ghost use Rattle.oram_redo.specs.Content.{Content, Has};
 ghost use Rattle.oram_layout.specs.Header.{HasTrees, entry_at, entry_bytes};
 ghost use Rattle.oram_layout.specs.Trees.{AreApart, IsApartFrom, IsPlaced, Trees, next_of};

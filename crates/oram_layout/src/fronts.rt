@@ -1,5 +1,5 @@
 //! The first bytes of the two files: letters that say what the file is, a version, and an identity that the two share.
-ghost use Rattle.std.specs.Prelude.{◌≡◌, ◌<◌, ◌↔◌, ℕ, ◌++◌, All, IfSome, IsTrue, length, take, drop, Some};
+ghost use Rattle.std.specs.Prelude.{◌≡◌, ◌<◌, ◌↔◌, All, IfSome, IsTrue, take, Some};
 ghost use Rattle.oram_layout.specs.Fronts.{IfOurs, IsFront, IsNewer, front_bytes, log_letters, sqlite_letters};
 ghost use Rattle.oram_layout.specs.Header.{letters};
 ghost use Rattle.oram_layout.specs.declared.fronts.Identity.{Identity};

@@ -1,9 +1,8 @@
 -- Calls of a device, one after another.
-use Rattle.std.proofs.Common.{◌≡◌, ℕ, Result, Ok, Err, refl, ◌∙◌}
+use Rattle.std.proofs.Common.{ℕ, Result, Ok, refl, ◌∙◌}
 use Rattle.oram_nbd.specs.Beside.{IsStopped}
 use Rattle.oram_nbd.specs.Calls.{IsCall, Stays}
 use Rattle.oram_nbd.specs.declared.faults.DiskFault.{DiskFault}
-use Rattle.oram_nbd.specs.declared.faults.DiskFault.TheVariants.{OutOfMemory}
 
 module _ {D : Type 0} {block_len size : D → ℕ} {failed : D → Type 0} where
   -- A device that wasn't called stays as it is.
@@ -22,14 +21,6 @@ module _ {D : Type 0} {block_len size : D → ℕ} {failed : D → Type 0} where
     -- Where a function returns no error, there is no fault to tell of.
     pub done : {x : T} → Stays block_len size failed old new → IsCall block_len size failed stopped old (Ok x) new
     done stays = record { stays = stays; has_failed = λ e. cc; has_stopped = λ e. cc }
-
-    -- Nor is there one where memory ran out.
-    pub no_memory : {e : DiskFault} → e ≡ OutOfMemory → Stays block_len size failed old new → IsCall block_len size failed {T = T} stopped old (Err e) new
-    no_memory is stays = record { stays = stays; has_failed = λ f. cc; has_stopped = λ f. cc }
-
-    -- A `?` passes on the error of a call that returns another type.
-    pub passed_on : {U : Type 0} {e f : DiskFault} → f ≡ e → IsCall block_len size failed {T = U} stopped old (Err e) new → IsCall block_len size failed {T = T} stopped old (Err f) new
-    passed_on is call = record { stays = call.stays; has_failed = λ h. call.has_failed cc; has_stopped = λ h. call.has_stopped cc }
 
     -- Calls that were made before are part of the call.
     pub after : {mid : D} {r : Result T DiskFault} → Stays block_len size failed old mid → IsCall block_len size failed stopped mid r new → IsCall block_len size failed stopped old r new

@@ -5,7 +5,7 @@ use Rattle.std.proofs.lemmas.Bool.{cases_lt}
 use Rattle.std.proofs.Math.Seq.{take-append-add}
 use Rattle.std.proofs.lemmas.Grind.{flat_map-append}
 use Rattle.std.specs.Io.KnownBytes.{Appends, Consumes}
-use Rattle.std.proofs.KnownBytes.{Appends-nil, Appends-trans, Consumes-nil, Consumes-trans}
+use Rattle.std.proofs.KnownBytes.{Appends-trans, Consumes-nil, Consumes-trans}
 use Rattle.std.proofs.lemmas.List.Elements.{All-append, All-cons, All-head, All-nil, All-tail}
 use Rattle.oram_nbd.specs.Batches.{answers_text, refusals_text, reply_if, reply_of, requested_bytes, AreCollected, AreServedBy, EndsBy, HasRepliedToAll, HasBegun, HasGathered, IsWithoutMemory, LeftBy, DoesRequest, DoesIfAccepted}
 use Rattle.oram_nbd.specs.Beside.{GoesOn, Arrays, HasArrays}
@@ -311,13 +311,6 @@ pub record Collected (block size : ℕ) (requests : List Request) (operations : 
   pub collected : AreCollected block size arrived requests operations
   pub read : Consumes unread unread' (whole_requests_text arrived)
 
-pub collected_none : (block size : ℕ) (requests : List Request) (operations : List Operation) (unread : Option (List ℕ)) → requests ≡ [] → operations ≡ [] → Collected block size requests operations unread unread
-collected_none block size requests operations unread no_requests no_operations = record {
-  arrived = [];
-  collected = record { all = All-nil IsWholeRequest; same = sym no_requests; served = subst (AreServedBy block size []) (sym no_operations) tt };
-  read = Consumes-nil unread;
-}
-
 module _ (block size : ℕ) (requests : List Request) (operations : List Operation) (unread mid : Option (List ℕ)) (so_far : Collected block size requests operations unread mid) where
   pub collected_more : (requests' : List Request) (operations' : List Operation) (later : Option (List ℕ)) (a : WholeRequest) (op : Operation) → IsWholeRequest a → requests' ≡ requests ++ a.request ∷ [] → operations' ≡ operations ++ op ∷ []
       → DoesIfAccepted (refusal_of size a.request) block size a op → Consumes mid later (request_text a.request ++ a.payload) → Collected block size requests' operations' unread later
@@ -481,9 +474,6 @@ pub record WritesOn (old now : Option (List ℕ)) (all rest : List ℕ) : Type 0
   pub so_far : List ℕ
   pub wrote : Appends old now so_far
   pub split : so_far ++ rest ≡ all
-
-pub writes_none : (old : Option (List ℕ)) (all : List ℕ) → WritesOn old old all all
-writes_none old all = record { so_far = []; wrote = Appends-nil old; split = refl }
 
 module _ (old now : Option (List ℕ)) (all rest : List ℕ) (t : WritesOn old now all rest) where
   pub writes_next : (later : Option (List ℕ)) (more rest' : List ℕ) → rest ≡ more ++ rest' → Appends now later more → WritesOn old later all rest'

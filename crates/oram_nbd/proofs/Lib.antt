@@ -6,7 +6,6 @@ pub mod Edges
 pub mod ListSteps
 pub mod Texts
 pub mod WholeRequests
-pub mod Wanted
 pub mod Pieces
 pub mod KeptBatches
 pub mod Served

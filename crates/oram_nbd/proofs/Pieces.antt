@@ -1,9 +1,8 @@
 -- Messages that come or go piece by piece.
 use Rattle.std.proofs.Common.{◌≡◌, ℕ, ◌+◌, ◌<◌, List, [], ◌++◌, length, Option, Result, Ok, Err, IfErr, sym, ap, ◌∙◌, subst, arith, length-append, take, take_all, le_refl, append-nil}
-use Rattle.std.specs.Io.KnownBytes.{Appends, Consumes, IsAtEnd}
+use Rattle.std.specs.Io.KnownBytes.{Appends, Consumes}
 use Rattle.std.proofs.KnownBytes.{Appends-trans, Consumes-trans}
 use Rattle.std.proofs.Math.Seq.{take-append-add}
-use Rattle.std.proofs.lemmas.List.{take-append-le}
 use Rattle.oram_wire.specs.FrameIo.{TakesPart}
 use Rattle.oram_nbd.specs.Streams.{ComesShort, IsBegunText, IsSkip}
 use Rattle.oram_nbd.specs.declared.faults.NbdFault.TheVariants as fault
@@ -24,15 +23,7 @@ pub skip_short : (old mid new : Option (List ℕ)) (n k : ℕ) (part : List ℕ)
 skip_short old mid new n k part (front, long, came) more few =
     (front ++ part, (let h : length (front ++ part) < k = omega (arith, length-append front part) in h), Consumes-trans old mid new front part came more)
 
-pub skip_ended : (old mid new : Option (List ℕ)) (n k : ℕ) (part : List ℕ) → IsSkip old mid n → Consumes mid new part → n + length part < k → IsAtEnd new → ComesShort 0 k fault.Truncated old new
-skip_ended old mid new n k part (front, long, came) more few ended =
-    (front ++ part, (let h : length (front ++ part) < k = omega (arith, length-append front part) in h), Consumes-trans old mid new front part came more, omega arith, ended)
-
 -- ---- writing
-
-pub begun_first : (a b : Option (List ℕ)) (first rest : List ℕ) → TakesPart a b first → IsBegunText a b (first ++ rest)
-begun_first a b first rest (count, few, wrote) =
-    (count, subst (Appends a b) (sym (take-append-le count first rest (omega arith))) wrote)
 
 pub begun_second : (a b c : Option (List ℕ)) (first second : List ℕ) → Appends a b first → TakesPart b c second → IsBegunText a c (first ++ second)
 begun_second a b c first second wrote (count, few, more) =

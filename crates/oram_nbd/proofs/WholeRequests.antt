@@ -1,5 +1,5 @@
 -- Whether bytes begin with a whole request.
-use Rattle.std.proofs.Common.{◌≡◌, ℕ, ◌+◌, ◌-◌, ◌≤◌, List, ◌++◌, length, take, drop, refl, sym, ap, ◌∙◌, arith, append_assoc, length-append, length-drop, length-take-le}
+use Rattle.std.proofs.Common.{◌≡◌, ℕ, ◌+◌, ◌-◌, ◌≤◌, List, ◌++◌, length, take, drop, sym, ap, ◌∙◌, arith, append_assoc, length-append, length-drop, length-take-le}
 use Rattle.std.proofs.lemmas.List.{take-append-drop}
 use Rattle.oram_nbd.specs.Messages.{payload_len, request_text, IsRequest}
 use Rattle.oram_nbd.specs.Service.{BeginsWithRequest}
@@ -17,10 +17,6 @@ begins_by bytes head r front is text least enough =
       split = sym (append_assoc (request_text r) (take n (drop 28 bytes)) (drop n (drop 28 bytes)) ∙ ap (λ (l : List ℕ). request_text r ++ l) (take-append-drop n (drop 28 bytes))
           ∙ ap (λ (l : List ℕ). l ++ drop 28 bytes) (sym text ∙ front) ∙ take-append-drop 28 bytes);
     }
-
--- the text of a request has 28 bytes
-pub text_long : (r : Request) → length (request_text r) ≡ 28
-text_long r = refl
 
 module _ (bytes : List ℕ) (b : BeginsWithRequest bytes) where
   pub begins_long : length bytes ≡ 28 + payload_len b.first.request.command b.first.request.length + length b.rest

@@ -1,5 +1,5 @@
 -- A whole command: a read of the block of zeros gets its reply.
-use Rattle.std.proofs.Common.{◌≡◌, ℕ, ◌*◌, ◌==◌, if◌then◌else◌, List, [], None, Some, Ok, refl, sym, subst, inl, inr}
+use Rattle.std.proofs.Common.{◌≡◌, ℕ, ◌*◌, ◌==◌, if◌then◌else◌, Bool, List, [], ◌∷◌, None, Some, Ok, refl, sym, subst, inl, inr}
 use Rattle.oram_wire.specs.HostMessages.{done_answer, fetch_body}
 use Rattle.oram_geometry.specs.Sizes.{trees_of}
 use Rattle.oram_semantics.specs.Answers.{good_answer, outcome_of}
@@ -16,13 +16,14 @@ use Rattle.oram_core.specs.Steps.{Steps}
 use Rattle.oram_core.proofs.Judged.{stored_verdict}
 use Rattle.oram_core.proofs.LocalRule.{holds_of}
 use Rattle.oram_core.proofs.Quiet.{finishes_met}
-use Rattle.oram_link_laws.specs.Examples.{new_core, one_block}
+use Rattle.oram_session.specs.Links.{ToServer}
+use Rattle.oram_link_laws.specs.Examples.{new_core, new_host, one_block}
 use Rattle.oram_link_laws.proofs.Device.{new_device_example, one_tree, session_example}
-use Rattle.oram_rounds.specs.Examples.{DirectBatches}
+use Rattle.oram_rounds.specs.Examples.{DirectBatches, zero_array}
 use Rattle.oram_rounds.specs.PathMessages.{IsPathStore}
-use Rattle.oram_rounds.specs.Process.{DoesAll}
+use Rattle.oram_rounds.specs.Process.{DoesAll, IsSafe}
 use Rattle.oram_rounds.specs.ProcessSteps.{DoesSteps}
-use Rattle.oram_rounds.specs.ReadingExample.{one_read, process_with, reading_core, reads_kept, shown_in}
+use Rattle.oram_rounds.specs.ReadingExample.{one_read, process_with, reading_core, reads, reads_kept, shown_in}
 use Rattle.oram_rounds.specs.Rounds.{RoundCall}
 use Rattle.oram_process_laws.specs.WholeExample.{WholeExample, block_store, fetched_core, finished, stored_record, whole_acts, whole_process, whole_steps}
 use Rattle.oram_rounds.proofs.Example.{first_leaf, first_tree, one_path, one_waits_example, whole_record}
@@ -31,6 +32,7 @@ use Rattle.oram_process_laws.proofs.FetchedPath.{takes_path}
 use Rattle.oram_process_laws.proofs.Lives.{right_by}
 use Rattle.oram_process_laws.proofs.NoPair.{no_pair}
 use Rattle.oram_rounds.proofs.ReadingProcess.{accepts, awaits, called, now, now_ahead, reading_process_example, went}
+use Rattle.oram_rounds.proofs.Start.{submitted_is_safe}
 
 -- the core hears that the STORE is carried out
 
@@ -74,6 +76,11 @@ call = record {
   });
 }
 
+safe : (may_lie : Bool) → IsSafe may_lie one_block reads_kept (process_with reading_core new_core) new_host zero_array zero_array
+safe may_lie =
+    submitted_is_safe ToServer reads_kept may_lie one_block (reads ∷ []) (process_with new_core new_core) (process_with reading_core new_core) new_host zero_array
+    reading_process_example.1 (reading_process_example.4 may_lie) reading_process_example.3
+
 acts : DoesAll one_block DirectBatches reads_kept (process_with reading_core new_core) whole_acts whole_process
 acts = (
   now,
@@ -102,6 +109,7 @@ whole_example =
       reading_process_example.0,
       reading_process_example.1,
       reading_process_example.2,
+      safe,
       reading_process_example.5,
       acts,
       λ may_lie. one_waits_example.3 may_lie,

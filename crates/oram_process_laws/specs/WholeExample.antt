@@ -18,7 +18,7 @@ use Rattle.oram_link_laws.specs.Examples.{new_core, new_host, one_block}
 use Rattle.oram_rounds.specs.CatchUp.{PlainRun}
 use Rattle.oram_rounds.specs.Examples.{DirectBatches, zero_array, zeros_fetched}
 use Rattle.oram_rounds.specs.Law.{AreBatches}
-use Rattle.oram_rounds.specs.Process.{Act, DoesAll, IsGoingOn, Process, exchanges_of, replies_of}
+use Rattle.oram_rounds.specs.Process.{Act, DoesAll, IsGoingOn, IsSafe, Process, exchanges_of, replies_of}
 use Rattle.oram_rounds.specs.Process.Act.{Calls, GoesAhead, Keeps}
 use Rattle.oram_rounds.specs.ProcessSteps.{DoesSteps, ProcessStep}
 use Rattle.oram_rounds.specs.ProcessSteps.ProcessStep.{Acts, Takes}
@@ -75,11 +75,13 @@ whole_process =
 abbrev pub whole_steps : List ProcessStep
 whole_steps = Takes reads ∷ map (λ (act : Act). Acts act) whole_acts
 
--- The command is submitted to the core of the device as it was formatted. The process goes on with the array of zeros, over a
--- server in memory, and replies with the zeros of the block. The first process of the device does these steps. Its run is right, and
--- no answer in it shows two records with the same digest. The reply is given, and is the array's reply to this command.
+-- The command is submitted to the core of the device as it was formatted. The process is safe and goes on with the array of
+-- zeros, over a server in memory, and replies with the zeros of the block. The first process of the device does these steps. Its
+-- run is right, and no answer in it shows two records with the same digest. The reply is given, and is the array's reply to this
+-- command.
 abbrev pub WholeExample : Type 0
 WholeExample = AreBatches DirectBatches × IsDevice one_block.device × AreSubmitted one_block zero_words 0 new_core (reads ∷ []) reading_core
+    × ((may_lie : Bool) → IsSafe may_lie one_block reads_kept (process_with reading_core new_core) new_host zero_array zero_array)
     × ((may_lie : Bool) → IsGoingOn may_lie one_block (process_with reading_core new_core) new_host zero_array)
     × DoesAll one_block DirectBatches reads_kept (process_with reading_core new_core) whole_acts whole_process
     × ((may_lie : Bool) → PlainRun may_lie one_block new_host (flat_map exchanges_of whole_acts) new_host)

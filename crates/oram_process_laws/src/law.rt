@@ -57,9 +57,9 @@ pub fn two_lives_example()
     ensures { TwoLivesExample }
 {}
 
-/// A whole command, over a server in memory, meets the premises of `replies_are_the_arrays` in `oram_rounds` and of
-/// [`replies_are_of_one_run`]: the read of a block is submitted to the first process of a device and kept, the host answers its
-/// FETCH, the core sends its STORE, and the process gives the array's reply.
+/// A whole command, over a server in memory, meets the premises of `acts_are_safe` and `replies_are_the_arrays` in `oram_rounds`
+/// and of [`replies_are_of_one_run`]: the read of a block is submitted to the first process of a device, which is safe, and kept,
+/// the host answers its FETCH, the core sends its STORE, and the process gives the array's reply.
 pub fn whole_command_example()
     ensures { WholeExample }
 {}

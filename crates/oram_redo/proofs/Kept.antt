@@ -49,9 +49,6 @@ left_copy held copy is c left file i out = left file i (subst (λ (rs : List Ran
 abbrev Since : List Snapshot → Snapshot → ℕ → Contents → Type 0
 Since past held t c = MayLeave held c ⊎ HadLeft (drop t past) c
 
-pub elapses_same : (past : List Snapshot) (held : Snapshot) → Elapses (length past) (length past) (Since past held) (Since past held) (MayLeave held)
-elapses_same past held = record { later = omega arith; nothing_else = λ t c le left. inl left; keeps = λ t c le left. left }
-
 elapses_push : (past : List Snapshot) (copy old new : Snapshot) → IsCopy old copy → Elapses (length past) (length (past ++ copy ∷ [])) (Since past old) (Since (past ++ copy ∷ []) new) (MayLeave new)
 elapses_push past copy old new is = record {
   later = omega (arith, length-append past (copy ∷ []));

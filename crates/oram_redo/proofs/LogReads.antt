@@ -38,13 +38,7 @@ damaged_head bounds log at a b is ha hb bad = record {
     rest : Has (1 ∷ place_and_length a b) at log → Has (place_and_length a b) (suc at) log
     rest h = cc
 
-pub past_end : (bounds : Bounds) (log : Content) (at : ℕ) → bounds.log_end ≤ at → IsDamagedAt bounds log at
-past_end bounds log at past = record { no_end = λ shut low. omega arith; no_entry = λ p fits has room. omega arith }
-
 module _ (bounds : Bounds) (log : Content) where
-  pub opens_none : Opens bounds [] log bounds.log_start
-  opens_none = record { stands = refl; ends = omega arith; each = λ k d h. absurd (omega arith) }
-
   -- the patch of an entry that was found
   abbrev pub patch_at : ℕ → Entry → Patch
   patch_at at found = (found.at, bytes_at found.len (at + 13) log)
@@ -74,14 +68,6 @@ module _ (bounds : Bounds) (log : Content) where
       only : (p : Patch) → Fits bounds p → All (Fits bounds) (p ∷ [])
       only p fits zero d h = fits
       only p fits (suc k) d h = absurd (omega arith)
-
-  pub opens_end : (done : List Patch) (at : ℕ) → Opens bounds done log at → IsEndAt bounds log at → IsLog bounds done log
-  opens_end done at so_far end = record {
-    stands = so_far.stands;
-    shut = λ gate. end.shut (ap log so_far.ends ∙ gate);
-    within = omega (arith, so_far.ends, end.room);
-    each = so_far.each;
-  }
 
   -- the patches that are still to be read
   pub opens_rest : (done ps : List Patch) (at : ℕ) → Opens bounds done log at → IsLog bounds ps log → (rest : List Patch) × (ps ≡ done ++ rest)

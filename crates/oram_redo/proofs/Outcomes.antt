@@ -1,5 +1,5 @@
 -- What a function owes where it ends early, because a call in it has failed, and how several calls add up.
-use Rattle.std.proofs.Common.{◌≡◌, ◌⊎◌, ⊎_elim, inl, inr, ℕ, true, ap, subst, sym, ◌∙◌, Result, Ok, Err, is_err, Option, Some, None}
+use Rattle.std.proofs.Common.{◌≡◌, ◌⊎◌, ⊎_elim, inl, inr, true, ap, subst, sym, ◌∙◌, Result, Ok, Err, is_err, Option, Some, None}
 use Rattle.std.specs.Prelude.{IfErr, IfOk, IfSome, IsErr, IsErrAnd, IsErrOf, OnOk}
 use Rattle.oram_redo.specs.FilePair.{ComesAfter, FileModel, HasCause, HasFailed}
 use Rattle.oram_redo.specs.Redo.{IsRefused}

@@ -1,5 +1,5 @@
 -- Writes to the places of patches, one after the other.
-use Rattle.std.proofs.Common.{◌⊎◌, ⊎_elim, ℕ, ◌+◌, ◌<◌, ◌≤◌, List, length, get_or, take, refl, sym, ◌∙◌, ap}
+use Rattle.std.proofs.Common.{◌⊎◌, ⊎_elim, ℕ, ◌+◌, ◌<◌, ◌≤◌, List, length, get_or, take, sym, ◌∙◌, ap}
 use Rattle.oram_redo.specs.Batch.{patches_of}
 use Rattle.oram_redo.specs.Content.{Content, Agrees}
 use Rattle.oram_redo.specs.FilePair.{Contents, FileModel, Follows, LeavesOnly, TimeGoesOn, Torn, Wrote}
@@ -10,10 +10,7 @@ use Rattle.oram_redo.specs.declared.batch.Patch.{Patch}
 use Rattle.oram_redo.specs.declared.file_pair.FileKind.TheVariants.{Records}
 use Rattle.oram_redo.proofs.Batches.{put_all_more}
 use Rattle.oram_redo.proofs.Heal.{put_heals}
-use Rattle.oram_redo.proofs.Moments.{started, goes_on}
-
-pub smeared_not : (ps : List spec.Patch) (c : Contents) → Smeared ps c c
-smeared_not ps c = record { records = λ i spared. refl; log = λ i. refl }
+use Rattle.oram_redo.proofs.Moments.{goes_on}
 
 pub smeared_more : (ps : List spec.Patch) (old mid new : Contents) (at n : ℕ) → Smeared ps old mid → Torn Records at n mid new
     → ((i : ℕ) → Spares ps i → (i < at ⊎ at + n ≤ i)) → Smeared ps old new
@@ -23,18 +20,12 @@ smeared_more ps old mid new at n smeared torn outside = record {
 }
 
 module _ {D : Type 0} (model : FileModel D) (ps : List spec.Patch) where
-  pub smears_not : (old : D) → Follows (Smeared ps) (model.may_leave old) (model.may_leave old)
-  smears_not old c now = (c, now, smeared_not ps c)
-
   pub smears_more : (old mid new : D) (at n : ℕ) → Follows (Smeared ps) (model.may_leave old) (model.may_leave mid) → Follows (Torn Records at n) (model.may_leave mid) (model.may_leave new)
       → ((i : ℕ) → Spares ps i → (i < at ⊎ at + n ≤ i)) → Follows (Smeared ps) (model.may_leave old) (model.may_leave new)
   smears_more old mid new at n was torn outside c now =
       let before = torn c now in
       let first = was before.0 before.1 in
       (first.0, first.1, smeared_more ps first.0 before.0 c at n first.2 before.2 outside)
-
-  pub smears_start : (old : D) → ((c : Contents) → model.left_since old (model.moment old) c → model.may_leave old c) → LeavesOnly model old old (Smears ps (model.may_leave old))
-  smears_start old only_now = started model old (Smears ps (model.may_leave old)) (λ c left. smears_not old c (only_now c left))
 
   pub smears_on : (old mid new : D) → LeavesOnly model old mid (Smears ps (model.may_leave old))
       → TimeGoesOn model mid new → Follows (Smeared ps) (model.may_leave old) (model.may_leave new)

@@ -2,7 +2,7 @@
 ghost use Rattle.std.specs.Prelude.{◌≡◌, ◌⊎◌, ◌+◌, ℕ, [], ◌∷◌, ◌++◌, length, drop, IfOk, IsTrue, OnErr, OnOk, ◌↔◌};
 ghost use Rattle.std.proofs.Common.{inl, refl};
 ghost use Rattle.oram_redo.specs.Content.{Agrees, bytes_at, put};
-ghost use Rattle.oram_redo.specs.FilePair.{Contents, Same, Wrote};
+ghost use Rattle.oram_redo.specs.FilePair.{Same, Wrote};
 ghost use Rattle.oram_redo.specs.Memory.{HadLeft, IsCopy, IsOutside, MayLeave, byte_of, contents_of, only_held};
 
 use crate::{FileKind, FilePair, RedoError};

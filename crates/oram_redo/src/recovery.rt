@@ -1,7 +1,7 @@
 //! Reads a log that a crash may have left.
-ghost use Rattle.std.specs.Prelude.{◌≡◌, ◌⊎◌, ◌<◌, ◌≤◌, ◌+◌, List, None, Ok, Some, length, IfErr, IfNone, IfOk, IfSome, IsErrOf, OnOk};
-ghost use Rattle.oram_redo.specs.Content.{Agrees, Content};
-ghost use Rattle.oram_redo.specs.FilePair.{Contents, Follows, ComesAfter, HasFailed, LeavesOnly, WritesNothing};
+ghost use Rattle.std.specs.Prelude.{◌≡◌, ◌⊎◌, ◌<◌, ◌≤◌, ◌+◌, None, Ok, Some, length, IfErr, IfNone, IfOk, IfSome, IsErrOf, OnOk};
+ghost use Rattle.oram_redo.specs.Content.{Agrees};
+ghost use Rattle.oram_redo.specs.FilePair.{Follows, ComesAfter, HasFailed, LeavesOnly, WritesNothing};
 ghost use Rattle.oram_redo.specs.Log.{IsLog, Smeared, entries, put_all};
 ghost use Rattle.oram_redo.specs.Recovery.{IsDamagedAt, IsEndAt, IsEntryAt};
 ghost use Rattle.oram_redo.specs.Steps.{Smears};

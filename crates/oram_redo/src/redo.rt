@@ -3,10 +3,10 @@
 //! A batch goes into the log in two writes, each with a sync: everything but its first gate, and then that gate. So a
 //! crash leaves the whole batch behind an open gate, or a gate that is shut. Then the batch is written to its places,
 //! without a sync: whatever a crash does to them, replaying the log heals it.
-ghost use Rattle.std.specs.Prelude.{◌≡◌, ◌⊎◌, ◌<◌, ◌≤◌, ◌+◌, ◌^◌, ◌++◌, ◌∷◌, [], List, ℕ, All, length, IfNone, IfOk, IfSome, IfErr, IsErrOf, OnOk};
+ghost use Rattle.std.specs.Prelude.{◌≡◌, ◌⊎◌, ◌<◌, ◌≤◌, ◌+◌, ◌^◌, ◌++◌, ◌∷◌, [], All, length, IfNone, IfOk, IfSome, IfErr, IsErrOf, OnOk};
 ghost use Rattle.oram_redo.specs.Batch.{patches_of};
 ghost use Rattle.oram_redo.specs.Content.{Content, Agrees, bytes_at, put};
-ghost use Rattle.oram_redo.specs.FilePair.{ComesAfter, Contents, HasFailed, LeavesOnly, ReadOnto, Rises, Torn, WritesNothing};
+ghost use Rattle.oram_redo.specs.FilePair.{ComesAfter, HasFailed, LeavesOnly, ReadOnto, Rises, Torn, WritesNothing};
 ghost use Rattle.oram_redo.specs.Log.{AllOrNothing, Fits, Keeps, StandsAlike, StandsFor, entries, put_all};
 ghost use Rattle.oram_redo.specs.Redo.{IsCrashConsistent, IsRefused, bounds_of, end_of};
 

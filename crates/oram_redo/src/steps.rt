@@ -2,7 +2,7 @@
 ghost use Rattle.std.specs.Prelude.{◌≡◌, ◌⊎◌, ◌∷◌, [], length, IfErr, IfOk, IsErrOf, OnOk};
 ghost use Rattle.oram_redo.specs.Batch.{patches_of};
 ghost use Rattle.oram_redo.specs.Content.{Agrees, bytes_at};
-ghost use Rattle.oram_redo.specs.FilePair.{Contents, Follows, ComesAfter, HasCause, HasFailed, IsSure, LeavesOnly, ReadOnto, Torn, WritesNothing, Wrote};
+ghost use Rattle.oram_redo.specs.FilePair.{Follows, ComesAfter, HasCause, HasFailed, IsSure, LeavesOnly, ReadOnto, Torn, WritesNothing, Wrote};
 ghost use Rattle.oram_redo.specs.Log.{Smeared, put_all};
 ghost use Rattle.oram_redo.specs.Steps.{Smears, Tears};
 

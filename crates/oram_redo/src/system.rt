@@ -3,10 +3,9 @@
 //! No contract says what a file of the system returns. So each method notes its call and the result in a history that
 //! only contracts read, and that history defines what the files hold: `is_honest` says that each read has returned what
 //! was written. The prover can't check that a method really makes the call that it notes: for that, read the code here.
-ghost use Rattle.std.specs.Prelude.{◌≡◌, ◌⊎◌, ◌+◌, ◌∷◌, true, false, List, ℕ, length, take, IfErr, IfOk, OnOk, refl, if◌then◌else◌};
+ghost use Rattle.std.specs.Prelude.{◌≡◌, ◌⊎◌, ◌+◌, ◌∷◌, true, false, length, take, IfErr, IfOk, OnOk, refl};
 ghost use Rattle.std.proofs.Common.{inl};
 ghost use Rattle.oram_redo.specs.FilePair.{Contents};
-ghost use Rattle.oram_redo.specs.Note.{Call};
 ghost use Rattle.oram_redo.specs.System.{IsHonestHistory, LeftSince, MayLeaveAfter, only_after, seen_after};
 
 use crate::call_history::CallHistory;

@@ -32,11 +32,6 @@ use Rattle.oram_rounds.specs.Overlay.{IsOverlaid, LaysAllOver, holds_path}
 use Rattle.oram_rounds.specs.PathMessages.{IsPathFetch}
 use Rattle.oram_rounds.proofs.KeptPaths.{all_over, fetched_levels, fetched_so, has_path, leaf_small, refuses_fetch, serves_fetch, whole_over}
 
--- whether an answer has a path's bytes, as the core sees it
-payload_is : (v : Scheme) (tree leaf : ℕ) (bytes : List ℕ)
-    → is_payload v (record { fetch = true; tree = tree; leaf = leaf }) bytes ≡ holds_path v.device (record_len v) tree leaf bytes
-payload_is v tree leaf bytes = refl
-
 records_same : (v : Scheme) (i n : ℕ) (r q : ℕ → List ℕ) (host : Host) → KeepsTree v i r host → KeepsTree v i q host → n < node_count (depth_of v.device i) → r n ≡ q n
 records_same v i n r q host k j within =
     ap (λ (o : Option (List ℕ)). unwrap_or o [])

@@ -131,22 +131,6 @@ torn_here bytes count stores rest low is short fewer none others t counted e =
         short_end [] b back all = all
         short_end (x ∷ front) b back all = short_end front b back all.1
 
--- one more STORE was read
-pub read_more : (bytes count : List ℕ) (stores : List (List ℕ)) (store rest behind : List ℕ) → bytes ≡ count ++ (flat_map store_text stores ++ rest) → rest ≡ store_text store ++ behind
-    → bytes ≡ count ++ (flat_map store_text (stores ++ store ∷ []) ++ behind)
-read_more bytes count stores store rest behind before is =
-    before ∙ ap (λ (b : List ℕ). count ++ (flat_map store_text stores ++ b)) is
-    ∙ ap (λ (b : List ℕ). count ++ b) (sym (append_assoc (flat_map store_text stores) (store_text store) behind))
-    ∙ ap (λ (b : List ℕ). count ++ (b ++ behind)) (flat_end stores store)
-  where
-    flat_end : (front : List (List ℕ)) (b : List ℕ) → flat_map store_text front ++ store_text b ≡ flat_map store_text (front ++ b ∷ [])
-    flat_end [] b = sym (nil_right (store_text b))
-      where
-        nil_right : (xs : List ℕ) → xs ++ [] ≡ xs
-        nil_right [] = refl
-        nil_right (x ∷ xs) = ap (λ (ys : List ℕ). x ∷ ys) (nil_right xs)
-    flat_end (x ∷ front) b = append_assoc (store_text x) (flat_map store_text front) (store_text b) ∙ ap (λ (ys : List ℕ). store_text x ++ ys) (flat_end front b)
-
 pub short_more : (front : List (List ℕ)) (b : List ℕ) → AreShort front → length b < 2 ^ 64 → AreShort (front ++ b ∷ [])
 short_more [] b short low = (low, tt)
 short_more (x ∷ front) b short low = (short.0, short_more front b short.1 low)

@@ -24,6 +24,5 @@ pub mod FailedReplies
 pub mod NewProcess
 pub mod ReadingCore
 pub mod ReadingProcess
-pub mod RepliedProcess
 pub mod KeptText
 pub mod AllSubmitted

@@ -13,7 +13,6 @@ use Rattle.oram_semantics.specs.State.{State, status_by, status_in}
 use Rattle.oram_semantics.specs.declared.events.Command.{Command}
 use Rattle.oram_semantics.specs.declared.events.Event.TheVariants.{Submit}
 use Rattle.oram_semantics.specs.declared.events.Note.{Note}
-use Rattle.oram_semantics.specs.declared.events.Note.TheVariants.{Accepted}
 use Rattle.oram_semantics.specs.declared.events.Refusal.{Refusal}
 use Rattle.oram_semantics.specs.declared.events.Reason.{Reason}
 use Rattle.oram_semantics.specs.declared.events.Submission.{Submission}
@@ -53,20 +52,6 @@ record IsTakenIn (v : Scheme) (s : State) (c : Command) (d : Did) : Type 0 where
 taken_in : (v : Scheme) (s : State) (y : Submission) (refusal : Option Refusal) → IsTakenIn v s y.command (submitted_by v s y refusal)
 taken_in v s y (Some e) = record { replies = refl; failure = refl; queue = λ array. refl }
 taken_in v s y None = record { replies = refl; failure = refl; queue = λ array. after_one_more v.device s.queue y array }
-
--- a command that is accepted stands at the end of the queue
-pub queue_accepted : (v : Scheme) (s t : State) (a : SubmittedCommand) (ticket : ℕ) → a.shown.note ≡ Accepted ticket → Steps v s (Submit a.session a.command a.words) a.shown t
-    → (y : Submission) × (y.command ≡ a.command) × (t.queue ≡ s.queue ++ y ∷ [])
-queue_accepted v s t a ticket accepted step =
-    let y : Submission = record { session = a.session; ticket = s.next; command = a.command; words = a.words } in
-    let refusal = refusal_of v.device (is_over (status_in s)) (length s.queue) s.next a.command a.words in
-    let same : did a.shown t ≡ submitted_by v s y refusal = step.plain (submitted_by v s y refusal) refl in
-    by y refusal refl same
-  where
-    by : (y : Submission) (refusal : Option Refusal) → y.command ≡ a.command → did a.shown t ≡ submitted_by v s y refusal
-        → (z : Submission) × (z.command ≡ a.command) × (t.queue ≡ s.queue ++ z ∷ [])
-    by y (Some e) is same = absurd (let both = sym accepted ∙ ap (λ (d : Did). d.note) same in cc)
-    by y None is same = (y, is, ap (λ (d : Did). d.state.queue) same)
 
 module _ (may_lie : Bool) (v : Scheme) (device : IsDevice v.device) where
   -- what a core will hold once a command was submitted to it

@@ -30,9 +30,6 @@ module _ {B : Type 0} (batches : B → List (List ℕ) → BatchOutcome → List
   abbrev CallsWith : List ℕ → Round B → Outcome → Round B → Type 0
   CallsWith message l o m = IsCounted batches l message o m
 
-  pub talked_none : (p q : Side) → p ≡ q → HasTalked v batches p [] q
-  talked_none p q same = record { acts = []; talks = same; replied = refl }
-
   -- one after the other
   pub talked_more : (p q r : Side) (first second : List Reply) → HasTalked v batches p first q → HasTalked v batches q second r → HasTalked v batches p (first ++ second) r
   talked_more p q r first second one two = record {

@@ -79,9 +79,6 @@ module _ {L : Type 0} (calls : L → List ℕ → Outcome → L → Type 0) wher
       subst (λ (es : List Exchange). LinkRun calls l es n) (sym (answered_join xs as' ys bs count))
       (folds_join {P = L} {A = Exchange} Runs l m n (answered xs as') (answered ys bs) first second)
 
-  pub none_tried : (bodies : List (List ℕ)) (l m : L) → l ≡ m → HasTried bodies l m
-  none_tried bodies l m same = ([], same, tt)
-
 -- what holds, holds where there is a fault
 pub on_err : {T E : Type 0} {P : Type 0} (r : Result T E) → P → OnErr r P
 on_err (Ok x) p = tt

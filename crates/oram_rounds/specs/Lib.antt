@@ -12,4 +12,3 @@ pub mod AheadInTurn
 pub mod Start
 pub mod ProcessSteps
 pub mod ReadingExample
-pub mod ReplyExample

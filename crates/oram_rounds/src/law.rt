@@ -5,7 +5,6 @@ ghost use Rattle.oram_rounds.specs.ReadingExample.{ReadingProcessExample};
 ghost use Rattle.oram_rounds.specs.Examples.{NewProcessExample, OneWaitsExample};
 ghost use Rattle.oram_rounds.specs.Files.{FilesTellOfOneProcess};
 ghost use Rattle.oram_rounds.specs.Law.{AheadIsOfTheHost, CallsAreOfTheHostLater};
-ghost use Rattle.oram_rounds.specs.ReplyExample.{ReplyExample};
 ghost use Rattle.oram_rounds.specs.Process.{ActsAreSafe, BegunIsSafe, EndsAreSafe, RepliesAreTheArrays};
 
 use crate::batch::BatchLink;
@@ -110,10 +109,4 @@ pub fn new_process_example()
 /// begins.
 pub fn reading_process_example()
     ensures { ReadingProcessExample }
-{}
-
-/// A process in which a command gets its reply, over a server in memory, meets the premises of the laws about processes and
-/// about replies: it is safe, keeps itself, and its core hears that its last STORE is carried out, and replies.
-pub fn reply_example()
-    ensures { ReplyExample }
 {}

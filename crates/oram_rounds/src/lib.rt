@@ -37,7 +37,7 @@ pub use law::{
     acts_are_safe, ahead_is_not_sent, ahead_is_of_the_host, ahead_stays_in_turn, begun_is_safe,
     calls_are_of_the_host_later, ends_are_safe, files_tell_of_one_process, held_is_safe,
     new_process_example, nothing_ahead_is_in_turn, one_waits_example, reading_process_example,
-    replies_are_the_arrays, reply_example, submitted_is_safe, submitted_to_processes,
+    replies_are_the_arrays, submitted_is_safe, submitted_to_processes,
 };
 pub use one_by_one::OneByOne;
 pub use records::record_len;

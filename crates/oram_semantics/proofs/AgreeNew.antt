@@ -1,70 +1,22 @@
 -- Cores whose trees agree: one just formatted, and one at rest whose table and map blocks name the leaves that the
 -- trees have.
-use Rattle.std.proofs.Common.{◌≡◌, ℕ, suc, ◌+◌, ◌-◌, ◌*◌, ◌/◌, ◌%◌, ◌^◌, ◌<◌, ◌≤◌, Bool, if◌then◌else◌, List, [], ◌∷◌, length, replicate, slice_index, take, IsSome, Option, Some, None, refl, ap, sym, ◌∙◌, subst, arith, inl, inr}
-use Rattle.std.specs.List.{All}
+use Rattle.std.proofs.Common.{◌≡◌, ℕ, suc, ◌+◌, ◌-◌, ◌*◌, ◌/◌, ◌%◌, ◌^◌, ◌<◌, ◌≤◌, Bool, if◌then◌else◌, List, [], length, replicate, slice_index, take, refl, ap, sym, ◌∙◌, subst, arith, inl, inr}
 use Rattle.std.specs.Int.{w32, from_be_bytes}
 use Rattle.std.proofs.lemmas.List.{get_or-replicate, length-replicate, drop-replicate}
-use Rattle.std.proofs.lemmas.List.Elements.{All-contains}
 use Rattle.std.proofs.lemmas.Nat.{mod_below}
 use Rattle.std.proofs.lemmas.Bool.Decides.{eqb_tells}
-use Rattle.oram_geometry.specs.declared.Sizes.{Sizes}
 use Rattle.oram_geometry.specs.Sizes.{trees_of, depth_of, blocks_in, fanout}
-use Rattle.oram_bucket.specs.Cell.{Cell}
-use Rattle.oram_bucket.specs.Bucket.{IsBlockOf}
-use Rattle.oram_tree.specs.Content.{Map, Entry as Held, entry_of}
+use Rattle.oram_tree.specs.Content.{Map}
 use Rattle.oram_tree.specs.State.{State as Tree}
-use Rattle.oram_semantics.specs.Scheme.{Scheme}
 use Rattle.oram_semantics.specs.Progress.{Setting}
 use Rattle.oram_semantics.specs.Content.{content_of}
-use Rattle.oram_semantics.specs.Trees.{Stands}
-use Rattle.oram_semantics.specs.State.{State, map_entry_of}
+use Rattle.oram_semantics.specs.State.{map_entry_of}
 use Rattle.oram_semantics.specs.Blocks.{found_in, entry_in}
 use Rattle.oram_semantics.specs.Law.{new_state, world_of}
-use Rattle.oram_semantics.specs.Agree.{map_entry_for, IsNext, Agrees, IsOrderly}
-use Rattle.oram_semantics.specs.declared.events.Submission.{Submission}
+use Rattle.oram_semantics.specs.Agree.{map_entry_for, Agrees, IsOrderly}
 use Rattle.oram_semantics.proofs.Bounds.{IsFit}
 use Rattle.oram_semantics.proofs.Others.{all_none}
 use Rattle.oram_semantics.proofs.Formatting.{empty_content}
-
--- a block of a tree is one of the tree's blocks
-pub record IsEntryOf (d : Sizes) (i : ℕ) (e : Held) : Type 0 where
-  pub leaf_in : e.leaf < 2 ^ depth_of d i
-  pub whole : length e.content ≡ d.block_bytes
-
-entry_fits : (d : Sizes) (i : ℕ) (c : Cell) (e : Held) → IsBlockOf d i c → Some (entry_of c) ≡ Some e → IsEntryOf d i e
-entry_fits d i c e block same =
-    let is : entry_of c ≡ e = cc in
-    subst (IsEntryOf d i) is (record { leaf_in = block.leaf_in; whole = block.whole })
-
-held_fits : (v : Scheme) (i : ℕ) (tree : Tree) (records : ℕ → List ℕ) (content : Map) (a : ℕ) (e : Held)
-    → Stands v i tree records content → All (IsBlockOf v.device i) tree.stash → IsSome (content a) → content a ≡ Some e
-    → IsEntryOf v.device i e
-held_fits v i tree records content a e stands stash some is =
-    let same : tree.number ≡ i = stands.number in
-    elim (stands.stored.holds.held a some) [
-      | inl h ↦
-          let c : Cell = h.0 in
-          entry_fits v.device i c e (All-contains (IsBlockOf v.device i) tree.stash c stash h.2) (sym (stands.stored.holds.from_stash c h.2) ∙ ap content h.1 ∙ is)
-      | inr h ↦
-          let c : Cell = h.0 in
-          let n : ℕ = h.1 in
-          let block : IsBlockOf v.device tree.number c =
-          All-contains (IsBlockOf v.device tree.number) h.4.0 c h.4.1.spelled.bucket.blocks h.4.2 in
-          entry_fits v.device i c e (subst (λ (k : ℕ). IsBlockOf v.device k c) same block) (sym (stands.stored.holds.from_tree n c h.3 h.4) ∙ ap content h.2 ∙ is)
-    ]
-
--- what a tree that stands has for a block
-pub record IsFound (d : Sizes) (i : ℕ) (o : Option Held) : Type 0 where
-  pub sized : length (found_in d o) ≡ d.block_bytes
-  pub leaves : map_entry_of o ≤ 2 ^ depth_of d i
-
-found_by : (d : Sizes) (i : ℕ) (o : Option Held) → ((e : Held) → o ≡ Some e → IsEntryOf d i e) → IsFound d i o
-found_by d i None h = record { sized = length-replicate d.block_bytes 0; leaves = omega arith }
-found_by d i (Some e) h = let is = h e refl in record { sized = is.whole; leaves = omega (arith, is.leaf_in) }
-
-no_next : (v : Scheme) (s : State) (queue : List Submission) (i b : ℕ) → s.entry_number ≡ 0 → ¬ IsNext v s queue i b
-no_next v s [] i b z = λ n. n
-no_next v s (x ∷ rest) i b z = λ n. absurd (let more : 0 < s.entry_number = n.0.0 in omega arith)
 
 -- zeros name no leaf
 zeros_name : (n j : ℕ) → 4 * j + 4 ≤ n → entry_in (replicate n 0) j ≡ 0

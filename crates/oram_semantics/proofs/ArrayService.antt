@@ -111,10 +111,6 @@ module _ (v : Scheme) (s t : State) (w : World) (array : ℕ → List ℕ) (x : 
   stage_is : t.entry_number ≡ s.entry_number + 1
   stage_is = ap (λ (u : State). u.entry_number) mv.state
 
-  -- the bytes that the access finds
-  bytes_found : ℕ → List ℕ
-  bytes_found i = found_in v.device (w.content i (block_of v.device i x))
-
   kept_is : (i : ℕ) → i ≡ 0 → kept_of i (found_in v.device (w.content i (block_of v.device i x))) ≡ array (address_of x.command)
   kept_is zero e = ap (array_in v w) (own_block v.device x) ∙ holds_before (address_of x.command)
   kept_is (suc i) e = absurd (omega arith)

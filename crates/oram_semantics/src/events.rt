@@ -1,5 +1,5 @@
 //! The events that a core takes, its reactions, and the commands that wait in between.
-ghost use Rattle.std.specs.Prelude.{◌≡◌, [], ◌∷◌, IfOk};
+ghost use Rattle.std.specs.Prelude.{◌≡◌, [], IfOk};
 ghost use Rattle.oram_semantics.specs.Events.{address_of, refusal_number};
 
 use oram_bytes::{Bytes, Words};

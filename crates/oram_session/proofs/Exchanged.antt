@@ -3,7 +3,7 @@ use Rattle.std.proofs.Common.{◌≡◌, ℕ, ◌+◌, ◌≤◌, List, [], ◌�
 use Rattle.std.specs.List.{FoldsTo, All}
 use Rattle.std.proofs.lemmas.Fn.{FoldsTo-push}
 use Rattle.std.proofs.lemmas.List.Concat.{flat_map-append}
-use Rattle.std.proofs.lemmas.List.Elements.{All-push, All-nil}
+use Rattle.std.proofs.lemmas.List.Elements.{All-push}
 use Rattle.oram_semantics.specs.Progress.Status.{Waiting}
 use Rattle.oram_semantics.specs.Run.{Shown}
 use Rattle.oram_semantics.specs.Scheme.{Scheme}
@@ -35,9 +35,6 @@ module _ (v : Scheme) {L : Type 0} (calls : L → List ℕ → Outcome → L →
     pub link : FoldsTo (λ a o b. calls a message o b) l stalls m
     pub core : Runs v s (retried stalls) [] t
     pub same : t ≡ s
-
-  pub tried_new : (message : List ℕ) (s : State) (l : L) → Tried message s l 0 s l
-  tried_new message s l = record { stalls = []; each = All-nil (λ o. is_stall o ≡ true); count = refl; link = refl; core = (refl, refl); same = refl }
 
   pub tried_more : (message : List ℕ) (s : State) (l : L) (n : ℕ) (t u w : State) (m m' : L) (o : Outcome) (x y : Shown) →
       status_in s ≡ Waiting → Tried message s l n t m → calls m message o m' → is_stall o ≡ true → Steps v t (event_of o) x u → Steps v u Retry y w → Tried message s l (n + 1) w m'

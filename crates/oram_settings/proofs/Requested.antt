@@ -95,11 +95,3 @@ module _ (a : App) (same : a ≡ program) (words : List Text) where
         by_entered (Some (name, rows)) (sym (matches simple).1 ∙ entered_is _ name rows (sym named) (sym found))
         ∙ ap (λ (n : Bool). option_and_then (λ (x : Text). request_of name x n (first_of (codes "size") rows)) (first_of (codes "word") rows)) (sym said)
         ∙ ap₂ (λ (s : Option Text) (w : Option Text). option_and_then (λ (x : Text). request_of name x is_new s) w) (sym sized) (sym read)
-
-    no_rows : (s : Option (Text × List Row)) → None ≡ option_map (λ (p : Text × List Row). p.1) s → s ≡ None
-    no_rows None e = refl
-    no_rows (Some p) e = cc
-
-    -- if it entered none, they ask for nothing
-    pub request_none : None ≡ option_map (λ (p : Text × List Row). p.1) (subcommand_rows_of m) → request_in words ≡ None
-    request_none none = by_entered None (sym (matches simple).1 ∙ no_rows _ none)

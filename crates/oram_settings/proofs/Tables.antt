@@ -1,10 +1,10 @@
 -- What is found at a key of a table.
 use Rattle.std.proofs.Common.{◌≡◌, ◌∙◌, ◌⊎◌, ℕ, List, Option, Some, None, true, false, refl, is_some, Result, Ok, Err, codes, arith, sym, subst, inl, inr}
-use Rattle.std.specs.Prelude.{IsErrAnd, MatchOption}
+use Rattle.std.specs.Prelude.{MatchOption}
 use Rattle.toml.specs.Data.{Data, Members, get_member}
 use Rattle.oram_cli.specs.Tables.{Finds, HasText, IsAddress, IsName}
 use Rattle.oram_cli.specs.declared.input.InputFault.{InputFault}
-use Rattle.oram_cli.specs.declared.input.InputFault.TheVariants.{Bad, OutOfMemory}
+use Rattle.oram_cli.specs.declared.input.InputFault.TheVariants.{Bad}
 use Rattle.oram_settings.specs.Settings.{DiskValue, HasSealing, IsDisk, IsPlace, IsSocket, OrDefault, sealing_name}
 use Rattle.oram_settings.specs.declared.disk_file.Sealing.{Sealing}
 use Rattle.oram_settings.specs.declared.disk_file.Sealing.TheVariants.{Plain, ChaCha}
@@ -58,11 +58,6 @@ default_in (Some d) default P there = absurd cc
 -- and if it hasn't, the default counts
 pub default_or : {X : Type 0} (t : Members) (key : List ℕ) (default : X) (P : X → Type 0) → is_some (get_member key t) ≡ false → OrDefault t key default P default
 default_or t key default P there = default_in (get_member key t) default P there
-
--- if memory has run out, nothing is said of the table
-pub out_of_memory : {X Y : Type 0} (view : Y → X) (P : X → Type 0) (r : Result Y InputFault) → IsErrAnd r (λ e. e ≡ OutOfMemory) → Finds view P r
-out_of_memory view P (Ok y) is = absurd is
-out_of_memory view P (Err e) is = λ bad x h. cc
 
 -- no sealing has another name
 pub no_name : (name : List ℕ) → (name ≡ codes "plain" → ⊥) → (name ≡ codes "chacha" → ⊥) → (s : Sealing) → name ≡ sealing_name s → ⊥

@@ -6,7 +6,7 @@ use Rattle.std.proofs.lemmas.List.Elements.{All-contains, Contains-append_left, 
 use Rattle.oram_bucket.specs.declared.block.Block.{Block}
 use Rattle.oram_geometry.specs.Path.{MeetsAt}
 use Rattle.oram_geometry.proofs.Meet.{MeetsAt-nearer}
-use Rattle.oram_stash.specs.Eviction.{listed, all_listed, IsNearer, IsGreedy, IsTight}
+use Rattle.oram_stash.specs.Eviction.{listed, all_listed, IsNearer, IsGreedy}
 
 -- down to level c the lists are full, and no block of the rest or listed above level i has a path that meets below c
 pub record TightTo (deep slots x : ℕ) (lists : List (List Block)) (rest : List Block) (i c : ℕ) : Type 0 where
@@ -60,10 +60,6 @@ module _ (deep slots x : ℕ) (lists : List (List Block)) (rest : List Block) (g
       ]
     ];
   }
-
-  -- once i is past the level c itself, c is tight
-  pub IsTight-past : (i c : ℕ) → TightTo deep slots x lists rest i c → c < i → IsTight deep slots x lists rest c
-  IsTight-past i c tight past = record { in_tree = tight.in_tree; full = tight.full; apart = λ b k nearer. tight.apart b k (let e : c + 1 ≡ i = omega (arith, tight.near) in subst (λ n. IsNearer lists rest n b) e nearer) }
 
 -- what holds of a list holds of what it contains
 pub All-part : (P : Block → Type 0) (xs ys : List Block) → ((b : Block) → Contains ys b → Contains xs b) → All P xs → All P ys

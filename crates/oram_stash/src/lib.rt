@@ -6,7 +6,7 @@
 //! one outcome.
 #![tactic(auto)]
 
-ghost use Rattle.std.specs.Prelude.{◌≡◌, ◌≢◌, ℕ, ◌+◌, ◌<◌, ◌≤◌, ◌^◌, ◌↔◌, ◌⊎◌, ◌==◌, List, [], ◌∷◌, ◌++◌, length, map, All, Contains, IsSome, IsNone, IfOk, IfErr, OnOk, OnErr, IfSome, IfNone, MatchOption, IsPermutation, AllPairs, filter, not, is_some, option_copied, vec_capacity, if◌then◌else◌, Some, IsTrue};
+ghost use Rattle.std.specs.Prelude.{◌≡◌, ◌≢◌, ◌+◌, ◌<◌, ◌≤◌, ◌^◌, ◌↔◌, ◌⊎◌, ◌==◌, List, [], ◌∷◌, ◌++◌, length, map, All, Contains, IsSome, IsNone, IfOk, IfErr, OnOk, OnErr, IfSome, IfNone, IsPermutation, AllPairs, filter, not, is_some, option_copied, vec_capacity, Some, IsTrue};
 ghost use Rattle.std.specs.List.{list_any};
 ghost use Rattle.oram_geometry.specs.Sizes.{trees_of, depth_of};
 ghost use Rattle.oram_bucket.specs.Cell.{Cell, IsRising};

@@ -1,5 +1,5 @@
 //! Moves blocks to the lists of their levels.
-ghost use Rattle.std.specs.Prelude.{◌≡◌, ℕ, ◌+◌, ◌<◌, ◌≤◌, [], ◌++◌, length, map, All, IfOk, IfSome, count_by, vec_capacity, vec_len, slice_index_or, IsPermutation};
+ghost use Rattle.std.specs.Prelude.{◌≡◌, ℕ, ◌+◌, ◌<◌, ◌≤◌, [], ◌++◌, length, map, All, IfOk, IfSome, count_by, vec_capacity, vec_len, IsPermutation};
 ghost use Rattle.oram_stash.specs.Plan.{list_at, joined, is_level, stays, picked};
 
 use std::alloc::{AllocError, Global};

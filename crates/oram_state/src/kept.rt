@@ -1,6 +1,5 @@
 //! Reads the fields of a core that isn't at work: the device and the trees, or why the core failed.
 
-ghost use Rattle.std.specs.Prelude.{◌≡◌};
 ghost use Rattle.oram_state.specs.Parser.{Gives, many, next_block, next_device, next_failure, next_reason, next_tree, reason_in};
 
 use crate::fault::StateFault;

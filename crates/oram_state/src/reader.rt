@@ -1,6 +1,6 @@
 //! Reads a file.
 
-ghost use Rattle.std.specs.Prelude.{◌≡◌, ℕ, IfOk, Ok};
+ghost use Rattle.std.specs.Prelude.{ℕ, IfOk, Ok};
 ghost use Rattle.oram_core.specs.Parts.{Parts as PartsValue};
 ghost use Rattle.oram_state.specs.WellSized.{AreFieldsOf, IsFileOf};
 ghost use Rattle.oram_state.specs.Parser.{Gives, next_head, next_saved, saved_in, state_in};

@@ -1,10 +1,10 @@
 //! Writes a file.
 
-ghost use Rattle.std.specs.Prelude.{◌≡◌, ◌≢◌, ◌≤◌, ◌<◌, ◌^◌, ◌++◌, [], length, take, drop, All, IfOk, OnOk};
+ghost use Rattle.std.specs.Prelude.{◌≡◌, ◌≤◌, ◌<◌, ◌^◌, ◌++◌, length, take, drop, All, IfOk, OnOk};
 ghost use Rattle.std.specs.List.{flat_map};
 ghost use Rattle.oram_state.specs.declared.frame.TheConstants.{LENGTH_END};
 ghost use Rattle.oram_state.specs.StateBytes.{block_text, body, command_text, device_text, fields_text, head_text, long, pending_text, reason_text, rest_text, short, state_file, tree_text, work_fields, work_of};
-ghost use Rattle.oram_state.specs.WellSized.{CommandFits, FitsFields, HasCounts, IsLong, IsShort};
+ghost use Rattle.oram_state.specs.WellSized.{CommandFits, FitsFields, HasCounts, IsLong};
 
 use crate::frame::{FRAME_LEN, LENGTH_END, MAGIC, VERSION_END};
 use crate::mode::Mode;

@@ -4,7 +4,7 @@ use Rattle.std.specs.Prelude.{IfErr, IsErr, IsErrAnd, OnErr, OnOk}
 use Rattle.std.proofs.lemmas.Bool.{cases_Bool}
 use Rattle.oram_redo.specs.Content.{Agrees, Content}
 use Rattle.oram_redo.specs.FilePair.{Contents, FileModel, LeavesOnly}
-use Rattle.oram_redo.specs.Log.{AgreesBut, AllOrNothing, Keeps, Patch, SameFront, StandsFor, put_all}
+use Rattle.oram_redo.specs.Log.{AgreesBut, Keeps, Patch, SameFront, put_all}
 use Rattle.oram_redo.specs.Redo.{AreCrashConsistent, IsCrashConsistent, bounds_of}
 use Rattle.oram_redo.specs.declared.bounds.Bounds.{Bounds}
 use Rattle.oram_redo.specs.declared.file_pair.FileKind.TheVariants.{Records}
@@ -26,14 +26,6 @@ found_kept b loose before c is keeps =
       are = kept.stands.gives;
     }
 
-found_standing : (loose : List Patch) (before c : Contents) (x : Content) → SameFront bounds before c → StandsFor bounds loose x c → Finds before (λ r. AgreesBut loose r x) c
-found_standing loose before c x front stands = record {
-  front = front;
-  records = put_all stands.patches (c Records);
-  stands = record { patches = stands.patches; log = stands.log; gives = λ i spared. refl };
-  are = stands.gives;
-}
-
 pub found_more : (before c : Contents) (Q P : Content → Type 0) → ((r : Content) → Q r → P r) → Finds before Q c → Finds before P c
 found_more before c Q P leads found = record { front = found.front; records = found.records; stands = found.stands; are = leads found.records found.are }
 
@@ -44,16 +36,6 @@ found_from before mid c Q front found = record {
   stands = found.stands;
   are = found.are;
 }
-
--- with a batch and no loose patch
-pub found_whole : (b : Bounds) (before c : Contents) (batch : List Patch) → b ≡ bounds → AllOrNothing b [] before batch c
-    → Finds before (λ r. Agrees r (before Records) ⊎ Agrees r (put_all batch (before Records))) c
-found_whole b before c batch is whole =
-    let all = subst (λ (x : Bounds). AllOrNothing x [] before batch c) is whole in
-    ⊎_elim
-    (λ stands. found_more before c (λ r. AgreesBut [] r (before Records)) (λ r. Agrees r (before Records) ⊎ Agrees r (put_all batch (before Records))) (λ r agrees. inl (λ i. agrees i tt)) (found_standing [] before c (before Records) all.front stands))
-    (λ stands. found_more before c (λ r. AgreesBut [] r (put_all batch (before Records))) (λ r. Agrees r (before Records) ⊎ Agrees r (put_all batch (before Records))) (λ r agrees. inr (λ i. agrees i tt)) (found_standing [] before c (put_all batch (before Records)) all.front stands))
-    all.stands
 
 -- files that are crash consistent stay so if more places count as loose
 pub consistent_more : (redo : Redo) (loose : List Patch) (seen : Contents) (leave : Contents → Type 0) → AreCrashConsistent redo [] seen leave → AreCrashConsistent redo loose seen leave

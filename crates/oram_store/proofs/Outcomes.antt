@@ -1,5 +1,5 @@
 -- What a function owes where it ends early, because a call in it has failed.
-use Rattle.std.proofs.Common.{◌≡◌, ℕ, true, false, true≢false, inl, sym, ◌∙◌, subst, Result, Ok, Err}
+use Rattle.std.proofs.Common.{◌≡◌, true, false, true≢false, inl, sym, ◌∙◌, subst, Result, Ok, Err}
 use Rattle.std.specs.Prelude.{IfErr, IsErrAnd, OnErr}
 use Rattle.oram_redo.specs.FilePair.{ComesAfter, FileModel}
 use Rattle.oram_redo.proofs.Outcomes.{on_ok_holds}

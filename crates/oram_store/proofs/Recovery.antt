@@ -2,9 +2,9 @@
 use Rattle.std.proofs.Common.{◌≡◌, ◌⊎◌, inl, inr, ⊎_elim, ℕ, ◌≤◌, false, List, [], length, None, refl, sym, ◌∙◌, ap, subst, arith}
 use Rattle.std.specs.Prelude.{replicate}
 use Rattle.oram_redo.specs.Content.{Content, Agrees, Has, put}
-use Rattle.oram_redo.specs.FilePair.{ComesAfter, Contents, FileModel, HasFailed, Same, WritesNothing}
+use Rattle.oram_redo.specs.FilePair.{ComesAfter, Contents, FileModel, HasFailed, WritesNothing}
 use Rattle.oram_redo.specs.Log.{StandsAlike, StandsFor}
-use Rattle.oram_redo.specs.Redo.{IsCrashConsistent, bounds_of}
+use Rattle.oram_redo.specs.Redo.{bounds_of}
 use Rattle.oram_redo.specs.declared.faults.RedoError.{RedoError}
 use Rattle.oram_redo.specs.declared.faults.RedoError.TheVariants as error
 use Rattle.oram_redo.specs.declared.file_pair.FileKind.TheVariants.{Records}
@@ -64,17 +64,6 @@ module _ {F : Type 0} (model : FileModel F) where
   opens_on old mid new first nothing counts_now =
       then_leaves model old mid new (λ c. model.may_leave old c ⊎ StandsAlike bounds (model.seen old) c) (model.may_leave mid) first nothing.moments
       (λ c now. first.each c (counts_now (model.moment old) c first.later now))
-
-  pub opened_by : (redo : Redo) (trees : Trees) (old mid new : F) → StandsFor bounds [] (model.seen mid Records) (model.seen old) → Same (model.seen new) (model.seen mid)
-      → IsCrashConsistent model redo [] new → HasTrees trees (model.seen mid Records) → AreApart trees → IsOpened model redo trees old new
-  opened_by redo trees old mid new stands same consistent has apart =
-      let is : model.seen new Records ≡ model.seen mid Records = content_is (model.seen mid Records) (model.seen new Records) (same Records) in
-      record {
-        stands = subst (λ (c : Content). StandsFor bounds [] c (model.seen old)) (sym is) stands;
-        consistent = consistent;
-        trees_stand = subst (λ (c : Content). HasTrees trees c) (sym is) has;
-        apart = apart;
-      }
 
   -- the redo log can't be recovered
   pub not_recovered : (e : RedoError) (old new : F) → (e ≡ error.Memory) ⊎ (e ≡ error.Failed) ⊎ (e ≡ error.Damaged)

@@ -1,5 +1,5 @@
 -- What closing a store leaves.
-use Rattle.std.specs.Prelude.{ℕ, [], OnOk, Result}
+use Rattle.std.specs.Prelude.{[], OnOk, Result}
 use Rattle.oram_redo.specs.FilePair.{Contents, FileModel, LeavesOnly}
 use Rattle.oram_redo.specs.Log.{IsLog}
 use Rattle.oram_redo.specs.declared.file_pair.FileKind.TheVariants.{Log, Records as OfRecords}

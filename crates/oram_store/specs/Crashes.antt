@@ -1,5 +1,5 @@
 -- What a crash may leave of a store's records.
-use Rattle.std.specs.Prelude.{◌≡◌, ◌⊎◌, ℕ, Bool, Some, true, false, ⊤}
+use Rattle.std.specs.Prelude.{◌≡◌, ◌⊎◌, Bool, Some, true, false, ⊤}
 use Rattle.oram_redo.specs.Content.{Content}
 use Rattle.oram_redo.specs.FilePair.{FileModel, LeavesOnly}
 use Rattle.oram_wire.specs.declared.host_messages.HostAnswer.{HostAnswer}

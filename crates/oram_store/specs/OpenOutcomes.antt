@@ -1,5 +1,5 @@
 -- The outcomes of opening a pair of files.
-use Rattle.std.specs.Prelude.{◌≡◌, ◌⊎◌, ℕ, []}
+use Rattle.std.specs.Prelude.{◌≡◌, ◌⊎◌, []}
 use Rattle.oram_redo.specs.Content.{Content}
 use Rattle.oram_redo.specs.FilePair.{ComesAfter, Contents, FileModel, HasFailed, LeavesOnly}
 use Rattle.oram_redo.specs.Log.{StandsAlike, StandsFor}

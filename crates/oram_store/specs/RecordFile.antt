@@ -1,5 +1,5 @@
 -- A file of records with its redo log, between two calls.
-use Rattle.std.specs.Prelude.{◌≡◌, ◌⊎◌, ℕ, ◌^◌, Bool, true, false, List, [], IfErr, OnErr, OnOk, Result, ⊤}
+use Rattle.std.specs.Prelude.{◌≡◌, ◌⊎◌, ◌^◌, Bool, true, false, List, [], IfErr, OnErr, OnOk, Result, ⊤}
 use Rattle.oram_redo.specs.Content.{Agrees, Content}
 use Rattle.oram_redo.specs.FilePair.{ComesAfter, Contents, FileModel, HasFailed, LeavesOnly, Rises, WritesNothing}
 use Rattle.oram_redo.specs.Log.{AgreesBut, Patch, SameFront, StandsFor, put_all}

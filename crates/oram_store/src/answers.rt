@@ -1,7 +1,6 @@
 //! The answers of a store to the bodies of requests.
-ghost use Rattle.std.specs.Prelude.{◌≡◌, ◌≤◌, ◌∷◌, [], length, false, None, Some, IfErr, IfOk, IsSome, IsSomeAnd, MatchResult, OnErr, OnOk};
+ghost use Rattle.std.specs.Prelude.{◌≡◌, ◌≤◌, [], length, false, None, IfErr, IfOk, IsSome, MatchResult, OnErr, OnOk};
 ghost use Rattle.oram_host.specs.Refusals.{code_of};
-ghost use Rattle.oram_redo.specs.FilePair.{Contents};
 ghost use Rattle.oram_store.specs.Answers.{IsGranted, IsKeptAtOnce};
 ghost use Rattle.oram_store.specs.Crashes.{Serves};
 ghost use Rattle.oram_store.specs.KeptRecords.{IsSound};

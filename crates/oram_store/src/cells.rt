@@ -1,10 +1,9 @@
 //! Reads and writes the cells of trees, by node.
-ghost use Rattle.std.specs.Prelude.{◌≡◌, ◌+◌, ◌*◌, ◌^◌, ◌<◌, ◌≤◌, ◌↔◌, ◌∷◌, ℕ, Some, None, true, false, IsTrue, length, suc, IfErr, IfOk, IfSome, MatchOption, OnOk};
-ghost use Rattle.oram_host.specs.Path.{FitsAnswer, IsBehind, record_at};
+ghost use Rattle.std.specs.Prelude.{◌≡◌, ◌+◌, ◌*◌, ◌^◌, ◌<◌, ◌≤◌, ◌↔◌, ℕ, Some, None, true, false, IsTrue, length, IfOk, IfSome, MatchOption, OnOk};
+ghost use Rattle.oram_host.specs.Path.{FitsAnswer, IsBehind};
 ghost use Rattle.oram_layout.specs.Limits.{nodes_of};
-ghost use Rattle.oram_layout.specs.Records.{IsPathOf, LacksOn, record_in, records_in};
+ghost use Rattle.oram_layout.specs.Records.{IsPathOf, LacksOn, record_in};
 ghost use Rattle.oram_layout.specs.Trees.{Trees, cell_at, sizes_of, tree_at};
-ghost use Rattle.oram_redo.specs.FilePair.{Contents};
 ghost use Rattle.oram_redo.specs.declared.file_pair.FileKind.TheVariants.{Records};
 ghost use Rattle.oram_store.specs.Batches.{RecordOnto, records_of_tree};
 ghost use Rattle.oram_store.specs.KeptRecords.{IsSoundFile, LeavesRecords};

@@ -6,7 +6,7 @@ ghost use Rattle.oram_layout.specs.Header.{letters};
 ghost use Rattle.oram_layout.specs.Records.{AreKept, records_in};
 ghost use Rattle.oram_layout.specs.Trees.{Trees};
 ghost use Rattle.oram_redo.specs.Content.{Content, Has};
-ghost use Rattle.oram_redo.specs.FilePair.{ComesAfter, Contents, HasFailed, IsSure, Rises, WritesNothing};
+ghost use Rattle.oram_redo.specs.FilePair.{ComesAfter, HasFailed, IsSure, Rises, WritesNothing};
 ghost use Rattle.oram_redo.specs.Log.{IsLog, StandsFor};
 ghost use Rattle.oram_redo.specs.Redo.{IsCrashConsistent, bounds_of};
 ghost use Rattle.oram_redo.specs.declared.file_pair.FileKind.TheVariants.{Log, Records};

@@ -1,10 +1,10 @@
 //! The file of records with its redo log: what is read and written, and what stops it.
 //!
 //! Each call of the redo log is in a function of its own, because a proof carries along what is known about each call.
-ghost use Rattle.std.specs.Prelude.{◌≡◌, ◌⊎◌, ◌+◌, ◌<◌, ◌≤◌, ◌∷◌, [], ℕ, List, All, true, false, length, IfErr, IfOk, MatchResult, OnErr, OnOk};
+ghost use Rattle.std.specs.Prelude.{◌≡◌, ◌⊎◌, ◌+◌, ◌<◌, ◌≤◌, ◌∷◌, [], All, true, false, length, IfOk, MatchResult, OnErr, OnOk};
 ghost use Rattle.oram_redo.specs.Batch.{patches_of};
 ghost use Rattle.oram_redo.specs.Content.{Agrees, bytes_at, put};
-ghost use Rattle.oram_redo.specs.FilePair.{Contents, ReadOnto};
+ghost use Rattle.oram_redo.specs.FilePair.{ReadOnto};
 ghost use Rattle.oram_redo.specs.Log.{AgreesBut, Fits, entries, put_all};
 ghost use Rattle.oram_redo.specs.Redo.{bounds_of, end_of};
 ghost use Rattle.oram_store.specs.RecordFile.{Calls, Commits, IsSteady, MayHave, Passes, ReadsOnly, bounds};

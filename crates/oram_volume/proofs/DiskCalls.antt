@@ -1,15 +1,14 @@
 -- What a volume does as a disk of bytes, by what it does to arrays of blocks.
-use Rattle.std.proofs.Common.{◌≡◌, ℕ, ◌*◌, Bool, true, false, List, [], ◌∷◌, ◌++◌, IfSome, Option, None, Some, refl, sym, ap, ◌∙◌, subst, inl, inr, append_assoc}
+use Rattle.std.proofs.Common.{◌≡◌, ℕ, Bool, true, false, List, [], ◌∷◌, ◌++◌, IfSome, Option, None, Some, refl, sym, ap, ◌∙◌, subst, inl, inr, append_assoc}
 use Rattle.std.proofs.lemmas.Grind.{flat_map-append}
 use Rattle.std.specs.List.{FoldsTo, flat_map}
 use Rattle.oram_bucket.specs.Cipher.{Cipher}
 use Rattle.oram_geometry.specs.declared.Sizes.{Sizes}
 use Rattle.oram_core.specs.Core.{IsSameDevice}
-use Rattle.oram_session.specs.Honesty.{HasFailed}
 use Rattle.oram_link_laws.specs.Runs.{Exchange}
 use Rattle.oram_link_laws.proofs.Exchanged.{folds_join}
 use Rattle.oram_nbd.specs.Beside.{GoesOn, Arrays, HasArrays}
-use Rattle.oram_nbd.specs.Calls.{SavesAll, SavesPart, Stays}
+use Rattle.oram_nbd.specs.Calls.{SavesAll, SavesPart}
 use Rattle.oram_nbd.proofs.Beside.{one_call}
 use Rattle.oram_rounds.specs.Batches.{BatchOutcome}
 use Rattle.oram_rounds.specs.Process.Act.{Keeps}
@@ -53,15 +52,6 @@ module _ {B K : Type 0} (batches : B → List (List ℕ) → BatchOutcome → Li
       ]
     ],
   )
-
--- a volume with the same device has the same shape
-pub stays_by : {S B K T : Type 0} (old new : Volume S B K T) → IsSameDevice old.core new.core → (HasFailed old.core.state → HasFailed new.core.state)
-    → Stays (λ (d : Volume S B K T). d.core.device.block_bytes) (λ (d : Volume S B K T). d.core.device.block_bytes * d.core.device.blocks) (λ (d : Volume S B K T). HasFailed d.core.state) old new
-stays_by old new kept still = record {
-  same_block_len = ap (λ (d : Sizes). d.block_bytes) kept.0;
-  same_size = ap (λ (d : Sizes). d.block_bytes * d.blocks) kept.0;
-  still_failed = still;
-}
 
 -- what is saved has these bytes
 abbrev pub AreLaid : Sizes → Option (ℕ → List ℕ) → Option (List ℕ) → Type 0

@@ -24,10 +24,6 @@ blocks_within b first count n some fits =
     omega arith
 
 module _ (d : Sizes) where
-  -- what lies within the device lies within its bytes
-  pub within_bytes : (k : ℕ) (array : ℕ → List ℕ) (bytes : List ℕ) → IsLaidOut d array bytes → k ≤ d.block_bytes * d.blocks → k ≤ length bytes
-  within_bytes k array bytes laid within = subst (λ (n : ℕ). k ≤ n) (sym (length_laid d array bytes laid)) within
-
   -- the bytes of a range of blocks lie within those of the device
   bytes_within : (first n : ℕ) (array : ℕ → List ℕ) (bytes : List ℕ) → IsLaidOut d array bytes → first + n ≤ d.blocks → d.block_bytes * first + d.block_bytes * n ≤ length bytes
   bytes_within first n array bytes laid within =

@@ -2,7 +2,7 @@
 use Rattle.std.proofs.Common.{◌≡◌, ◌≢◌, ℕ, zero, suc, ◌+◌, ◌-◌, ◌*◌, ◌==◌, ◌<◌, ◌≤◌, if◌then◌else◌, Bool, true, false, List, ◌++◌, length, take, drop, replicate, refl, sym, ap, ◌∙◌, subst, arith, append_assoc, length-append, drop_at}
 use Rattle.std.proofs.lemmas.Bool.Decides.{nat_tests}
 use Rattle.std.proofs.lemmas.List.{take_at, drop-drop, length-replicate}
-use Rattle.std.proofs.Math.Nat.{lt_of_mul-lt-mul_left, mul-suc}
+use Rattle.std.proofs.Math.Nat.{mul-suc}
 use Rattle.oram_geometry.specs.declared.Sizes.{Sizes}
 use Rattle.oram_semantics.specs.ArrayReplies.{array_after}
 use Rattle.oram_semantics.specs.declared.events.Command.TheVariants.{Read, Write, Discard}
@@ -95,10 +95,6 @@ module _ (d : Sizes) (array : ℕ → List ℕ) (bytes : List ℕ) (k rest : ℕ
       by : (a : ℕ) → a < d.blocks → (b : Bool) → (a == k) ≡ b → length (after a) ≡ d.block_bytes
       by a low true e = let same : a ≡ k = grind (arith, nat_tests, e) in ap (λ (n : ℕ). length (after n)) same ∙ ap length here ∙ long
       by a low false e = ap length (elsewhere a (λ same. absurd (grind (arith, nat_tests, e, same)))) ∙ laid.long a low
-
--- a block that lies within the bytes is one of the device's
-pub block_within : (b n k : ℕ) → 0 < b → b * k + b ≤ b * n → k < n
-block_within b n k some fits = lt_of_mul-lt-mul_left b (omega arith)
 
 pub length_laid : (d : Sizes) (array : ℕ → List ℕ) (bytes : List ℕ) → IsLaidOut d array bytes → length bytes ≡ d.block_bytes * d.blocks
 length_laid d array bytes laid = ap length laid.all ∙ length_blocks d.block_bytes d.blocks array laid.long 0 d.blocks (omega arith)

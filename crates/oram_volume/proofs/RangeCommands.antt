@@ -100,10 +100,6 @@ rest_passed b ops i k op more is done =
     from_start [] = refl
     from_start (o ∷ l) = refl
 
--- nothing is left
-pub rest_none : (b : ℕ) (ops : List Operation) (i k : ℕ) → length ops ≤ i → rest_of b ops i k ≡ []
-rest_none b ops i k end = ap (λ (l : List Operation). rest_in b l k) (drop_all i ops end)
-
 pub rest_all : (b : ℕ) (ops : List Operation) → rest_of b ops 0 0 ≡ all_commands b ops
 rest_all b [] = refl
 rest_all b (op ∷ ops) = refl

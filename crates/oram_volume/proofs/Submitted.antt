@@ -1,5 +1,5 @@
 -- Commands that are submitted to a core at which none waits: which of them are accepted, and what that makes of an array.
-use Rattle.std.proofs.Common.{◌≡◌, ◌⊎◌, ℕ, suc, ◌+◌, ◌*◌, ◌<◌, ◌≤◌, ◌==◌, not, nat_le, Bool, true, false, if◌then◌else◌, List, [], ◌∷◌, ◌++◌, length, map, take, count_by, All, Option, Some, None, is_some, refl, sym, ap, ◌∙◌, subst, append_assoc, arith, inl, inr}
+use Rattle.std.proofs.Common.{◌≡◌, ◌⊎◌, ℕ, suc, ◌+◌, ◌*◌, ◌<◌, ◌≤◌, ◌==◌, not, nat_le, Bool, true, false, if◌then◌else◌, List, [], ◌∷◌, ◌++◌, length, map, take, count_by, All, Option, Some, None, refl, sym, ap, ◌∙◌, subst, append_assoc, arith, inl, inr}
 use Rattle.std.proofs.lemmas.Bool.Decides.{nat_tests}
 use Rattle.std.proofs.lemmas.List.{append-nil, length-map}
 use Rattle.std.proofs.lemmas.List.Elements.{All-head, All-tail}
@@ -22,18 +22,10 @@ use Rattle.oram_semantics.specs.declared.events.Refusal.TheVariants as refusal
 use Rattle.oram_semantics.specs.declared.events.Submission.{Submission}
 use Rattle.oram_core.specs.PlainSteps.{Done as Did, submitted_by}
 use Rattle.oram_core.specs.Steps.{Steps, did}
-use Rattle.oram_session.specs.Honesty.{HasFailed}
 use Rattle.oram_session.specs.CoreWork.{HasNoWork, has_no_work_in}
 use Rattle.oram_rounds.specs.Start.{AreSubmitted, SubmittedCommand, IsSubmitted, array_if, array_with}
 use Rattle.oram_volume.specs.CarriedOut.{after_commands}
 use Rattle.oram_volume.specs.RangeCommands.{FitsDevice}
-
--- in a failed core nothing waits
-pub failed_has_no_work : (s : State) → HasFailed s → HasNoWork s
-failed_has_no_work s failed = ap (λ (f : Option Reason). has_no_work_in (status_by f s.queue s.lost)) failed.1
-
-pub not_failed : (s : State) → is_some s.failure ≡ false → HasFailed s → ⊥
-not_failed s is failed = let yes : true ≡ false = sym (ap (λ (f : Option Reason). is_some f) failed.1) ∙ is in cc
 
 -- a command that fits the device is refused for its words, or for the core's state, or not at all
 abbrev rest_of : Sizes → Bool → ℕ → ℕ → List ℕ → Option Refusal

@@ -31,12 +31,6 @@ behind_head held part m is long =
           both ∙ ap (λ (k : ℕ). drop k held ++ drop (4 - k) part) m_is ∙ sym (drop-append-le 4 held part enough)
     ]
 
--- one frame more is cut off
-pub one_more : (bodies : List (List ℕ)) (body after rest total : List ℕ) → rest ≡ frame body ++ after → flat_map frame bodies ++ rest ≡ total → flat_map frame (bodies ++ body ∷ []) ++ after ≡ total
-one_more bodies body after rest total cut so_far =
-    ap (λ (xs : List ℕ). xs ++ after) (flat_map-append frame bodies (body ∷ []) ∙ ap (λ (xs : List ℕ). flat_map frame bodies ++ xs) (append-nil (frame body)))
-    ∙ append_assoc (flat_map frame bodies) (frame body) after ∙ ap (λ (xs : List ℕ). flat_map frame bodies ++ xs) (sym cut) ∙ so_far
-
 -- the bytes held and the part after them are the number at their front and the bytes after it
 pub number_across : (held part body : List ℕ) → IsBytes held → IsBytes part → 4 ≤ length held + length part → body ≡ drop 4 (held ++ part)
     → held ++ part ≡ to_be_bytes w32 (length_at (held ++ part)) ++ body

@@ -1,6 +1,6 @@
 //! The messages that go to the bucket host, and the host's answers.
 
-ghost use Rattle.std.specs.Prelude.{◌≡◌, ◌≢◌, ◌↔◌, ◌⊎◌, ◌<◌, ◌^◌, ◌∷◌, [], ◌++◌, IsTrue, true, false, ℕ, List, length, IfOk, IfErr, IsErrOf, IsOkAnd, MatchResult};
+ghost use Rattle.std.specs.Prelude.{◌≡◌, ◌≢◌, ◌↔◌, ◌⊎◌, ◌<◌, ◌∷◌, [], ◌++◌, IsTrue, false, ℕ, List, length, IfOk, IfErr, IsErrOf, IsOkAnd, MatchResult};
 ghost use Rattle.std.specs.Int.{w32, to_be_bytes};
 ghost use Rattle.oram_wire.specs.HostMessages.{answer_body, done_answer, fetch_body, request_body, shape_body, store_body};
 ghost use Rattle.oram_wire.specs.HostBodies.{request_of, names_request, names_answer, IsMisfit, IsOverlong, HasNoCode, HasNumbers, IsAnswer};

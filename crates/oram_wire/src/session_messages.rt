@@ -1,6 +1,6 @@
 //! The messages that a user sends to the daemon in a session, and the replies.
 
-ghost use Rattle.std.specs.Prelude.{◌≡◌, ◌≢◌, ◌↔◌, ◌<◌, ◌^◌, ◌∷◌, ◌++◌, false, ℕ, length, IfOk, IfErr, IsErrOf, MatchResult};
+ghost use Rattle.std.specs.Prelude.{◌≡◌, ◌≢◌, ◌↔◌, ◌<◌, ◌∷◌, ◌++◌, false, length, IfOk, IfErr, IsErrOf, MatchResult};
 ghost use Rattle.std.specs.Int.{w32, to_be_bytes};
 ghost use Rattle.oram_wire.specs.SessionMessages.{session_request_body, session_reply_body};
 ghost use Rattle.oram_wire.specs.SessionBodies.{names_session_request, names_session_reply, IsSessionMisfit, IsReplyMisfit, HasNoReplyCode, HasAddress, IsSessionReply};

@@ -1,6 +1,6 @@
 //! Sinks, which take the messages that format a host.
 
-ghost use Rattle.std.specs.Prelude.{◌≡◌, List, ℕ, [], ◌∷◌, ◌++◌, map, OnOk, OnErr, IfErr};
+ghost use Rattle.std.specs.Prelude.{◌≡◌, List, ℕ, [], ◌∷◌, ◌++◌, OnOk, OnErr, IfErr};
 ghost use Rattle.oram_wire.specs.ListOfBodies.{bodies_in};
 
 use std::alloc::{AllocError, Global};

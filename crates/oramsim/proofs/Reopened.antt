@@ -4,13 +4,10 @@ use Rattle.oram_semantics.specs.Run.{Shown}
 use Rattle.oram_semantics.specs.State.{status_in}
 use Rattle.oram_semantics.specs.declared.events.Event.TheVariants as event
 use Rattle.oramsim.specs.Script.{Obeys, Running, after_turn}
-use Rattle.oramsim.specs.Correspondence.{RunsOn, IsFaithful, IsWholeMachine, IsAtRun, StaysFaithful}
+use Rattle.oramsim.specs.Correspondence.{RunsOn, IsFaithful, IsAtRun, StaysFaithful}
 use Rattle.oramsim.specs.declared.line.Line.TheVariants.{Reopen}
 use Rattle.oramsim.specs.declared.machine.Machine.{Machine}
 use Rattle.oramsim.proofs.Faithful.{unheard}
-
-pub same_whole : (m n : Machine) → n ≡ m → IsWholeMachine m → IsWholeMachine n
-same_whole m n same w = rw same w
 
 pub same_stands : (r : Running) (m n : Machine) → n ≡ m → IsAtRun r m → IsAtRun r n
 same_stands r m n same f = rw same f

@@ -1,11 +1,9 @@
 //! Checks whether parts can be those of a core.
-ghost use Rattle.std.specs.Prelude.{◌≡◌, ◌↔◌, ◌+◌, ◌-◌, ◌*◌, ◌<◌, ◌≤◌, ◌^◌, ◌==◌, ℕ, if◌then◌else◌, List, [], Some, length, slice_index, All, IsTrue};
-ghost use Rattle.oram_geometry.specs.Sizes.{trees_of, depth_of, blocks_in, leaf_of};
+ghost use Rattle.std.specs.Prelude.{◌≡◌, ◌↔◌, ◌+◌, ◌-◌, ◌*◌, ◌<◌, ◌≤◌, ◌^◌, ◌==◌, Some, All, IsTrue};
+ghost use Rattle.oram_geometry.specs.Sizes.{trees_of, blocks_in};
 ghost use Rattle.oram_wire.specs.HostMessages.{fetch_body};
 ghost use Rattle.oram_semantics.specs.Agree.{IsAllowed};
-ghost use Rattle.oram_semantics.specs.Content.{entry_tree};
 ghost use Rattle.oram_semantics.specs.Nonces.{formatted, buckets_below, next_nonce};
-ghost use Rattle.oram_semantics.specs.State.{map_entry_now};
 ghost use Rattle.oram_core.specs.Core.{IsAtWork, IsReasonOf, IsResting, IsStoreOf, most_map_entry};
 ghost use Rattle.oram_core.specs.Validity.{AreWaiting, HasMessage, HasTable, HoldsNothing, IsEnded, IsFitting, IsWorking};
 ghost use Rattle.oram_core.specs.Parts.{state_of, submission_at};

@@ -1,4 +1,4 @@
-use Rattle.std.proofs.Common.{◌≡◌, ◌<◌, ◌==◌, ◌*◌, ◌-◌, ℕ, slice_index, ap, sym, ◌∙◌, arith}
+use Rattle.std.proofs.Common.{◌<◌, ◌==◌, ◌*◌, ◌-◌, ℕ, slice_index, ap, sym, ◌∙◌, arith}
 use Rattle.std.proofs.lemmas.Bool.{cond-true, cond-false}
 use borrow.Author.Tests.{eq-eqb, ne_eqb}
 use Rattle.oram_geometry.specs.Sizes.{leaf_of}

@@ -1,4 +1,4 @@
-use Rattle.std.proofs.Common.{rules, arith}
+use Rattle.std.proofs.Common.{rules}
 use Rattle.oram_geometry.specs.Sizes.{record_len_of}
 use Rattle.oram_geometry.proofs.Device.record_len.Goals as goal
 

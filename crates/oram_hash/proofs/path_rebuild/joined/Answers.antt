@@ -1,8 +1,8 @@
-use Rattle.std.proofs.Common.{◌≡◌, ◌≤◌, ◌<◌, ◌+◌, ◌++◌, ◌∷◌, [], ◌∙◌, ap, sym, subst, arith, ℕ, List, map, length, length-take-le, take, slice_index_or, Vec, Global, vec_len, All}
+use Rattle.std.proofs.Common.{◌≡◌, ◌≤◌, ◌<◌, ◌+◌, ◌++◌, ◌∷◌, [], ◌∙◌, ap, sym, arith, ℕ, List, map, length, length-take-le, take, slice_index_or, Vec, Global, vec_len}
 use Rattle.std.proofs.lemmas.List.{take_all, take_more, get_or-map, length-map}
 use Rattle.std.proofs.lemmas.List.Elements.{All-map, All-weaker}
 use Rattle.oram_hash.specs.Path.{Path, digests_at}
-use Rattle.oram_hash.specs.Rebuild.{IsJoined, joined_from}
+use Rattle.oram_hash.specs.Rebuild.{joined_from}
 use Rattle.oram_hash.proofs.Joins.{joined_more}
 use Rattle.oram_hash.proofs.path_rebuild.joined.Goals as goal
 

@@ -1,6 +1,5 @@
-use Rattle.std.proofs.Common.{◌≡◌, ◌≤◌, ◌<◌, ◌^◌, ◌++◌, ℕ, List, map, length, take, drop, ap, sym, ◌∙◌, subst, arith, Vec, Global}
+use Rattle.std.proofs.Common.{◌≡◌, ◌++◌, ℕ, List, map, length, take, drop, sym, subst, arith, Vec, Global}
 use Rattle.std.proofs.lemmas.List.{take_at}
-use Rattle.oram_hash.specs.Path.{Path, HasLength, with_bytes}
 use Rattle.oram_hash.specs.Rebuild.{IsJoined, IsRebuilt, StandsRebuilt}
 use Rattle.oram_hash.proofs.path_rebuild.rebuild.Goals as goal
 

@@ -1,4 +1,4 @@
-use Rattle.std.proofs.Common.{◌≡◌, ◌<◌, ◌≤◌, ◌↔◌, true, ltb, leb, refl, sym, subst, arith}
+use Rattle.std.proofs.Common.{◌<◌, ◌≤◌, ◌↔◌, true, ltb, leb, refl, sym, subst, arith}
 use Rattle.std.specs.Prelude.{IsTrue}
 use borrow.Author.Tests.{le-leb, leb-true, lt-ltb, ltb-true}
 use Rattle.oram_semantics.specs.declared.events.Reason.{Reason}

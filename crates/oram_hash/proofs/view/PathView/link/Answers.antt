@@ -1,4 +1,4 @@
-use Rattle.std.proofs.Common.{◌≡◌, ◌≤◌, ◌<◌, ◌-◌, ◌∙◌, ap, sym, subst, arith, ℕ, List, length}
+use Rattle.std.proofs.Common.{◌≡◌, ◌≤◌, ◌-◌, ◌∙◌, ap, sym, subst, arith, ℕ, List, length}
 use borrow.Rule.Slice.PartMut.{put_mid}
 use Rattle.oram_hash.specs.Path.{Path, HasLength}
 use Rattle.oram_hash.proofs.Links.{link_left, link_right}

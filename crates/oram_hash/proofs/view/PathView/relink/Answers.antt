@@ -1,9 +1,8 @@
-use Rattle.std.proofs.Common.{◌≡◌, ◌≤◌, ◌<◌, ◌-◌, ◌+◌, ◌*◌, ◌^◌, ◌∙◌, ap, sym, subst, arith, ℕ, List, length, refl, drop, length-take-le, length-drop}
+use Rattle.std.proofs.Common.{◌≡◌, ◌≤◌, ◌<◌, ◌-◌, ◌+◌, ◌*◌, ◌^◌, ◌∙◌, ap, subst, arith, ℕ, length}
 use Rattle.std.proofs.lemmas.List.{take_rest}
 use Rattle.sha2.specs.Sha256.{sha256}
 use Rattle.oram_hash.specs.Path.{Path, HasLength, with_bytes}
-use Rattle.oram_hash.specs.Rebuild.{IsJoined, IsRebuilt}
-use Rattle.oram_hash.proofs.Joins.{HasDigests, length-digests_at, joined_whole}
+use Rattle.oram_hash.proofs.Joins.{length-digests_at, joined_whole}
 use Rattle.oram_hash.proofs.Paths.{record_at-slice}
 use Rattle.oram_hash.proofs.Rebuilds.{place_within, length-record_at, rebuilt_stands}
 use Rattle.oram_hash.proofs.Links.{IsLinkedFrom, linked_leaf, linked_more, linked_whole}
