@@ -1,9 +1,10 @@
 //! Bucket servers in memory, and what they answer.
 
+use crate::page::Page;
 use crate::table::RowFault;
 use crate::words::RowWords;
 use oram_host::Server;
-use oram_wire::{Sink, SinkFault};
+use oram_wire::{HostAnswer, Sink, SinkFault};
 use std::alloc::Global;
 
 /// The code by which a host refuses a message because it has no room. A host in memory does so only if memory ran out.
@@ -21,6 +22,21 @@ impl From<SinkFault> for RowFault {
 /// Returns whether this is the answer of a host that has no room.
 pub fn lacks_room(answer: &[u8]) -> bool {
     answer == [0x81, NO_ROOM].as_slice()
+}
+
+/// Writes an answer of a host: `done`, `records BYTES` or `refused CODE`.
+pub fn show_answer(answer: &HostAnswer, page: &mut Page) {
+    match answer {
+        HostAnswer::Done => page.word("done"),
+        HostAnswer::Payload(bytes) => {
+            page.word("records");
+            page.bytes(bytes.as_slice());
+        }
+        HostAnswer::Refused(code) => {
+            page.word("refused");
+            page.number(*code);
+        }
+    }
 }
 
 /// Puts messages into a sink of any kind.

@@ -17,7 +17,9 @@ mod words;
 pub use devices::{device_in, shown_device_in};
 pub use fakes::{Pace, Source, Target, pace_in};
 pub use groups::Groups;
-pub use hosts::{NO_ROOM, flip_in, host_answer, host_of, lacks_room, put_all, swap_in};
+pub use hosts::{
+    NO_ROOM, flip_in, host_answer, host_of, lacks_room, put_all, show_answer, swap_in,
+};
 pub use page::Page;
 pub use table::{RowFault, Table, run_table};
 pub use words::RowWords;

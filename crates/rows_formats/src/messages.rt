@@ -4,7 +4,7 @@ use oram_bytes::Bytes;
 use oram_wire::{
     HostAnswer, HostRequest, HostView, ListSink, WireFault, fetch_header, store_header,
 };
-use rows::{Page, RowFault, RowWords, put_all};
+use rows::{Page, RowFault, RowWords, put_all, show_answer};
 use std::alloc::Global;
 
 /// Ends a row that reads a body and writes what was read. A fault is written instead, unless memory ran out.
@@ -123,7 +123,7 @@ fn read(alloc: Global, name: &str, body: &[u8], page: &mut Page) -> Result<(), W
     match name {
         "read" => write_view(page, view_of(&HostRequest::decode(alloc, body)?)),
         "view" => write_view(page, HostView::read(body)?),
-        _ => write_answer(page, &HostAnswer::decode(alloc, body)?),
+        _ => show_answer(&HostAnswer::decode(alloc, body)?, page),
     }
     Ok(())
 }
@@ -135,21 +135,6 @@ fn heads(words: &mut RowWords, page: &mut Page) -> Result<(), RowFault> {
     page.bytes(&fetch_header(tree, leaf));
     page.bytes(&store_header(tree, leaf));
     Ok(())
-}
-
-/// Writes an answer of the host.
-pub fn write_answer(page: &mut Page, answer: &HostAnswer) {
-    match answer {
-        HostAnswer::Done => page.word("done"),
-        HostAnswer::Payload(bytes) => {
-            page.word("records");
-            page.bytes(bytes.as_slice());
-        }
-        HostAnswer::Refused(code) => {
-            page.word("refused");
-            page.number(*code);
-        }
-    }
 }
 
 /// `host done`: writes the body of the answer `done`.

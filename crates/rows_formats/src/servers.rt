@@ -1,9 +1,8 @@
 //! Bucket hosts.
 
-use crate::messages::write_answer;
 use oram_host::Server;
 use oram_wire::{HostAnswer, Sink, SinkFault};
-use rows::{NO_ROOM, Page, RowFault, RowWords, flip_in, host_answer, swap_in};
+use rows::{NO_ROOM, Page, RowFault, RowWords, flip_in, host_answer, show_answer, swap_in};
 use std::alloc::Global;
 
 /// The host of the next rows, and the copy of it that was kept.
@@ -26,7 +25,7 @@ fn tell(
     match name {
         "asks" => match server.handle(&body) {
             HostAnswer::Refused(NO_ROOM) => return Err(RowFault::OutOfMemory),
-            answer => write_answer(page, &answer),
+            answer => show_answer(&answer, page),
         },
         "bytes" => page.bytes(&host_answer(alloc, server, &body)?),
         _ => match server.put(&body) {

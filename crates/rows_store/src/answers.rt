@@ -4,23 +4,15 @@ use oram_host::Server;
 use oram_redo::MemoryPair;
 use oram_store::FileStore;
 use oram_wire::HostAnswer;
-use rows::{NO_ROOM, Page, RowFault, lacks_room};
+use rows::{NO_ROOM, Page, RowFault, lacks_room, show_answer};
 use std::alloc::Global;
 
 /// Writes an answer. Here a host has no room only if memory ran out, so this fails then.
 pub fn write_answer(page: &mut Page, answer: &HostAnswer) -> Result<(), RowFault> {
-    match answer {
-        HostAnswer::Done => page.word("done"),
-        HostAnswer::Payload(bytes) => {
-            page.word("records");
-            page.bytes(bytes.as_slice());
-        }
-        HostAnswer::Refused(NO_ROOM) => return Err(RowFault::OutOfMemory),
-        HostAnswer::Refused(code) => {
-            page.word("refused");
-            page.number(*code);
-        }
+    if matches!(answer, HostAnswer::Refused(NO_ROOM)) {
+        return Err(RowFault::OutOfMemory);
     }
+    show_answer(answer, page);
     Ok(())
 }
 

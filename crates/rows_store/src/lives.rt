@@ -5,7 +5,7 @@ use crate::lent::FailingFiles;
 use oram_redo::MemoryPair;
 use oram_store::{FileStore, StoreFault};
 use oram_wire::HostAnswer;
-use rows::{NO_ROOM, Page, RowFault, RowWords};
+use rows::{NO_ROOM, Page, RowFault, RowWords, show_answer};
 use std::alloc::Global;
 
 /// The files that the next stores are opened over.
@@ -68,19 +68,10 @@ fn ask(
     body: &[u8],
     page: &mut Page,
 ) -> Result<(), RowFault> {
-    match store.handle(body) {
-        HostAnswer::Done => page.word("done"),
-        HostAnswer::Payload(bytes) => {
-            page.word("records");
-            page.bytes(bytes.as_slice());
-        }
-        HostAnswer::Refused(code) => {
-            page.word("refused");
-            page.number(code);
-            if code == NO_ROOM {
-                write_failure(store, page)?;
-            }
-        }
+    let answer = store.handle(body);
+    show_answer(&answer, page);
+    if matches!(answer, HostAnswer::Refused(NO_ROOM)) {
+        write_failure(store, page)?;
     }
     Ok(())
 }

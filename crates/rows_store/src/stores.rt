@@ -5,8 +5,8 @@ use crate::files::created;
 use oram_host::Server;
 use oram_redo::{FileKind, FilePair, MemoryPair};
 use oram_store::{FileStore, StoreFault};
-use oram_wire::{HostAnswer, Sink, SinkFault};
-use rows::{NO_ROOM, Page, RowFault, RowWords};
+use oram_wire::{Sink, SinkFault};
+use rows::{Page, RowFault, RowWords, show_answer};
 use std::alloc::Global;
 
 /// The store that the next rows ask, and the server that gets the same bodies.
@@ -64,10 +64,7 @@ fn tell(
     match name {
         "alone" => write_answer(page, &store.handle(&body))?,
         "full" => {
-            match store.handle(&body) {
-                HostAnswer::Refused(NO_ROOM) => page.word("refused 8"),
-                answer => write_answer(page, &answer)?,
-            }
+            show_answer(&store.handle(&body), page);
             write_failure(store, page);
         }
         _ => match store.put(&body) {
