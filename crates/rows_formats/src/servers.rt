@@ -14,7 +14,7 @@ pub struct Servers {
 
 /// `server asks BODY`: writes the answer to a body. `server bytes BODY`: writes the bytes of the answer. `server put BODY`:
 /// writes whether the host takes a body of a formatting.
-fn tell(
+fn answer_body(
     alloc: Global,
     server: &mut Server,
     name: &str,
@@ -48,7 +48,7 @@ fn answer_of(
     page: &mut Page,
 ) -> Result<(), RowFault> {
     match name {
-        "asks" | "bytes" | "put" => return tell(alloc, server, name, words, page),
+        "asks" | "bytes" | "put" => return answer_body(alloc, server, name, words, page),
         "flip" => page.flag(flip_in(server, words)),
         "swap" => page.flag(swap_in(server, words)),
         _ => return Err(RowFault::NoRow),
