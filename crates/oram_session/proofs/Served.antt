@@ -1,7 +1,7 @@
 -- A session up to some request.
-use Rattle.std.proofs.Common.{◌≡◌, ℕ, ◌+◌, List, [], Option, Ok, Err, refl, sym, ap, ◌∙◌, subst, inl}
+use Rattle.std.proofs.Common.{◌≡◌, ℕ, ◌+◌, List, [], Option, Err, refl, sym, ap, ◌∙◌, subst, inl}
 use Rattle.std.specs.Io.KnownBytes.{Appends, Consumes}
-use Rattle.oram_wire.specs.FrameIo.{GivesBrokenHead, GivesCutFrame, GivesEnd, GivesHead, GivesPart}
+use Rattle.oram_wire.specs.FrameIo.{GivesBrokenHead, GivesCutFrame, GivesHead, GivesPart}
 use Rattle.oram_wire.specs.FrameStream.{IsBody, frame}
 use Rattle.oram_wire.specs.declared.frame_io.FrameFault.{FrameFault}
 use Rattle.oram_wire.specs.declared.frame_io.FrameFault.TheVariants as frames
@@ -33,12 +33,7 @@ module _ (v : Scheme) {L : Type 0} (calls : L → List ℕ → Outcome → L →
       → HasServedSession v calls words session (record { before = p; things = k.all; part = part; more = more; after = z })
   served_then = answered_then {P = State × L} (IsTurn v calls words session) (λ x. x.body) reply_body
 
-  -- then no request was read
-
-  pub ends_well : (p : Answering (State × L)) (n : ℕ) (q z : Answering (State × L)) (k : Served p n q) → z.state ≡ q.state → Appends q.written z.written []
-      → GivesEnd q.unread z.unread → EndsSession v calls words session p z (Ok n)
-  ends_well p n q z k same quiet given = (k.all, k.count, served_then p n q z [] [] k same given.0 quiet, given.1)
-
+  -- then no request could be read
   pub ends_cut : (p : Answering (State × L)) (n : ℕ) (q z : Answering (State × L)) (k : Served p n q) → z.state ≡ q.state → Appends q.written z.written []
       → (f : FrameFault) → (f ≡ frames.Read → GivesPart q.unread z.unread) → (f ≡ frames.Frame → GivesBrokenHead q.unread z.unread)
       → (f ≡ frames.Truncated → GivesCutFrame q.unread z.unread) → (f ≡ frames.OutOfMemory → GivesHead q.unread z.unread)

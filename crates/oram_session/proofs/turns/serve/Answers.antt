@@ -9,7 +9,7 @@ use Rattle.oram_semantics.specs.Scheme.{Scheme}
 use Rattle.oram_core.specs.Core.{scheme_of}
 use Rattle.oram_session.specs.Sessions.{EndsSession, reply_frame}
 use Rattle.oram_session.specs.Turns.{IsTurn, IsStuck, IsCutTurn}
-use Rattle.oram_session.proofs.Served.{ends_cut, ends_well, same_pair, served_more, served_then, serving, under}
+use Rattle.oram_session.proofs.Served.{ends_cut, same_pair, served_more, served_then, serving, under}
 use Rattle.oram_session.proofs.CoreSteps.{same_scheme, same_trans}
 use Rattle.oram_session.proofs.turns.serve.Goals as goal
 
@@ -27,20 +27,14 @@ returns-in_err-body-clause-ends g c =
     (λ h. c.in_err-body.ensures.read (ap Err h)) (λ h. c.in_err-body.ensures.frame (ap Err h))
     (λ h. c.in_err-body.ensures.truncated (ap Err h)) (λ h. c.in_err-body.ensures.memory (ap Err h)))
 
-pub returns-in_none-body-clause-ends : goal.returns-in_none-body-clause-ends
-returns-in_none-body-clause-ends g c =
-    let v = scheme_of g.S.Sealer.cipher c.args.core.now in
-    let words = g.T.Tape.words c.args.tape.now in
-    let to = serving c.loop-served.core.state c.loop-served.link (g.R.Read.remaining c.next_frame.new.reader) (g.W.Write.contents c.loop-served.writer) in
-    ends_well v g.L.Link.calls words c.args.session _ _ _ to c.loop-served.invariant.so_far refl (Appends-nil _) (rw c.in-None.is at c.in_ok-body.ensures.ok)
-
 pub returns-clause-ends : goal.returns-clause-ends
 returns-clause-ends g c =
     let k = c.loop-served.invariant.so_far in
     let v = scheme_of g.S.Sealer.cipher c.args.core.now in
     let words = g.T.Tape.words c.args.tape.now in
-    let to = serving c.loop-served.core.state c.loop-served.link (g.R.Read.remaining c.loop-served.reader) (g.W.Write.contents c.loop-served.writer) in
-    (k.all, [], (λ h. absurd (omega arith)), served_then v g.L.Link.calls words c.args.session _ _ _ to [] [] k refl (Consumes-nil _) (Appends-nil _))
+    let from = serving c.args.core.now.state c.args.link.now (g.R.Read.remaining c.args.reader.now) (g.W.Write.contents c.args.writer.now) in
+    let here = serving c.loop-served.core.state c.loop-served.link (g.R.Read.remaining c.loop-served.reader) (g.W.Write.contents c.loop-served.writer) in
+    (k.all, [], (λ h. absurd (omega arith)), served_then v g.L.Link.calls words c.args.session from _ here here [] [] k refl (Consumes-nil _) (Appends-nil _))
 
 -- a request ends the session
 
