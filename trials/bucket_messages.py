@@ -1,0 +1,99 @@
+"""The messages to a bucket host, and a model of such a host."""
+
+import struct
+
+from trials.connections import LONGEST_BODY
+
+FETCH, STORE, PUT, SHAPE = 1, 2, 3, 4
+DONE = b"\x80"
+NO_SHAPE, BAD_LEAF, BAD_NODE, BAD_LENGTH, SHAPE_TAKEN, MISSING, BAD_OP, NO_ROOM = range(1, 9)
+LARGEST_DEPTH = 24
+
+
+def refused(code):
+    """The answer by which a host refuses a message."""
+    return bytes([0x81, code])
+
+
+def fetch(tree, leaf):
+    return struct.pack(">BBI", FETCH, tree, leaf)
+
+
+def store(tree, leaf, records):
+    return struct.pack(">BBI", STORE, tree, leaf) + b"".join(records)
+
+
+def put(tree, node, record):
+    return struct.pack(">BBI", PUT, tree, node) + record
+
+
+def shape(tree, depth, record_len):
+    return struct.pack(">BBBI", SHAPE, tree, depth, record_len)
+
+
+def is_a(kind, body):
+    """Whether a message is of this kind."""
+    return body[:1] == bytes([kind])
+
+
+def path(depth, leaf):
+    """The nodes from the root to a leaf."""
+    return [(1 << level) - 1 + (leaf >> (depth - level)) for level in range(depth + 1)]
+
+
+class Model:
+    """A bucket host, as its contract describes it."""
+
+    def __init__(self):
+        self.shapes, self.records = {}, {}
+
+    def answer(self, body):
+        """The answer to a message."""
+        if not body or not FETCH <= body[0] <= SHAPE:
+            return refused(BAD_OP)
+        if not (len(body) == 6 if body[0] == FETCH else len(body) == 7 if body[0] == SHAPE else len(body) >= 6):
+            return refused(BAD_LENGTH)
+        if body[0] == SHAPE:
+            return self.answer_shape(body[1], body[2], struct.unpack(">I", body[3:])[0])
+        tree, place, rest = body[1], struct.unpack(">I", body[2:6])[0], body[6:]
+        if tree not in self.shapes:
+            return refused(NO_SHAPE)
+        return [self.answer_fetch, self.answer_store, self.answer_put][body[0] - FETCH](tree, place, rest)
+
+    def answer_shape(self, tree, depth, record_len):
+        if depth > LARGEST_DEPTH or record_len == 0 or (depth + 1) * record_len + 6 > LONGEST_BODY:
+            return refused(BAD_LENGTH)
+        if tree in self.shapes:
+            return refused(SHAPE_TAKEN)
+        self.shapes[tree] = (depth, record_len)
+        return DONE
+
+    def answer_fetch(self, tree, leaf, _rest):
+        depth, _ = self.shapes[tree]
+        if leaf >= 1 << depth:
+            return refused(BAD_LEAF)
+        found = [self.records.get((tree, node)) for node in path(depth, leaf)]
+        return refused(MISSING) if None in found else DONE + b"".join(found)
+
+    def answer_store(self, tree, leaf, rest):
+        depth, record_len = self.shapes[tree]
+        if leaf >= 1 << depth:
+            return refused(BAD_LEAF)
+        if len(rest) != (depth + 1) * record_len:
+            return refused(BAD_LENGTH)
+        for level, node in enumerate(path(depth, leaf)):
+            self.records[tree, node] = rest[level * record_len : (level + 1) * record_len]
+        return DONE
+
+    def answer_put(self, tree, node, rest):
+        depth, record_len = self.shapes[tree]
+        if node >= (1 << (depth + 1)) - 1:
+            return refused(BAD_NODE)
+        if len(rest) != record_len:
+            return refused(BAD_LENGTH)
+        self.records[tree, node] = rest
+        return DONE
+
+    def all_fetches(self):
+        """A FETCH of each path of each tree."""
+        return [fetch(tree, leaf) for tree, (depth, _) in self.shapes.items() for leaf in range(1 << depth)]

@@ -1,0 +1,131 @@
+"""A disk, whose folder `oramdisk new` made, with its host."""
+
+import re
+import signal
+import subprocess
+
+from trials.bucket_host import Host
+from trials.connections import connect
+from trials.nbd_client import NbdClient
+from trials.ports import free_port
+from trials.processes import LONGEST_WAIT, end_of
+from trials.relay import Relay
+from trials.settings import put_values
+
+# The blocks of a disk have this number of bytes.
+BLOCK = 4096
+# The bytes of a disk that is made with --size 256kB: 63 blocks.
+SMALL = 63 * BLOCK
+
+
+class Disk:
+    """A disk with its host behind a relay; whoever uses it starts and stops both."""
+
+    def __init__(self, trial, name, size="256kB", **values):
+        self.trial, self.name = trial, name
+        self.folder = trial.folder / name
+        made = end_of(trial.start("new", name, "--size", size))
+        says = f"oramdisk: made {name} for a disk of ".encode()
+        trial.check(f"{name}: new", (made.status, made.out) == (0, b"") and made.err.startswith(says), made)
+        self.host = Host(trial.oramdisk, self.folder)
+        self.relay = Relay()
+        self.set(host=self.host_address(), **values)
+        self.process = None
+        self.state_file, self.settings_file = self.folder / "disk.state", self.folder / "disk.toml"
+
+    def set(self, **values):
+        """Puts values into disk.toml."""
+        put_values(self.folder / "disk.toml", values)
+
+    def host_address(self):
+        """The address by which it reaches its host: that of the relay."""
+        return f"127.0.0.1:{self.relay.port}"
+
+    def start_host(self):
+        self.host.start()
+        self.relay.lead_to(self.host.process, self.host.port)
+
+    def start(self, command):
+        """Starts a command of oramdisk for this disk."""
+        return self.trial.start(command, f"{self.name}/disk.toml")
+
+    def format(self):
+        return self.start("format")
+
+    def formatted(self):
+        """Starts the host and formats the disk, which reports its progress. Returns the disk."""
+        self.start_host()
+        end = end_of(self.format())
+        self.trial.check(f"{self.name}: format", (end.status, end.out) == (0, b""), end)
+        lines = end.err.decode().splitlines()
+        begun = re.compile(rf"oramdisk: formatting: about \S+ \S+ go to the host at 127\.0\.0\.1:{self.relay.port}, which stores all of it")
+        form = re.compile(r"oramdisk: formatting: \d+ % \(\d+ of \d+ messages\)(, \d+ s left)?")
+        holds = lines and begun.fullmatch(lines[0]) and all(map(form.fullmatch, lines[1:])) and " 100 % " in lines[-1]
+        self.trial.check(f"{self.name}: its progress", holds, lines)
+        return self
+
+    def serve(self, under=(), socket_name=None):
+        """Serves it at a new port or at a Unix socket in its folder, and under a program that watches the process if one is named."""
+        self.port, self.socket = None, socket_name and self.folder / socket_name
+        if socket_name is None:
+            self.port = free_port()
+        self.set(listen=f"unix:{socket_name}" if socket_name else f"127.0.0.1:{self.port}")
+        self.log = open(self.folder / "serve.log", "ab")
+        words = [*under, self.trial.oramdisk, "serve", "disk.toml"]
+        how = {"stdin": subprocess.DEVNULL, "stdout": subprocess.DEVNULL, "stderr": self.log}
+        self.process = subprocess.Popen(words, cwd=self.folder, **how)
+        return self
+
+    def stop(self, how=signal.SIGTERM):
+        """Ends the process that serves it by a signal."""
+        self.process.send_signal(how)
+        self.wait()
+
+    def wait(self):
+        """Waits until the process that serves it has ended, and returns its status."""
+        status = self.process.wait(LONGEST_WAIT)
+        self.log.close()
+        return status
+
+    def end(self, client):
+        """Ends a connection to it, the process that serves it, and its host."""
+        client.close()
+        self.stop()
+        self.host.stop()
+
+    def lines(self):
+        """The lines that the processes that served it have printed."""
+        return (self.folder / "serve.log").read_text().splitlines()
+
+    def connect(self):
+        """A connection to it, before its handshake."""
+        stream = connect(self.socket or self.port, self.process)
+        return stream and NbdClient(stream)
+
+    def client(self):
+        """A connection to it, behind its handshake."""
+        nbd = self.connect()
+        if nbd is None or not nbd.greet() or nbd.choose() is None:
+            return None
+        return nbd
+
+    def status(self):
+        """What `status` prints, by the words before the colons."""
+        end = end_of(self.start("status"))
+        self.trial.check(f"{self.name}: status", (end.status, end.err) == (0, b""), end)
+        return dict(line.split(": ", 1) for line in end.out.decode().splitlines())
+
+    def address(self):
+        """The address by which programs of others reach it."""
+        return f"nbd+unix:///disk?socket={self.socket}" if self.socket else f"nbd://127.0.0.1:{self.port}"
+
+    def host_files(self):
+        """The bytes of the files in which its host keeps its buckets."""
+        return {file: file.read_bytes() for file in self.folder.glob(f"{self.host.file}*")}
+
+    def put_host_files(self, before):
+        """Puts other files in place of those in which its host keeps its buckets."""
+        for file in self.host_files():
+            file.unlink()
+        for file, whole in before.items():
+            file.write_bytes(whole)

@@ -1,0 +1,116 @@
+"""What is done with a disk whose files are read."""
+
+import os
+import time
+from pathlib import Path
+
+from trials.formats.checks import Reading
+from trials.formats.ciphers import Tape, derived
+from trials.formats.host_files import read_buckets
+from trials.formats.processes import LONGEST_STEP, READ, WRITE, DiskFolder, ask_host, fetch_of
+from trials.formats.reader import Misread
+from trials.formats.sizes import node_of
+from trials.formats.state_file import AT_WORK, WRITE_BLOCK
+
+EXPORT_FLAGS = 0x6D
+
+
+class Life:
+    """What is done with a disk, and what follows from it."""
+
+    def __init__(self, tally, name, disk, sizes):
+        self.tally, self.name, self.disk, self.sizes = tally, name, disk, sizes
+        self.contents, self.accepted = {}, 0
+        self.last = [{} for _ in sizes.trees()]
+        # What the blocks were, and their last commands, after each command.
+        self.past = [self.moment()]
+
+    def check(self, what, holds, seen=""):
+        self.tally.check(f"{self.name}: {what}", holds, seen)
+
+    def moment(self):
+        return dict(self.contents), [dict(last) for last in self.last]
+
+    def accept(self, address):
+        """A command to a block is also one to the map blocks above it."""
+        for last in self.last:
+            last[address] = self.accepted
+            address //= self.sizes.entries()
+        self.accepted += 1
+        self.past.append(self.moment())
+
+    def write(self, client, address):
+        data = os.urandom(self.sizes.block_bytes)
+        error, _ = client.ask(WRITE, address * len(data), len(data), data)
+        self.check(f"a write of block {address}", error == 0, error)
+        self.contents[address] = data
+        self.accept(address)
+
+    def read(self, client, address):
+        length = self.sizes.block_bytes
+        reply = client.ask(READ, address * length, length)
+        self.check(f"a read of block {address}", reply == (0, self.contents.get(address, bytes(length))))
+        self.accept(address)
+
+    def look(self, when):
+        """The disk's files are as they have to be. The commands of the last round still wait in them, since the next process carries these
+        out first."""
+        contents, last = self.past[self.accepted - len(self.disk.state().waiting)]
+        Reading(self.tally, f"{self.name}, {when}", self.disk, contents, last).run(self.accepted)
+
+    def fetch(self):
+        """The host answers a FETCH with the records that its file has."""
+        buckets, stream = read_buckets(self.disk.folder / "buckets"), self.disk.host_stream()
+        for tree, depth in enumerate(self.sizes.depths()):
+            leaf = 2**depth - 1
+            path = b"".join(buckets.record(tree, node_of(depth, leaf, level)) for level in range(depth + 1))
+            self.check(f"a path of tree {tree}", ask_host(stream, fetch_of(tree, leaf)) == b"\x80" + path)
+        stream.close()
+
+    def interrupt(self, client):
+        """Without its host a command stays at work: the state has it, and the FETCH of the leaf that the tape says."""
+        self.disk.end("host")
+        data, address, tree = os.urandom(self.sizes.block_bytes), next(iter(self.contents)), len(self.sizes.trees()) - 1
+        client.send(WRITE, address * len(data), len(data), data)
+        state, begun = self.disk.state(), time.monotonic()
+        while state.accepted == self.accepted and time.monotonic() < begun + LONGEST_STEP:
+            time.sleep(0.02)
+            state = self.disk.state()
+        self.disk.end("serve")
+        state = self.disk.state()
+        tape = Tape(derived(self.disk.key(), b"vidlaqe tape key", state.salt), tree + 1)
+        words, block = tape.words(self.accepted), address // self.sizes.entries() ** tree
+        waits = [(command.kind, command.address, command.data, command.words) for command in state.waiting]
+        is_at_work = state.mode in AT_WORK and waits == [(WRITE_BLOCK, address, data, words)]
+        self.check("the command at work", is_at_work, (state.mode, len(waits)))
+        leaf = tape.words(self.last[tree][block])[tree][1] % 2 ** self.sizes.depths()[tree]
+        first = (state.outstanding, state.message)
+        self.check("its first message", first == (0, fetch_of(tree, leaf)), first)
+
+
+def try_disk(tally, folder, program, name, sizes, values):
+    """A disk of these sizes, by these values of its settings: read once it is formatted, once it was used, and with a command at work."""
+    disk = DiskFolder(Path(folder) / name, program, sizes, values)
+    try:
+        life = Life(tally, name, disk, sizes)
+        disk.host("--new")
+        disk.format()
+        life.look("formatted")
+        for turn in range(2):
+            client = disk.serve()
+            export = (client.size, client.flags)
+            tally.check(f"{name}: its size", export == (sizes.blocks * sizes.block_bytes, EXPORT_FLAGS), export)
+            for address in (0, sizes.blocks - 1, sizes.blocks // 2, 1, 0):
+                life.write(client, (address + turn) % sizes.blocks)
+            for address in (0, 3, sizes.blocks - 1):
+                life.read(client, address)
+            disk.end()
+            life.look(f"used {turn + 1} times")
+            disk.host()
+        life.fetch()
+        life.interrupt(disk.serve())
+    except Misread as why:
+        tally.check(f"{name}: it is read", False, why)
+    finally:
+        disk.end()
+        disk.log.close()

@@ -1,0 +1,108 @@
+"""The file of a disk's state."""
+
+from dataclasses import dataclass, field
+
+from trials.formats.ciphers import siphash
+from trials.formats.reader import Misread, Reader
+from trials.formats.sizes import Sizes
+
+# The kind of a command that writes.
+WRITE_BLOCK = 0x12
+# A state that has failed keeps no trees, and one that is at work has the commands that wait.
+FAILED, AT_WORK = 1, (2, 3)
+
+
+@dataclass
+class Command:
+    """A command that waits."""
+
+    kind: int
+    address: int
+    data: bytes
+    words: list
+
+
+@dataclass
+class Store:
+    """A STORE that the host may not have yet."""
+
+    tree: int
+    leaf: int
+    records: bytes
+
+
+@dataclass
+class State:
+    """What the file says."""
+
+    salt: bytes
+    check: bytes
+    sizes: Sizes
+    lifetime: int
+    mode: int
+    accepted: int
+    nonce: int
+    table: list = field(default_factory=list)
+    roots: list = field(default_factory=list)
+    stashes: list = field(default_factory=list)
+    stores: list = field(default_factory=list)
+    waiting: list = field(default_factory=list)
+    outstanding: int = -1
+    message: bytes = b""
+
+
+def read_state(data):
+    """The state that a file keeps."""
+    head = Reader(data)
+    head.expect(b"VIDLAQE4", "a kept file begins so")
+    salt, check, sealer = head.take(32), head.take(32), head.number(1)
+    if siphash(data[head.at : -8]) != int.from_bytes(data[-8:], "big"):
+        raise Misread("the checksum")
+    stores = [read_store(head.take(head.number(8))) for _ in range(head.number(8))]
+    reader = Reader(data[head.at : -8])
+    numbers = [reader.number(4) for _ in range(4)]
+    sizes = Sizes(*numbers, is_sealed=sealer == 1)
+    lifetime, overhead = reader.number(8), reader.number(4)
+    if overhead != sizes.overhead():
+        raise Misread("the bytes that the sealer adds")
+    mode = reader.number(1)
+    state = State(salt, check, sizes, lifetime, mode, reader.number(8), reader.number(8), stores=stores)
+    if mode != FAILED:
+        read_trees(reader, state)
+    if mode in AT_WORK:
+        read_work(reader, state)
+    if mode != FAILED and not reader.is_at_end():
+        raise Misread("there is more behind the state")
+    return state
+
+
+def read_store(body):
+    """A STORE of a path."""
+    reader = Reader(body)
+    reader.expect(b"\2", "a STORE begins so")
+    return Store(reader.number(1), reader.number(4), body[reader.at :])
+
+
+def read_trees(reader, state):
+    """The table, and the root digest and the stash of each tree."""
+    sizes = state.sizes
+    state.table = [reader.number(4) for _ in range(sizes.trees()[-1])]
+    for _ in sizes.trees():
+        state.roots.append(reader.take(32))
+        blocks = [(reader.number(4), reader.number(4), reader.take(sizes.block_bytes)) for _ in range(reader.number(4))]
+        state.stashes.append(blocks)
+
+
+def read_work(reader, state):
+    """The commands that wait, and where the first of them is."""
+    sizes, trees = state.sizes, len(state.sizes.trees())
+    for _ in range(reader.number(4)):
+        _session, kind, address = reader.number(4), reader.number(1), reader.number(4)
+        data = reader.take(sizes.block_bytes) if kind == WRITE_BLOCK else b""
+        words = [(reader.number(8), reader.number(8)) for _ in range(trees)]
+        state.waiting.append(Command(kind, address, data, words))
+    state.outstanding = reader.number(4)
+    reader.number(4)
+    if state.outstanding == 2 * trees - 1:
+        reader.take(sizes.block_bytes)
+    state.message = reader.take(reader.number(4))

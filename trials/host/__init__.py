@@ -1,0 +1,1 @@
+"""The trials of `./trial_disk`: `oramdisk host`."""

@@ -1,0 +1,147 @@
+"""Files that a host refuses and leaves as they are, and those that it makes and moves."""
+
+import shutil
+import sqlite3
+
+from trials.bucket_file import BucketFile, log_of
+from trials.bucket_host import Host, check_answers
+from trials.bucket_messages import DONE, SHAPE_TAKEN, Model, refused, shape, store
+from trials.host.kills import format_tree
+from trials.ports import free_port
+from trials.settings import toml_of
+from trials.statuses import DAMAGED, EXISTS, NO_BUCKETS, NO_FILE, OTHER_VERSION, WRONG_LOG
+
+NO_HOST = "is damaged, and is left as it is: name another file, and format anew"
+A_SHAPE = shape(0, 1, 8)
+
+
+def write_settings(folder, file, listen=None):
+    """Writes host.toml into a folder, with a new port unless an address is given. Returns the new port."""
+    port = None if listen else free_port()
+    (folder / "host.toml").write_text(toml_of({"listen": listen or f"127.0.0.1:{port}", "file": file}))
+    return port
+
+
+def check_refused(trial, what, file, process, status, line):
+    """The program ends so, and the file has the bytes that it had."""
+    before = file.read_bytes()
+    trial.ends(what, process, status, line)
+    trial.check(f"{what}: the file is as it was", file.read_bytes() == before)
+
+
+def used_host(trial, folder):
+    """A host that has ended, whose file `whole` has some records. Returns it with its model."""
+    host, model = Host(trial.oramdisk, folder, "whole").start(), Model()
+    format_tree(trial, host, model, 3, 400)
+    client = host.client()
+    check_answers(trial, "STOREs", client, model, [store(0, leaf, [trial.dice.randbytes(400)] * 4) for leaf in range(8)])
+    client.close()
+    host.stop()
+    return host, model
+
+
+def try_other_files(trial, folder):
+    """Files that are no host's, or not whole, are refused and left as they are."""
+    text, older, newer, damaged, twice = make_other_files(trial, folder)
+    no_file = f"oramdisk: {text.name} isn't a file of buckets, and is left as it is: name another file"
+    sqlite = "a SQLite file, which an older version may have written, and is left as it is: serve it with that version, or name another file, and format anew"
+    for file, status, line in (
+        (text, NO_BUCKETS, no_file),
+        (older, OTHER_VERSION, f"oramdisk: {older.name} is {sqlite}"),
+        (newer, OTHER_VERSION, "oramdisk: newer is a file of buckets of a newer version, and is left as it is: serve it with that version"),
+        (damaged, DAMAGED, f"oramdisk: damaged {NO_HOST}"),
+        (twice, DAMAGED, f"oramdisk: twice {NO_HOST}"),
+    ):
+        write_settings(folder, file.name)
+        check_refused(trial, f"a file of others, {file.name}", file, trial.start("host", "host.toml", folder=folder), status, line)
+
+
+def make_other_files(trial, folder):
+    """Random bytes, a SQLite file, a file of a newer version, one whose first tree is damaged, and one that has a tree twice."""
+    text, older = folder / "text", folder / "older.sqlite"
+    text.write_bytes(trial.dice.randbytes(5000))
+    with sqlite3.connect(older) as base:
+        base.execute("CREATE TABLE shape (tree INTEGER PRIMARY KEY, depth INTEGER, record_len INTEGER)")
+    base.close()
+    host, _ = used_host(trial, folder)
+    BucketFile(host.path()).replay()
+    whole = host.path().read_bytes()
+    newer, damaged, twice = (folder / name for name in ("newer", "damaged", "twice"))
+    newer.write_bytes(whole[:8] + b"\2" + whole[9:])
+    damaged.write_bytes(whole[:4097] + b"\x19" + whole[4098:])
+    # A second tree where the first one is.
+    twice.write_bytes(whole[:4112] + whole[4096:4112] + whole[4128:])
+    for file in (newer, damaged, twice):
+        shutil.copyfile(log_of(host.path()), log_of(file))
+    return text, older, newer, damaged, twice
+
+
+def try_logs(trial):
+    """A file and its log belong together: what was stored last may stand in the log alone."""
+    folder = trial.folder / "logs"
+    folder.mkdir()
+    host, model = used_host(trial, folder)
+    file, log = host.path(), log_of(host.path())
+    trial.check("both are their owner's alone", [it.stat().st_mode & 0o777 for it in (file, log)] == [0o600] * 2)
+    write_settings(folder, file.name)
+    whole, kept = file.read_bytes(), log.read_bytes()
+    try_wrong_logs(trial, folder, file, log)
+    try_log_alone(trial, folder, file, log)
+    # Both are moved by copying them, and what stands in the log alone comes along.
+    moved = Host(trial.oramdisk, trial.folder / "moved", "whole")
+    moved.path().write_bytes(whole)
+    log_of(moved.path()).write_bytes(kept)
+    client = moved.start().client()
+    check_answers(trial, "a file and its log at another place", client, model, model.all_fetches())
+    client.close()
+    moved.stop()
+
+
+def try_wrong_logs(trial, folder, file, log):
+    """The log is missing, is another file's, and is damaged. At the end it is as before."""
+    other = Host(trial.oramdisk, folder / "other", "whole").start()
+    other.client().close()
+    other.stop()
+    kept = log.read_bytes()
+    log.unlink()
+    log_is = "oramdisk: the log of whole, the file beside it with -log behind its name,"
+    put_back = "put back the one that it was served with last"
+    start = lambda: trial.start("host", "host.toml", folder=folder)
+    check_refused(trial, "a file without its log", file, start(), WRONG_LOG, f"{log_is} isn't there: {put_back}")
+    shutil.copyfile(log_of(other.path()), log)
+    check_refused(trial, "a file with another's log", file, start(), WRONG_LOG, f"{log_is} is another file's: {put_back}")
+    log.write_bytes(kept[:4097] + b"\xff" * 12 + kept[4109:])
+    check_refused(trial, "a damaged log", file, start(), DAMAGED, f"oramdisk: whole {NO_HOST}")
+    log.write_bytes(kept)
+
+
+def try_log_alone(trial, folder, file, log):
+    """The file is missing, and only its log is there: no new file is made."""
+    file.unlink()
+    alone = "oramdisk: there is no file whole, but its log, the file beside it with -log behind its name, holds records of it: put the file back, or take the log away"
+    process = trial.start("host", "--new", "host.toml", folder=folder)
+    check_refused(trial, "a log without its file", log, process, WRONG_LOG, alone)
+
+
+def try_presence(trial, folder):
+    """A file is made if that is asked for, and never otherwise."""
+    file = folder / "asked"
+    write_settings(folder, file.name)
+    line = f"oramdisk: there is no file {file.name}: see that the settings are those of the right host, or say oramdisk host --new to make it"
+    trial.ends("a file that is missing", trial.start("host", "host.toml", folder=folder), NO_FILE, line)
+    trial.check("and none is made", not file.exists())
+    host = Host(trial.oramdisk, folder, file.name).start()
+    client = host.client()
+    trial.check("a new file", client.ask(A_SHAPE) == DONE)
+    client.close()
+    host.stop()
+    made = f"oramdisk: made {file.name}"
+    trial.check("there is a line for it", host.lines().count(made) == 1, host.lines())
+    listening = f"oramdisk: listening at 127.0.0.1:{host.port}, with the buckets in {file.name}"
+    trial.check("and where it is served", host.lines()[-3:-1] == [made, listening] or host.lines()[-2:] == [made, listening], host.lines())
+    line = f"oramdisk: {file.name} is there already, and is left as it is: leave --new out to serve it"
+    check_refused(trial, "a new file where one is", file, trial.start("host", "--new", "host.toml", folder=folder), EXISTS, line)
+    host.start()
+    trial.check("started again", host.client().ask(A_SHAPE) == refused(SHAPE_TAKEN))
+    host.stop()
+    trial.check("there is no other line", host.lines().count(made) == 1, host.lines())

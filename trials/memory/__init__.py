@@ -1,0 +1,1 @@
+"""The trials of `./trial_memory`: programs whose allocations are refused in turn."""

@@ -1,0 +1,54 @@
+"""All allocations of a program, refused in turn."""
+
+from trials.memory.verdicts import WENT_ON, WRONG, judge
+
+# The most allocations of a block that are refused.
+MOST = 1000
+
+
+def try_program(tally, refuser, pool, name, program, rows):
+    """Refuses the allocations of each block of a program's rows, or of oramsim's script."""
+    blocks = [rows] if name == "oramsim" else standing_alone(refuser, program, rows)
+    sweep(tally, refuser, pool, name, program, blocks)
+    if name == "oramsim":
+        try_reopen(tally, refuser, program)
+
+
+def standing_alone(refuser, program, rows):
+    """The blocks of the rows, each behind those that it needs. What a block has to write is its own text."""
+    groups = []
+    for block in rows.rstrip(b"\n").split(b"\n\n"):
+        if groups and refuser.count(program, block + b"\n")[0] != (0, block + b"\n"):
+            groups[-1] += b"\n\n" + block
+        else:
+            groups.append(block)
+    return [group + b"\n" for group in groups]
+
+
+def spread(count):
+    """The numbers of the allocations that are refused: all of them, or MOST of them if there are more."""
+    return range(1, count + 1) if count <= MOST else [1 + at * count // MOST for at in range(MOST)]
+
+
+def sweep(tally, refuser, pool, name, program, blocks):
+    """Refuses the allocations of each block."""
+    runs, made, whole, others = 0, 0, 0, 0
+    for block in blocks:
+        wanted, count = refuser.count(program, block)
+        tally.check(f"{name}, {block[:60]}, with memory", name == "oramsim" or wanted == (0, block), str(wanted)[-300:])
+        ends = pool.map(lambda number: (number, refuser.run(program, block, number)), spread(count))
+        for number, ended in ends:
+            verdict = judge(name, ended, wanted)
+            tally.check(f"{name}, {block[:60]}, allocation {number} of {count}", verdict != WRONG, str(ended)[-300:])
+            runs, others = runs + 1, others + (verdict == WENT_ON)
+        made += count
+        whole += count <= MOST
+    print(f"{name}: {runs} of {made} allocations refused, each one in {whole} of {len(blocks)} blocks; {others} runs went on", flush=True)
+
+
+def try_reopen(tally, refuser, program):
+    """`reopen` writes the core to its file and reads it back, which no clause can say: so it takes memory for a file and for a core, while
+    `lost` takes none."""
+    begun = b"device 64 16 4 16 100\nread 0 5 1 2 3 4\n"
+    counts = [refuser.count(program, begun + line)[1] for line in (b"lost\n", b"reopen\n")]
+    tally.check("a script's reopen takes memory for a file and a core", counts[1] - counts[0] > 10, counts)

@@ -1,0 +1,55 @@
+"""Whether a program may write this without memory."""
+
+import re
+
+NO_MEMORY = b"out of memory\n"
+OUT_OF_MEMORY = 3
+RIGHT, WENT_ON, WRONG = "right", "went on", "wrong"
+# The answers that may be others without memory, since their calls go on: they refuse or repeat what there was none for.
+GO_ON = {
+    "rows_disk": re.compile(rb"(format|link) .*"),
+    "rows_sessions": re.compile(rb"(session|far_session) .*"),
+    "rows_rounds": re.compile(
+        rb"lives .* (ends|faults|answers|lies) .* => .*"
+        rb"|ends_everywhere .* => .* lost 0 torn 0 other 0"
+        rb"|faults => \d+"
+        rb"|order => \d+"
+        rb"|stores => kept \d+ held \d+"
+        rb"|storm .* replies (?P<count>\d+) right (?P=count)"
+    ),
+    "rows_store": re.compile(rb"life .*"),
+}
+MESSAGES_SENT = re.compile(rb"(fetches|stores) \d+")
+
+
+def judge(name, ended, wanted):
+    """Judges a run by its status and what it wrote, and by those with memory. It is RIGHT if it wrote the same, or a beginning of that and
+    the want of memory; it WENT_ON if calls went on without memory that may; else it is WRONG."""
+    (status, text), (good, whole) = ended, wanted
+    if (status, text) == (good, whole):
+        return RIGHT
+    front = text[: -len(NO_MEMORY)] if text.endswith(NO_MEMORY) else None
+    if status == OUT_OF_MEMORY and front is not None and whole.startswith(front):
+        return RIGHT
+    went_on = script_went_on(text, whole) if name == "oramsim" else status == 0 and rows_went_on(name, text, whole)
+    return WENT_ON if went_on else WRONG
+
+
+def script_went_on(text, whole):
+    """The host of a script has memory of its own: without it the message stalls, and the script goes on from there."""
+    at = next((i for i, (a, b) in enumerate(zip(text, whole)) if a != b), min(len(text), len(whole)))
+    line = text.rfind(b"\n", 0, at) + 1
+    return text[line:].startswith(b"stalled\n")
+
+
+def rows_went_on(name, text, whole):
+    """Each row is as with memory, but for those of calls that go on without it."""
+    lines, wanted = text.split(b"\n"), whole.split(b"\n")
+    return len(lines) == len(wanted) and all(may_differ(name, line, good) for line, good in zip(lines, wanted))
+
+
+def may_differ(name, line, good):
+    """Whether a row may be this without memory, if it is `good` with memory."""
+    if line == good or (name in GO_ON and GO_ON[name].fullmatch(line)):
+        return True
+    return name == "rows_rounds" and MESSAGES_SENT.sub(rb"\1 N", line) == MESSAGES_SENT.sub(rb"\1 N", good)

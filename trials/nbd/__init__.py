@@ -1,0 +1,1 @@
+"""The trials of `./trial_nbd`: a disk, over NBD."""

@@ -1,0 +1,95 @@
+"""The faults of a disk: each has a line and a status."""
+
+import subprocess
+
+from trials import strace
+from trials.disk import Disk
+from trials.nbd.formatting import check_that_host_has_a_disk
+from trials.nbd.lost_host import unreachable
+from trials.ports import free_port
+from trials.processes import LONGEST_WAIT, end_of
+from trials.statuses import BAD_FILE, BAD_WORDS, NO_STATE, OUT_OF_REACH
+
+
+def try_faults(trial):
+    """Each fault of a disk has a line and a status."""
+    try_words(trial)
+    disk = Disk(trial, "faults", size="1MiB")
+    try_unformatted(trial, disk)
+    try_formattings(trial, disk)
+    try_damaged_state(trial, disk)
+
+
+def try_words(trial):
+    """Command lines that can't be read, that ask for help, or that name what can't be had."""
+    missing, unexpected = "the following required arguments were not provided:", "unexpected argument '{}' found"
+    for words, wrong in (
+        (["new", "x"], missing),
+        (["new", "--size", "1MiB"], missing),
+        (["serve"], missing),
+        (["status", "a", "b"], unexpected.format("b")),
+        (["serve", "a", "--size", "1MiB"], unexpected.format("--size")),
+        (["sreve", "a"], "unrecognized subcommand 'sreve'"),
+    ):
+        refused = end_of(trial.start(*words))
+        holds = refused.err.decode().startswith(f"oramdisk: {wrong}\n") and b"\nUsage: " in refused.err
+        trial.check(f"words {words}", (refused.status, refused.out) == (BAD_WORDS, b"") and holds, refused)
+    for words in (["--help"], ["-h"], ["help"], ["help", "serve"], ["retry", "-h"], ["--version"], ["serve", "--version"]):
+        helped = end_of(trial.start(*words))
+        trial.check(f"words {words}", (helped.status, helped.err) == (0, b"") and helped.out.endswith(b"\n"), helped)
+    for size in ("65GiB", "big", "0", "-1"):
+        line = "oramdisk: no disk has this size: name one up to 64GiB, as 1GiB or 512MiB"
+        trial.ends(f"the size {size}", trial.start("new", "x", f"--size={size}"), BAD_WORDS, line)
+    line = "oramdisk: none/x: no such file or folder: see that its name is right"
+    trial.ends("no folder is made", trial.start("new", "none/x", "--size", "1MiB"), BAD_FILE, line)
+
+
+def try_unformatted(trial, disk):
+    """Commands for a disk without settings, and for one that isn't formatted."""
+    line = "oramdisk: none.toml: no such file or folder: see that its name is right"
+    trial.ends("no settings", trial.start("format", "none.toml"), BAD_FILE, line)
+    unformatted = "oramdisk: the disk isn't formatted yet: start its host, and then say oramdisk format faults/disk.toml"
+    for command in ("serve", "status"):
+        trial.ends(f"{command}: no state", disk.start(command), BAD_FILE, unformatted)
+
+
+def try_formattings(trial, disk):
+    """Settings that can't be, and formattings without a host and at one that has a disk already."""
+    disk.set(size=1000)
+    line = "faults/disk.toml, line 2: size has to be a whole number of blocks, from 1 to 16777216 of them"
+    trial.ends("numbers of no disk", disk.format(), BAD_WORDS, f"oramdisk: {line}")
+    trial.ends("a folder in place of settings", trial.start("serve", "faults"), BAD_FILE, "oramdisk: faults is a folder: name a file in it")
+    disk.set(size=1 << 20, sealer="none")
+    trial.ends("bad settings", disk.format(), BAD_WORDS, 'oramdisk: faults/disk.toml, line 16: sealer has to be "chacha" or "plain"')
+    nobody = f"127.0.0.1:{free_port()}"
+    disk.set(sealer="chacha", host=nobody)
+    trial.ends("no host", disk.format(), OUT_OF_REACH, unreachable(nobody))
+    disk.set(host=disk.host_address())
+    disk.formatted()
+    disk.state_file.rename(disk.folder / "kept")
+    check_that_host_has_a_disk(trial, "a host that has a disk", disk)
+
+
+def try_damaged_state(trial, disk):
+    """The last byte of the state is missing."""
+    disk.state_file.write_bytes((disk.folder / "kept").read_bytes()[:-1])
+    line = "oramdisk: faults/disk.state isn't the state of a disk, and is left as it is: see that the settings name the right file"
+    for command in ("serve", "status"):
+        trial.ends(f"{command}: a damaged state", disk.start(command), NO_STATE, line)
+    disk.host.stop()
+
+
+def try_denied(trial):
+    """The program names a file of the disk that the system doesn't let it open, with the system's reason."""
+    if not strace.is_here():
+        trial.skip()
+        return
+    disk = Disk(trial, "denied", size="16kB", table=16).formatted()
+    disk.host.stop()
+    for command, name in (("status", "disk.state"), ("serve", "disk.state"), ("serve", "disk.state.lock"), ("retry", "disk.state.lock")):
+        file = f"denied/{name}"
+        words = [*strace.denying(file), trial.oramdisk, command, "denied/disk.toml"]
+        refused = subprocess.run(words, cwd=trial.folder, capture_output=True, text=True, timeout=LONGEST_WAIT)
+        line = f"oramdisk: {file}: permission denied: see that you may read and write it"
+        seen = (refused.returncode, refused.stdout, refused.stderr.splitlines()[-1:])
+        trial.check(f"denied: {command}, {name}", seen == (BAD_FILE, "", [line]), refused)

@@ -1,0 +1,77 @@
+"""Formattings that have no room, are made twice, or are killed."""
+
+import signal
+import threading
+
+from trials.bucket_messages import FETCH, PUT, is_a
+from trials.disk import Disk
+from trials.disk_array import DiskArray, check_and_end
+from trials.nbd.no_room import no_room, refuse_for_room
+from trials.processes import end_of
+from trials.statuses import HAS_A_DISK, HOST_FULL
+
+
+def check_that_host_has_a_disk(trial, what, disk):
+    """A formatting at a host that keeps a disk already ends with its line."""
+    line = f"oramdisk: the host at {disk.host_address()} keeps a disk already: name a new file at the host"
+    refused = end_of(disk.format())
+    trial.check(what, (refused.status, refused.err.decode().splitlines()[-1:]) == (HAS_A_DISK, [line]), refused)
+
+
+def try_full_formatting(trial):
+    """A formatting reports a host without room. Two formattings with one key have nothing in common."""
+    disk = Disk(trial, "full-format", table=16)
+    disk.start_host()
+    refuse_for_room(disk.relay, PUT)
+    end = end_of(disk.format())
+    trial.check("a formatting without room", (end.status, end.err.decode().splitlines()[-1:]) == (HOST_FULL, [no_room(disk)]), end)
+    trial.check("a formatting without room: no state", not disk.state_file.exists())
+    disk.relay.instead = lambda body: None
+    disk.host.stop()
+    (salt, key_check, fetched), (other_salt, other_key_check, other_fetched) = [format_and_read(trial, disk, number) for number in range(2)]
+    trial.check("two formattings: paths at other places", fetched != other_fetched and len(fetched) > 60, len(fetched))
+    trial.check("two formattings: two salts and two key checks", salt != other_salt and key_check != other_key_check)
+
+
+def format_and_read(trial, disk, number):
+    """The disk is formatted at a new file of the host, and read. Returns the salt and the key check of its state, and the FETCHes that the
+    host heard."""
+    disk.host.file = f"second-{number}"
+    failure = disk.folder / "disk.state.failed"
+    failure.write_text("of another disk\n")
+    disk.formatted()
+    # A host that is killed right behind a formatting has all of it.
+    disk.host.stop(signal.SIGKILL)
+    trial.check("what an earlier disk left is gone", not failure.exists())
+    disk.start_host()
+    fetched = []
+    disk.relay.instead = lambda body: fetched.append(body) if is_a(FETCH, body) else None
+    check_and_end(trial, f"formatting {number}: what it holds", disk, DiskArray())
+    whole = disk.state_file.read_bytes()
+    disk.state_file.unlink()
+    return whole[8:40], whole[40:72], fetched
+
+
+def try_killed_formatting(trial):
+    """A formatting that is killed leaves no state. With a new file of the host the disk is formatted anew."""
+    disk = Disk(trial, "killed-format", size="1MiB", table=16)
+    disk.start_host()
+    for number in range(5):
+        process = disk.format()
+        disk.relay.messages = 0
+        wanted = trial.dice.randrange(1, 60)
+        while disk.relay.messages < wanted and process.poll() is None:
+            threading.Event().wait(0.001)
+        process.kill()
+        process.communicate()
+        trial.check(f"a killed formatting {number}: no state", not disk.state_file.exists())
+        if number == 0:
+            check_that_host_has_a_disk(trial, "a formatting behind a killed one", disk)
+        disk.host.stop()
+        disk.host.file = f"again-{number}"
+        disk.start_host()
+    disk.host.stop()
+    disk.host.file = "last"
+    disk.formatted()
+    trial.check("a formatting at last", disk.status().get("state") == "it is sound")
+    disk.host.stop()

@@ -1,0 +1,30 @@
+"""The life of a disk, from `new` to its accesses."""
+
+import signal
+
+from trials.disk import SMALL, Disk
+from trials.disk_array import DiskArray, check_disk, make_requests
+from trials.statuses import EXISTS
+
+
+def try_life(trial):
+    """A disk is made, formatted, looked at, served, ended and served again."""
+    disk = Disk(trial, "life", table=16).formatted()
+    status = disk.status()
+    wanted = {"size": f"{SMALL} bytes, 63 blocks of 4096", "trees": "2", "waiting": "0", "state": "it is sound"}
+    trial.check("life: how it stands", wanted.items() <= status.items(), status)
+    mode = disk.state_file.stat().st_mode & 0o777
+    trial.check("life: the state is its owner's", mode == 0o600, oct(mode))
+    line = "life/disk.state is there already, and is left as it is: to format anew, take it away, and name a new file at the host"
+    trial.ends("life: format again", disk.format(), EXISTS, f"oramdisk: {line}")
+    array = DiskArray()
+    for _ in range(3):
+        client = disk.serve().client()
+        check_disk(trial, "life: what it holds", client, array)
+        make_requests(trial, client, array, 20)
+        client.close()
+        disk.stop(signal.SIGKILL)
+    status = disk.status()
+    made = int(status["accesses"].split()[0])
+    trial.check("life: its accesses", made >= 3 * 63, status)
+    disk.host.stop()

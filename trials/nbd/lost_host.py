@@ -1,0 +1,123 @@
+"""A host that is out of reach: a connection that is cut, and a host that doesn't answer until the reconnect timeout."""
+
+import socket
+import threading
+import time
+
+from trials.disk import Disk
+from trials.disk_array import DiskArray, ask_at_random, check_and_end, check_disk, lose_write, make_requests
+from trials.processes import end_of
+from trials.statuses import OUT_OF_REACH
+
+# The seconds by which the program may end later than its reconnect timeout.
+GRACE = 12
+
+
+def unreachable(address):
+    """The line by which a program reports that its host is out of reach."""
+    return f"oramdisk: can't reach the host at {address}: see that it runs and that the way to it is open, and start again"
+
+
+def try_cut(trial):
+    """A connection to the host that is cut is opened again, and nobody notices but in the log."""
+    disk = Disk(trial, "cut", table=16, reconnect_timeout=60, sync=False).formatted()
+    array = DiskArray()
+    client = disk.serve().client()
+    trial.check("cut: it is served", client is not None, disk.lines()[-2:])
+    for number in range(10):
+        disk.relay.cut(answer=trial.dice.random() < 0.5, at=trial.dice.randrange(1, 12))
+        for _ in range(6):
+            trial.check(f"cut {number}: a reply", ask_at_random(trial, client, array))
+    check_disk(trial, "cut: what it holds", client, array)
+    client.close()
+    lines = disk.lines()
+    trial.check("cut: its log", any("is out of reach" in line for line in lines) and any("answers again" in line for line in lines), lines)
+    disk.stop()
+    disk.host.stop()
+
+
+def try_out_of_reach(trial):
+    """After the reconnect timeout the service ends, with everything kept."""
+    disk = Disk(trial, "away", reconnect_timeout=1).formatted()
+    array = DiskArray()
+    client = disk.serve().client()
+    make_requests(trial, client, array, 5)
+    disk.host.stop()
+    lose_write(trial, "away: no reply", client, array)
+    status = disk.wait()
+    trial.check("away: how it ends", (status, disk.lines()[-1]) == (OUT_OF_REACH, unreachable(disk.host_address())), (status, disk.lines()[-1]))
+    trial.check("away: what waits", disk.status().get("waiting") in ("0", "1"), disk.status())
+    disk.start_host()
+    check_and_end(trial, "away: what it holds once the host is back", disk, array)
+
+
+class DeafHost(threading.Thread):
+    """Takes connections, and what they bring, and never answers (`silent`); breaks each of them off (`breaks`); or takes none, so that the
+    system drops what would open one (`drops`)."""
+
+    def __init__(self, kind):
+        super().__init__(daemon=True)
+        self.listener = socket.create_server(("127.0.0.1", 0), backlog=0)
+        self.port, self.kind, self.held = self.listener.getsockname()[1], kind, []
+        self.address, self.connections = f"127.0.0.1:{self.port}", 0
+        # One or two connections fill the listener's queue.
+        for _ in range(4 if kind == "drops" else 0):
+            stream = socket.socket()
+            stream.setblocking(False)
+            stream.connect_ex(("127.0.0.1", self.port))
+            self.held.append(stream)
+        self.start()
+
+    def run(self):
+        while self.kind != "drops":
+            try:
+                stream, _ = self.listener.accept()
+            except OSError:
+                return
+            self.connections += 1
+            if self.kind == "breaks":
+                stream.close()
+            else:
+                self.held.append(stream)
+
+    def end(self):
+        self.listener.close()
+        for stream in self.held:
+            stream.close()
+
+
+def check_that_it_gives_up(trial, disk, command, deaf, timeout, texts):
+    """A command whose host doesn't answer ends after the reconnect timeout, and not much later, with its line. The texts name the two
+    checks."""
+    disk.set(host=deaf.address, reconnect_timeout=timeout)
+    begun = time.monotonic()
+    end = end_of(disk.start(command))
+    took = time.monotonic() - begun
+    seen = (end.status, end.err.decode().splitlines()[-1:])
+    trial.check(texts[0], seen == (OUT_OF_REACH, [unreachable(deaf.address)]), end)
+    trial.check(texts[1], timeout <= took < timeout + GRACE, took)
+
+
+def try_reconnect_timeout(trial):
+    """Whatever keeps a host from answering, the service waits until the reconnect timeout, and not much longer."""
+    disk = Disk(trial, "deaf", table=16).formatted()
+    disk.host.stop()
+    kept = disk.state_file.read_bytes()
+    for kind in ("silent", "breaks", "drops"):
+        what, deaf = f"a host that is {kind}", DeafHost(kind)
+        for timeout in (1, 4):
+            texts = (f"{what}: its end, timeout {timeout}", f"{what}: its time, timeout {timeout}")
+            check_that_it_gives_up(trial, disk, "serve", deaf, timeout, texts)
+        trial.check(f"{what}: it was tried more often than a message is sent otherwise", kind != "breaks" or deaf.connections > 8, deaf.connections)
+        deaf.end()
+    trial.check("and the state is as it was", disk.state_file.read_bytes() == kept)
+
+
+def try_unanswered_formatting(trial):
+    """A formatting waits for a host that doesn't answer until the reconnect timeout, and not much longer, and leaves no state."""
+    disk = Disk(trial, "unanswered", table=16)
+    for kind, timeout in (("silent", 1), ("silent", 3), ("drops", 2)):
+        what, deaf = f"formatting at a host that is {kind}, timeout {timeout}", DeafHost(kind)
+        check_that_it_gives_up(trial, disk, "format", deaf, timeout, (f"{what}: its end", f"{what}: its time"))
+        trial.check(f"{what}: no state", not disk.state_file.exists())
+        deaf.end()

@@ -1,0 +1,126 @@
+"""A host that changes records, or gives back older ones."""
+
+import re
+import signal
+
+from trials.bucket_file import BucketFile
+from trials.bucket_host import TIME
+from trials.disk import SMALL, Disk
+from trials.disk_array import DiskArray, check_and_end, make_requests
+from trials.nbd_client import EIO, FLUSH, READ, TRIM, WRITE, ZEROES
+from trials.processes import end_of
+from trials.statuses import DISK_FAILED, NOT_FAILED
+
+# The tree in whose record a host keeps the identity of its disk.
+IDENTITY_TREE = 255
+
+
+def tamper(file, level=None):
+    """Changes a bit of each record of a disk's trees in a host's file, or of those at one level of tree 0."""
+    buckets = BucketFile(file)
+    buckets.replay()
+    for tree, (depth, _, _) in buckets.trees().items():
+        for node in range((2 << depth) - 1):
+            at = (node + 1).bit_length() - 1
+            if tree < IDENTITY_TREE and (level is None or (tree, at) == (0, level)):
+                buckets.flip(tree, node)
+
+
+def is_failure(reason, tree=r"\d+", level=r"\d+"):
+    """Whether `status` says of a disk that it has failed, at a record of this tree and level."""
+    record = f"in tree {tree} the record at level {level} of a path wasn't the one that was stored last"
+    return re.fullmatch(f"it has failed: {record}, at {TIME}", reason)
+
+
+def check_retry(trial, disk, status, out, err):
+    """`retry` ends so."""
+    end = end_of(disk.start("retry"))
+    trial.check(f"{disk.name}: retry", (end.status, end.out, end.err.decode()) == (status, out, err), end)
+
+
+def check_that_retry_works(trial, disk):
+    check_retry(trial, disk, 0, b"oramdisk serve goes on from the kept state\n", "")
+
+
+def try_tampered(trial):
+    """After the host changed a record, all requests have errors, and the status says why. With its own records the disk goes on."""
+    disk = Disk(trial, "tampered", table=16).formatted()
+    array = DiskArray()
+    client = disk.serve().client()
+    make_requests(trial, client, array, 10)
+    disk.end(client)
+    before, kept = disk.host_files(), disk.state_file.read_bytes()
+    tamper(disk.host.path())
+    reason = fail_disk(trial, disk, array)
+    refused = "oramdisk: the disk of tampered/disk.state has failed, and oramdisk status says why: see that its own host is reached, with its own file, and then say oramdisk retry"
+    trial.ends("tampered: served again", disk.start("serve"), DISK_FAILED, refused)
+    trial.check("tampered: its state is as it was kept", disk.state_file.read_bytes()[:40] == kept[:40] and disk.status().get("state") == reason)
+    disk.host.stop()
+    disk.put_host_files(before)
+    disk.start_host()
+    check_that_retry_works(trial, disk)
+    check_retry(trial, disk, NOT_FAILED, b"", "oramdisk: the disk of tampered/disk.state has not failed, and is left as it is: oramdisk serve serves it\n")
+    check_and_end(trial, "tampered: what it holds with its own records", disk, array)
+
+
+def fail_disk(trial, disk, array):
+    """Over records that were changed a read has an error, and so has each request after it. Returns what `status` then says of the disk."""
+    disk.start_host()
+    client = disk.serve().client()
+    # Records of the paths that the client stores once more are right again, so all blocks are read.
+    trial.check("tampered: a READ", client.ask(READ, 0, array.size) == (EIO, b""))
+    # The failure is kept before the error is answered.
+    mode = (disk.folder / "disk.state.failed").stat().st_mode & 0o777
+    trial.check("tampered: what is kept of the failure is its owner's", mode == 0o600, oct(mode))
+    reason = disk.status().get("state", "")
+    trial.check("tampered: why", is_failure(reason), reason)
+    trial.check("tampered: a WRITE", client.ask(WRITE, 0, 4, b"more") == (EIO, b""))
+    for what, kind, offset, length in (
+        ("a FLUSH", FLUSH, 0, 0),
+        ("a TRIM of part of a block", TRIM, 1, 2),
+        ("a WRITE of nothing", WRITE, 0, 0),
+        ("ZEROES", ZEROES, 0, 1),
+        ("a READ of nothing", READ, 0, 0),
+    ):
+        trial.check(f"tampered: {what}", client.ask(kind, offset, length) == (EIO, b""))
+    client.close()
+    disk.stop(signal.SIGKILL)
+    return reason
+
+
+def try_each_level(trial):
+    """A record that was changed at any level of a path is found at that level."""
+    disk = Disk(trial, "levels", table=16).formatted()
+    disk.host.stop()
+    before, kept = disk.host_files(), disk.state_file.read_bytes()
+    for level in range(7):
+        disk.put_host_files(before)
+        disk.state_file.write_bytes(kept)
+        tamper(disk.host.path(), level)
+        reason = failure_of(trial, disk, f"level {level}")
+        trial.check(f"level {level}: why", is_failure(reason, 0, level), reason)
+        check_that_retry_works(trial, disk)
+
+
+def failure_of(trial, disk, what):
+    """A read of all blocks fails. Returns what `status` then says of the disk."""
+    disk.start_host()
+    client = disk.serve().client()
+    trial.check(f"{what}: a READ", client.ask(READ, 0, SMALL) == (EIO, b""))
+    disk.end(client)
+    return disk.status().get("state", "")
+
+
+def try_older_file(trial):
+    """An older file of buckets that is put back fails the disk."""
+    disk = Disk(trial, "older", table=16).formatted()
+    disk.host.stop()
+    before = disk.host_files()
+    disk.start_host()
+    array = DiskArray()
+    client = disk.serve().client()
+    make_requests(trial, client, array, 10)
+    disk.end(client)
+    disk.put_host_files(before)
+    reason = failure_of(trial, disk, "an older file")
+    trial.check("an older file: why", is_failure(reason), reason)

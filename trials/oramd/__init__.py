@@ -1,0 +1,1 @@
+"""The trials of `./trial`: oramd, as host, formatting and proxy."""

@@ -1,0 +1,1 @@
+"""The trials of `./trial_rows`: the built programs on the rows of the folder `rows`."""

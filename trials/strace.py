@@ -1,0 +1,51 @@
+"""The system calls of a process, as strace sees and disturbs them."""
+
+import re
+import shutil
+import signal
+import subprocess
+import tempfile
+from pathlib import Path
+
+from trials.processes import end_of, start
+
+
+def is_here():
+    return shutil.which("strace") is not None
+
+
+def killing_before(calls, when):
+    """The words that start a program under strace, which kills it right before one of these calls: the one of this number."""
+    return ["strace", "-f", "-o", "/dev/null", "-e", f"trace={calls}", "-e", f"inject={calls}:signal=SIGKILL:when={when}"]
+
+
+def denying(file):
+    """The words that start a program under strace, which lets each attempt to open this file fail for want of permission."""
+    return ["strace", "-f", "-o", "/dev/null", "-P", file, "-e", "trace=openat", "-e", "inject=openat:error=EACCES"]
+
+
+def trace_renames_and_syncs(folder, *words):
+    """Runs a program to its end. Returns how it ended, and its renames and syncs that were done, in order: each as the call with the new
+    name or the file. Returns None for both if strace can't be used."""
+    with tempfile.NamedTemporaryFile() as found:
+        tracer = ["strace", "-f", "-y", "-o", found.name, "-e", "trace=fsync,fdatasync,rename,renameat,renameat2"]
+        if not is_here() or subprocess.run([*tracer, "true"], capture_output=True).returncode:
+            return None, None
+        end = end_of(start([*tracer, *words], folder))
+        text = Path(found.name).read_text()
+    calls = re.findall(r'(sync)\(\d+<([^>]*)>\) += 0|(rename)\w*\(.*"([^"\n]*)"[^"\n]*\) += 0', text)
+    return end, [(sync or rename, file or name) for sync, file, rename, name in calls]
+
+
+def count_syncs(process, ask):
+    """How many syncs a process makes while `ask` asks something of it; None if they can't be counted here."""
+    with tempfile.NamedTemporaryFile() as found:
+        words = ["strace", "-f", "-e", "trace=fsync,fdatasync", "-o", found.name, "-p", str(process.pid)]
+        tracer = subprocess.Popen(words, stderr=subprocess.PIPE)
+        if b"attached" not in tracer.stderr.readline():
+            tracer.wait()
+            return None
+        ask()
+        tracer.send_signal(signal.SIGINT)
+        tracer.communicate()
+        return len(re.findall(r"f(?:data)?sync\(", Path(found.name).read_text()))
