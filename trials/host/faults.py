@@ -87,7 +87,8 @@ def try_new(trial):
     file = folder / "host.toml"
     trial.check("its mode", (folder.stat().st_mode & 0o777, file.stat().st_mode & 0o777) == (0o700, 0o600))
     text = file.read_text()
-    trial.check("its settings", [line for line in text.splitlines() if not line.startswith("#")] == ['listen = "127.0.0.1:7001"', 'file = "buckets"'], text)
+    values = [line for line in text.splitlines() if not line.startswith("#")]
+    trial.check("its settings", values == ['listen = "127.0.0.1:7001"', 'file = "buckets"'], text)
     line = "oramdisk: mydisk is there already, and is left as it is: name another folder"
     check_refused(trial, "the same folder again", file, trial.start("new", "mydisk", "--size", "1GiB"), EXISTS, line)
     trial.check("nothing else is in it", sorted(found.name for found in folder.iterdir()) == ["disk.toml", "host.toml"])

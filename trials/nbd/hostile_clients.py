@@ -51,7 +51,12 @@ def choose_another_export(_trial, nbd, _dice):
 def ask_for_what_is_not_there(trial, nbd, _dice):
     nbd.greet()
     nbd.choose()
-    for kind, offset, length, error in ((READ, 1 << 62, 1, EINVAL), (WRITE, (1 << 64) - 1, 1, ENOSPC), (77, 0, 0, EINVAL), (READ, 0, 1 << 31, EINVAL)):
+    for kind, offset, length, error in (
+        (READ, 1 << 62, 1, EINVAL),
+        (WRITE, (1 << 64) - 1, 1, ENOSPC),
+        (77, 0, 0, EINVAL),
+        (READ, 0, 1 << 31, EINVAL),
+    ):
         reply = nbd.ask(kind, offset, length, b"x" if kind == WRITE else b"")
         trial.check("a refusal", reply is not None and reply[0] == error, reply)
 

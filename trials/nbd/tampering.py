@@ -59,7 +59,8 @@ def try_tampered(trial):
     disk.put_host_files(before)
     disk.start_host()
     check_that_retry_works(trial, disk)
-    check_retry(trial, disk, NOT_FAILED, b"", "oramdisk: the disk of tampered/disk.state has not failed, and is left as it is: oramdisk serve serves it\n")
+    sound = "oramdisk: the disk of tampered/disk.state has not failed, and is left as it is: oramdisk serve serves it"
+    check_retry(trial, disk, NOT_FAILED, b"", f"{sound}\n")
     check_and_end(trial, "tampered: what it holds with its own records", disk, array)
 
 
