@@ -43,7 +43,7 @@ def try_taken(trial, folder):
     client.close()
     write_settings(folder, "first/buckets")
     held = "oramdisk: first/buckets is held by another process: end that one first"
-    check_refused(trial, "a file that is held", host.path(), trial.start("host", "host.toml", folder=folder), FILE_HELD, held)
+    check_refused(trial, "a file that is held", host.path(), lambda: trial.start("host", "host.toml", folder=folder), FILE_HELD, held)
     write_settings(folder, "second", f"127.0.0.1:{host.port}")
     taken = f"oramdisk: can't listen at 127.0.0.1:{host.port}: end the program that listens there, or name another place"
     trial.ends("a port that is taken", trial.start("host", "--new", "host.toml", folder=folder), LISTENER_TAKEN, taken)
@@ -90,7 +90,7 @@ def try_new(trial):
     values = [line for line in text.splitlines() if not line.startswith("#")]
     trial.check("its settings", values == ['listen = "127.0.0.1:7001"', 'file = "buckets"'], text)
     line = "oramdisk: mydisk is there already, and is left as it is: name another folder"
-    check_refused(trial, "the same folder again", file, trial.start("new", "mydisk", "--size", "1GiB"), EXISTS, line)
+    check_refused(trial, "the same folder again", file, lambda: trial.start("new", "mydisk", "--size", "1GiB"), EXISTS, line)
     trial.check("nothing else is in it", sorted(found.name for found in folder.iterdir()) == ["disk.toml", "host.toml"])
     no_file = "oramdisk: none/mydisk: no such file or folder: see that its name is right"
     trial.ends("a folder in no folder", trial.start("new", "none/mydisk", "--size", "1GiB"), BAD_FILE, no_file)

@@ -22,10 +22,10 @@ def write_settings(folder, file, listen=None):
     return port
 
 
-def check_refused(trial, what, file, process, status, line):
-    """The program ends so, and the file has the bytes that it had."""
+def check_refused(trial, what, file, start, status, line):
+    """The program, once it is started, ends with this status and line, and the file has the bytes that it had before."""
     before = file.read_bytes()
-    trial.ends(what, process, status, line)
+    trial.ends(what, start(), status, line)
     trial.check(f"{what}: the file is as it was", file.read_bytes() == before)
 
 
@@ -53,7 +53,7 @@ def try_other_files(trial, folder):
         (twice, DAMAGED, f"oramdisk: twice {NO_HOST}"),
     ):
         write_settings(folder, file.name)
-        check_refused(trial, f"a file of others, {file.name}", file, trial.start("host", "host.toml", folder=folder), status, line)
+        check_refused(trial, f"a file of others, {file.name}", file, lambda: trial.start("host", "host.toml", folder=folder), status, line)
 
 
 def make_other_files(trial, folder):
@@ -107,11 +107,11 @@ def try_wrong_logs(trial, folder, file, log):
     log_is = "oramdisk: the log of whole, the file beside it with -log behind its name,"
     put_back = "put back the one that it was served with last"
     start = lambda: trial.start("host", "host.toml", folder=folder)
-    check_refused(trial, "a file without its log", file, start(), WRONG_LOG, f"{log_is} isn't there: {put_back}")
+    check_refused(trial, "a file without its log", file, start, WRONG_LOG, f"{log_is} isn't there: {put_back}")
     shutil.copyfile(log_of(other.path()), log)
-    check_refused(trial, "a file with another's log", file, start(), WRONG_LOG, f"{log_is} is another file's: {put_back}")
+    check_refused(trial, "a file with another's log", file, start, WRONG_LOG, f"{log_is} is another file's: {put_back}")
     log.write_bytes(kept[:4097] + b"\xff" * 12 + kept[4109:])
-    check_refused(trial, "a damaged log", file, start(), DAMAGED, f"oramdisk: whole {NO_HOST}")
+    check_refused(trial, "a damaged log", file, start, DAMAGED, f"oramdisk: whole {NO_HOST}")
     log.write_bytes(kept)
 
 
@@ -119,8 +119,8 @@ def try_log_alone(trial, folder, file, log):
     """The file is missing, and only its log is there: no new file is made."""
     file.unlink()
     alone = "oramdisk: there is no file whole, but its log, the file beside it with -log behind its name, holds records of it: put the file back, or take the log away"
-    process = trial.start("host", "--new", "host.toml", folder=folder)
-    check_refused(trial, "a log without its file", log, process, WRONG_LOG, alone)
+    start = lambda: trial.start("host", "--new", "host.toml", folder=folder)
+    check_refused(trial, "a log without its file", log, start, WRONG_LOG, alone)
 
 
 def try_presence(trial, folder):
@@ -140,7 +140,7 @@ def try_presence(trial, folder):
     listening = f"oramdisk: listening at 127.0.0.1:{host.port}, with the buckets in {file.name}"
     trial.check("and where it is served", host.lines()[-3:-1] == [made, listening] or host.lines()[-2:] == [made, listening], host.lines())
     line = f"oramdisk: {file.name} is there already, and is left as it is: leave --new out to serve it"
-    check_refused(trial, "a new file where one is", file, trial.start("host", "--new", "host.toml", folder=folder), EXISTS, line)
+    check_refused(trial, "a new file where one is", file, lambda: trial.start("host", "--new", "host.toml", folder=folder), EXISTS, line)
     host.start()
     trial.check("started again", host.client().ask(A_SHAPE) == refused(SHAPE_TAKEN))
     host.stop()
