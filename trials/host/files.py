@@ -125,7 +125,7 @@ def try_log_alone(trial, folder, file, log):
 
 def try_presence(trial, folder):
     """A file is made if that is asked for, and never otherwise."""
-    file = folder / "asked"
+    file = folder / "wanted"
     write_settings(folder, file.name)
     line = f"oramdisk: there is no file {file.name}: see that the settings are those of the right host, or say oramdisk host --new to make it"
     trial.ends("a file that is missing", trial.start("host", "host.toml", folder=folder), NO_FILE, line)

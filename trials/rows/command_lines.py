@@ -35,7 +35,7 @@ def try_command_lines(tally, programs, folder, file):
             continue
         for line in lines:
             row, wanted = line.split(" => ")
-            status, told = wanted.split(" ", 1)
+            status, first_line = wanted.split(" ", 1)
             seen = run_row(programs, folder, texts, row)
-            holds = seen[0] == int(status) and (seen[1] == told or seen[1].startswith(f"{told}: "))
+            holds = seen[0] == int(status) and (seen[1] == first_line or seen[1].startswith(f"{first_line}: "))
             tally.check(f"a row of rows/{file}, {row}", holds, seen)
