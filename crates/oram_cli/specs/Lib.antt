@@ -1,3 +1,4 @@
 pub mod FileFaults
 pub mod CommandLine
 pub mod Tables
+pub mod Sockets

@@ -20,7 +20,7 @@ IsAddress text = (port : List ℕ) × IsPort port × (text ≡ codes "127.0.0.1:
 abbrev pub IsName : List ℕ → Type 0
 IsName text = 0 < length text
 
--- a number of connections
+-- a number of connections, or of seconds
 abbrev pub IsCount : ℕ → Type 0
 IsCount n = (1 ≤ n) × (n ≤ 1000000)
 

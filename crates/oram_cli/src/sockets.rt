@@ -1,5 +1,9 @@
 //! Sockets that programs listen at and connect to.
 
+ghost use Rattle.std.specs.IoError.{error_kind};
+ghost use Rattle.std.specs.Prelude.{◌≡◌};
+ghost use Rattle.oram_cli.specs.Sockets.{socket_fault};
+
 use std::alloc::Global;
 use std::io;
 use std::io::{BufReader, BufWriter, ErrorKind, Read, Write};
@@ -18,11 +22,12 @@ pub enum SocketFault {
 }
 
 impl From<io::Error> for SocketFault {
+    ghost from_gives = { λ error fault. fault ≡ socket_fault (error_kind error) };
+
     fn from(error: io::Error) -> SocketFault {
-        if error.kind() == ErrorKind::OutOfMemory {
-            SocketFault::OutOfMemory
-        } else {
-            SocketFault::Failed
+        match error.kind() {
+            ErrorKind::OutOfMemory => SocketFault::OutOfMemory,
+            _ => SocketFault::Failed,
         }
     }
 }
@@ -59,8 +64,8 @@ fn left_of<R: Clock>(rt: &R, begin: Option<Instant>, limit: Duration) -> Duratio
 }
 
 /// Connects to an address within `limit`, and returns the reader and the writer of the connection. If a name has
-/// several addresses, it tries each in turn, with the time that the earlier ones have left. The time for looking up a
-/// name isn't limited.
+/// several addresses, it tries each in turn, with the time that the earlier ones have left. If memory runs out, it tries
+/// no further address, since that is no fault of the address. The time for looking up a name isn't limited.
 pub fn connect_within<R: Net + Clock>(
     rt: &R,
     address: &str,
@@ -69,8 +74,10 @@ pub fn connect_within<R: Net + Clock>(
     let found = address.to_socket_addrs(rt)?;
     let begin = Instant::now(rt).ok();
     for place in found {
-        if let Ok(stream) = TcpStream::connect_timeout(rt, &place, left_of(rt, begin, limit)) {
-            return Ok(halves(stream)?);
+        match TcpStream::connect_timeout(rt, &place, left_of(rt, begin, limit)) {
+            Ok(stream) => return Ok(halves(stream)?),
+            Err(error) if error.kind() == ErrorKind::OutOfMemory => return Err(error.into()),
+            Err(_) => {}
         }
     }
     Err(SocketFault::Failed)

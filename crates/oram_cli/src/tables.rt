@@ -65,7 +65,7 @@ pub fn number_at(table: &Table, key: &str) -> Result<u64, InputFault>
     }
 }
 
-/// Returns the number of connections at a key, from 1 to 1,000,000.
+/// Returns the number at a key, from 1 to 1,000,000: of connections, or of seconds.
 pub fn count_at(table: &Table, key: &str) -> Result<u64, InputFault>
     ensures { Finds (λ n. n) (λ n. HasNumber (table_view table.now) key.now n × IsCount n) result }
 {
