@@ -1,15 +1,15 @@
 -- Options that were answered, one after another.
-use Rattle.std.proofs.Common.{◌≡◌, inl, inr, ℕ, ◌+◌, ◌<◌, ◌≤◌, ◌^◌, List, [], ◌∷◌, ◌++◌, length, Bool, Option, Some, None, All, refl, sym, ap, ◌∙◌, subst, arith, length-append, take, append_assoc}
+use Rattle.std.proofs.Common.{◌≡◌, ◌≢◌, inl, inr, ℕ, ◌+◌, ◌<◌, ◌≤◌, ◌^◌, List, [], ◌∷◌, ◌++◌, length, Bool, Option, Some, None, All, refl, sym, ap, ◌∙◌, subst, arith, length-append, take, append_assoc}
 use Rattle.std.specs.Int.{w32, to_be_bytes}
 use Rattle.std.proofs.lemmas.List.{append-nil}
 use Rattle.std.proofs.lemmas.List.Elements.{All-push, All-nil}
 use Rattle.std.proofs.lemmas.Grind.{flat_map-append}
 use Rattle.std.specs.Io.KnownBytes.{Appends, Consumes, IsAtEnd}
 use Rattle.std.proofs.KnownBytes.{Appends-nil, Appends-trans, Consumes-nil, Consumes-trans}
-use Rattle.oram_nbd.specs.declared.TheConstants.{LONGEST_OPTION, MOST_OPTIONS}
+use Rattle.oram_nbd.specs.declared.TheConstants.{LONGEST_NAME, LONGEST_OPTION, MOST_OPTIONS}
 use Rattle.oram_nbd.specs.Streams.{streams, Misses, Streams}
 use Rattle.oram_nbd.specs.Options.{option_head, option_text, IsHead}
-use Rattle.oram_nbd.specs.Handshake.{greeting, refused, Answers, ExportValue, IsFixed}
+use Rattle.oram_nbd.specs.Handshake.{greeting, refused, Answers, ExportValue, IsFixed, IsNamed}
 use Rattle.oram_nbd.specs.Negotiation.{answers_to_options, options_text, asking, AnsweredOption, HasAgreed, HasNegotiated, IsAnsweredOption, IsNoOption, IsUnfinishedOption, StopsAt, StopsChoosing}
 use Rattle.oram_nbd.specs.declared.faults.NbdFault.{NbdFault}
 use Rattle.oram_nbd.specs.declared.faults.NbdFault.TheVariants as fault
@@ -31,14 +31,18 @@ module _ (e : ExportValue) (zeroes : Bool) where
     answer = inl (subst (λ (n : ℕ). n ≤ LONGEST_OPTION) (sym long) few, answer);
   }
 
-  pub long_option : (h : OptionHead) (content text : List ℕ) → IsHead h → length content ≡ h.length → LONGEST_OPTION < h.length → text ≡ refused h.option TooBig →
+  pub long_option : (h : OptionHead) (content text : List ℕ) → IsHead h → length content ≡ h.length → LONGEST_OPTION < h.length → h.option ≢ ExportName → text ≡ refused h.option TooBig →
       (let x : AnsweredOption = record { option = h.option; content = content; answer = text } in IsAnsweredOption e zeroes x None)
-  long_option h content text is long many answer = record {
+  long_option h content text is long many other answer = record {
     known = is.known;
     code = is.code;
     short = subst (λ (n : ℕ). n < 2 ^ 32) (sym long) is.length;
-    answer = inr (subst (λ (n : ℕ). LONGEST_OPTION < n) (sym long) many, answer, refl);
+    answer = inr (subst (λ (n : ℕ). LONGEST_OPTION < n) (sym long) many, other, answer, refl);
   }
+
+  -- such an option doesn't carry the name of the export
+  pub long_name : (content : List ℕ) → length e.name ≤ LONGEST_NAME → LONGEST_OPTION < length content → IsNamed e.name content → ⊥
+  long_name content few many named = elim named [ inl none ↦ omega (arith, many, ap length none) | inr same ↦ omega (arith, few, many, ap length same) ]
 
   -- as far as the loop has come
   pub record Negotiated (from : Streams) (count : ℕ) (now : Streams) : Type 0 where

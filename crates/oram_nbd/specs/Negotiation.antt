@@ -1,5 +1,5 @@
 -- What is read and written in a handshake, up to its end or a fault.
-use Rattle.std.specs.Prelude.{◌≡◌, ◌⊎◌, ℕ, ◌<◌, ◌≤◌, ◌^◌, List, [], ◌++◌, length, take, Bool, Option, Some, None, All}
+use Rattle.std.specs.Prelude.{◌≡◌, ◌≢◌, ◌⊎◌, ℕ, ◌<◌, ◌≤◌, ◌^◌, List, [], ◌++◌, length, take, Bool, Option, Some, None, All}
 use Rattle.std.specs.Int.{w32, to_be_bytes}
 use Rattle.std.specs.List.{flat_map}
 use Rattle.std.specs.Io.KnownBytes.{Appends, Consumes, IsAtEnd}
@@ -67,11 +67,12 @@ StopsGreeting Stopped before after = ⊥
 
 -- for this export
 module _ (e : ExportValue) where
-  -- an option that carries too much is refused, whichever it is
+  -- An option that carries too much is refused, whichever it is, except EXPORT_NAME: the client would take any reply to
+  -- that one for the size of the export.
   abbrev pub IsAnswered : Bool → HandshakeOption → List ℕ → List ℕ → Option Agreement → Type 0
   IsAnswered zeroes o content text ends =
       ((length content ≤ LONGEST_OPTION) × Answers e zeroes o content text ends)
-      ⊎ ((LONGEST_OPTION < length content) × (text ≡ refused o TooBig) × (ends ≡ None))
+      ⊎ ((LONGEST_OPTION < length content) × (o ≢ ExportName) × (text ≡ refused o TooBig) × (ends ≡ None))
 
   -- the option is answered so, and ends the handshake in this way, or the handshake goes on
   pub record IsAnsweredOption (zeroes : Bool) (x : AnsweredOption) (ends : Option Agreement) : Type 0 where

@@ -13,7 +13,7 @@ ghost use Rattle.oram_nbd.specs.Negotiation.{AnsweredOption, HasAgreed, IsAnswer
 use crate::faults::NbdFault;
 use crate::handshake::{Agreement, Export, bare_reply};
 use crate::numbers::number_u32;
-use crate::options::{OptionHead, ReplyKind};
+use crate::options::{HandshakeOption, OptionHead, ReplyKind};
 use crate::streams::{next_head, send, skip};
 use crate::{LONGEST_OPTION, MOST_OPTIONS};
 use oram_wire::{fill, read_body};
@@ -87,6 +87,10 @@ fn take_option<R: Read, W: Write>(
 {
     if head.length > LONGEST_OPTION {
         skip(reader, u64::from(head.length))?;
+        // The export's name isn't as long. A client would take any reply to EXPORT_NAME for the size of the export.
+        if head.option == HandshakeOption::ExportName {
+            return Err(NbdFault::UnknownExport);
+        }
         let answer = bare_reply(alloc, head.option, ReplyKind::TooBig)?;
         send(writer, &answer, &[])?;
         return Ok(None);
@@ -101,8 +105,9 @@ fn take_option<R: Read, W: Write>(
 
 /// Agrees with a client on the export.
 ///
-/// It refuses an option that carries more than `LONGEST_OPTION` bytes, and skips these bytes. It fails with
-/// `TooManyOptions` after `MOST_OPTIONS` options that don't end the handshake.
+/// It refuses an option that carries more than `LONGEST_OPTION` bytes, and skips these bytes. At an EXPORT_NAME it fails
+/// with `UnknownExport` then, as at each name that isn't the export's. It fails with `TooManyOptions` after `MOST_OPTIONS`
+/// options that don't end the handshake.
 pub fn negotiate<R: Read, W: Write>(
     alloc: Global,
     reader: &mut R,

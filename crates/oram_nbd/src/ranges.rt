@@ -55,6 +55,7 @@ impl Cover {
         ensures start { result.start < D.block_len disk.now }
         ensures some { 0 < result.count }
     {
+        // For the proof alone: the call's contract says what is known of the device's size.
         let _blocks = disk.blocks();
         Cover::over(u64::from(disk.block_bytes()), at, len)
     }
@@ -73,6 +74,7 @@ pub(crate) fn read_blocks<D: BlockDevice>(
         × IfOk result (λ v. v.items ≡ bytes_at old.held (D.block_len disk.old * first) (D.block_len disk.old * count)) × FailsByLies result may_lie) disk.new }
     ensures call { IsCall D.block_len D.size D.failed (IsStopped D.stops disk.new) disk.old result disk.new }
 {
+    // For the proof alone: the call's contract says what is known of the device's size.
     let _blocks = disk.blocks();
     let block = u64::from(disk.block_bytes());
     let operation = Operation::Read {
@@ -98,6 +100,7 @@ fn write_blocks<D: BlockDevice>(
     ensures goes { GoesOn D.had D.hears (HasArrays D.holds D.kept) disk.old (Writes (D.block_len disk.old * first) payload result) disk.new }
     ensures call { IsCall D.block_len D.size D.failed (IsStopped D.stops disk.new) disk.old result disk.new }
 {
+    // For the proof alone: the call's contract says what is known of the device's size.
     let _blocks = disk.blocks();
     let operation = Operation::Write {
         at: u64::from(disk.block_bytes()) * first,
@@ -138,6 +141,7 @@ fn write_covered<D: BlockDevice>(
     ensures goes { GoesOn D.had D.hears (HasArrays D.holds D.kept) disk.old (Writes (D.block_len disk.old * cover.first + cover.start) payload.now result) disk.new }
     ensures call { IsCall D.block_len D.size D.failed (IsStopped D.stops disk.new) disk.old result disk.new }
 {
+    // For the proof alone: the call's contract says what is known of the device's size.
     let _blocks = disk.blocks();
     if payload.len() as u64 == u64::from(disk.block_bytes()) * cover.count {
         let copied = Bytes::copy(alloc, payload)?;
@@ -161,7 +165,11 @@ struct Edges {
 fn joined(alloc: Global, first: &[u8], middle: &[u8], last: &[u8]) -> Result<Vec<u8>, AllocError>
     ensures { IfOk result (λ v. v.items ≡ first.now ++ middle.now ++ last.now) }
 {
-    let mut whole = Vec::with_capacity(alloc, middle.len())?;
+    let len = first
+        .len()
+        .saturating_add(middle.len())
+        .saturating_add(last.len());
+    let mut whole = Vec::with_capacity(alloc, len)?;
     whole.extend_from_slice(first)?;
     whole.extend_from_slice(middle)?;
     whole.extend_from_slice(last)?;
@@ -230,6 +238,7 @@ fn read_edges<D: BlockDevice>(
         (e.before ≡ take cover.start blocks) × (e.after ≡ drop (cover.start + len) blocks)) × FailsByLies result may_lie) disk.new }
     ensures call { IsCall D.block_len D.size D.failed (IsStopped D.stops disk.new) disk.old result disk.new }
 {
+    // For the proof alone: the call's contract says what is known of the device's size.
     let _blocks = disk.blocks();
     let block = u64::from(disk.block_bytes());
     let at = block * cover.first;
@@ -264,6 +273,7 @@ pub(crate) fn write_range<D: BlockDevice>(
     ensures goes { GoesOn D.had D.hears (HasArrays D.holds D.kept) disk.old (Writes offset payload.now result) disk.new }
     ensures call { IsCall D.block_len D.size D.failed (IsStopped D.stops disk.new) disk.old result disk.new }
 {
+    // For the proof alone: the call's contract says what is known of the device's size.
     let _blocks = disk.blocks();
     let len = payload.len() as u64;
     if len == 0 {
@@ -302,6 +312,7 @@ fn zero_between<D: BlockDevice>(
         (Writes (D.block_len disk.old * cover.first) (edges.now.before ++ zeroes len ++ edges.now.after) result) disk.new }
     ensures call { IsCall D.block_len D.size D.failed (IsStopped D.stops disk.new) disk.old result disk.new }
 {
+    // For the proof alone: the call's contract says what is known of the device's size.
     let _blocks = disk.blocks();
     let block = u64::from(disk.block_bytes());
     let at = block * cover.first;
@@ -344,6 +355,7 @@ pub(crate) fn zero_range<D: BlockDevice>(
     ensures goes { GoesOn D.had D.hears (HasArrays D.holds D.kept) disk.old (Writes offset (zeroes count) result) disk.new }
     ensures call { IsCall D.block_len D.size D.failed (IsStopped D.stops disk.new) disk.old result disk.new }
 {
+    // For the proof alone: the call's contract says what is known of the device's size.
     let _blocks = disk.blocks();
     if count == 0 {
         return Ok(());

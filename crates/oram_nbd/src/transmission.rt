@@ -46,6 +46,7 @@ fn carry_out_batch<W: Write, D: BlockDevice>(
     ensures stopped { IfErr result (λ fault. fault ≡ NbdFault.Stopped → IsStopped D.stops disk.new) }
     ensures stays { Stays D.block_len D.size D.failed disk.old disk.new }
 {
+    // For the proof alone: the call's contract says what is known of the device's size.
     let _blocks = disk.blocks();
     if !is_any_accepted(&batch.requests, sizes.size) {
         return put_refusals(writer, sizes.size, &batch.requests, NbdError::NoMemory);
@@ -119,6 +120,7 @@ pub fn transmit<R: Read + Arrived, W: Write, D: BlockDevice>(
     for _batch_number in 0..MOST_BATCHES {
         let (batch, close) = gather(alloc, reader, sizes);
         carry_out_batch(alloc, writer, disk, sizes, &batch)?;
+        // For the proof alone: the call's contract says what is known of the device's size.
         let _blocks = disk.blocks();
         let without_memory = refuse_without_memory(writer, sizes.size, close)?;
         flush(writer)?;

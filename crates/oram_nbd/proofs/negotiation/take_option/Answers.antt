@@ -1,10 +1,12 @@
-use Rattle.std.proofs.Common.{List, ℕ, None, refl, ◌∙◌, subst}
+use Rattle.std.proofs.Common.{◌<◌, List, ℕ, None, refl, sym, ◌∙◌, subst, arith}
 use Rattle.std.specs.Io.KnownBytes.{Appends}
+use Rattle.std.proofs.KnownBytes.{Appends-nil}
 use Rattle.std.proofs.lemmas.Result.{err_from_is_err_and}
+use Rattle.oram_nbd.specs.declared.TheConstants.{LONGEST_OPTION}
 use Rattle.oram_nbd.specs.Handshake.{export_value, Answers, ExportValue}
 use Rattle.oram_nbd.specs.Negotiation.{AnsweredOption}
 use Rattle.oram_nbd.specs.Streams.{IsBegunText}
-use Rattle.oram_nbd.proofs.Negotiated.{long_option, short_option}
+use Rattle.oram_nbd.proofs.Negotiated.{long_name, long_option, short_option}
 use Rattle.oram_nbd.proofs.Pieces.{appends_same, begun_same, if_err}
 use Rattle.oram_nbd.proofs.negotiation.take_option.Goals as goal
 
@@ -19,7 +21,7 @@ returns-in_err-send-clause-err g c =
     let x : AnsweredOption = record { option = c.args.head.option; content = skipped.0; answer = text } in
     let long = skipped.1 ∙ c.from.ensures in
     if_err _ _ _ _ p.1 (p.2 ∙ c.in_err-send.ensures.err.0)
-    (x, None, refl, long, long_option e c.args.zeroes c.args.head skipped.0 text c.requires.head long c.if-head-gt-LONGEST_OPTION.true (c.deref.ensures.value ∙ c.in_ok-answer.ensures), skipped.2, begun_same _ _ text c.in_err-send.ensures.err.1)
+    (x, None, refl, long, long_option e c.args.zeroes c.args.head skipped.0 text c.requires.head long c.if-head-gt-LONGEST_OPTION.true (λ same. grind (arith, c.eq.ensures, c.if-eq.false, same)) (c.deref.ensures.value ∙ c.in_ok-answer.ensures), skipped.2, begun_same _ _ text c.in_err-send.ensures.err.1)
 
 pub returns-then-head-gt-LONGEST_OPTION-clause-ok : goal.returns-then-head-gt-LONGEST_OPTION-clause-ok
 returns-then-head-gt-LONGEST_OPTION-clause-ok g c =
@@ -28,7 +30,14 @@ returns-then-head-gt-LONGEST_OPTION-clause-ok g c =
     let text = c.deref.result.now in
     let x : AnsweredOption = record { option = c.args.head.option; content = skipped.0; answer = text } in
     let long = skipped.1 ∙ c.from.ensures in
-    (x, refl, long, long_option e c.args.zeroes c.args.head skipped.0 text c.requires.head long c.if-head-gt-LONGEST_OPTION.true (c.deref.ensures.value ∙ c.in_ok-answer.ensures), skipped.2, appends_same _ _ text c.in_ok-send.ensures.ok)
+    (x, refl, long, long_option e c.args.zeroes c.args.head skipped.0 text c.requires.head long c.if-head-gt-LONGEST_OPTION.true (λ same. grind (arith, c.eq.ensures, c.if-eq.false, same)) (c.deref.ensures.value ∙ c.in_ok-answer.ensures), skipped.2, appends_same _ _ text c.in_ok-send.ensures.ok)
+
+pub returns-then-eq-clause-err : goal.returns-then-eq-clause-err
+returns-then-eq-clause-err g c =
+    let skipped = c.in_ok-skip.ensures.ok in
+    let long = skipped.1 ∙ c.from.ensures in
+    let e : ExportValue = export_value c.args.export.now.name.now c.args.export.now.size c.args.export.now.preferred in
+    (skipped.0, grind (arith, c.eq.ensures, c.if-eq.true), long, long_name e c.args.zeroes skipped.0 c.requires.name (subst (λ (n : ℕ). LONGEST_OPTION < n) (sym long) c.if-head-gt-LONGEST_OPTION.true), skipped.2, Appends-nil (g.W.Write.contents c.args.writer.now))
 
 -- one that is answered
 
