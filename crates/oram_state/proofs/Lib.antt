@@ -10,3 +10,4 @@ pub mod Framed
 pub mod Counted
 pub mod Sized
 pub mod Rows
+pub mod Refusals

@@ -1,6 +1,6 @@
 //! Reads a core from its file, or from the fields of the file.
 
-ghost use Rattle.std.specs.Prelude.{◌≡◌, IfOk, IfErr};
+ghost use Rattle.std.specs.Prelude.{◌≡◌, ◌⊎◌, IfOk, IfErr};
 ghost use Rattle.oram_geometry.specs.declared.Sizes.{Sizes};
 ghost use Rattle.oram_semantics.specs.State.{State};
 ghost use Rattle.oram_state.specs.DecodedCore.{AreSavedFields, IsFaultIn, IsSaved};
@@ -51,6 +51,7 @@ pub fn decode_fields<S: Sealer>(
         → IfOk result (λ c. (c.device ≡ d) × (c.state ≡ s)) }
     ensures only { (d : Sizes) (s : State) → AreSavedFields fields.now (S.cipher sealer).overhead d s
         → IfErr result (λ fault. fault ≡ StateFault.OutOfMemory) }
+    ensures fault { IfErr result (λ fault. (fault ≡ StateFault.Content) ⊎ (fault ≡ StateFault.OutOfMemory)) }
 {
     let Saved { overhead, parts } = read_bare_fields(alloc, fields)?;
     if overhead as usize != sealer.overhead() {

@@ -1,6 +1,6 @@
 //! Reads a file.
 
-ghost use Rattle.std.specs.Prelude.{ℕ, IfOk, Ok};
+ghost use Rattle.std.specs.Prelude.{◌≡◌, ◌⊎◌, ℕ, IfErr, IfOk, Ok};
 ghost use Rattle.oram_core.specs.Parts.{Parts as PartsValue};
 ghost use Rattle.oram_state.specs.WellSized.{AreFieldsOf, IsFileOf};
 ghost use Rattle.oram_state.specs.Parser.{Gives, next_head, next_saved, saved_in, state_in};
@@ -112,6 +112,7 @@ pub(crate) fn read_bare_fields(alloc: Global, fields: &[u8]) -> Result<Saved, St
     // It reads all fields, unless memory runs out.
     ensures only { (overhead : ℕ) (p : PartsValue) → AreFieldsOf fields.now overhead p
         → Gives (λ saved. saved) result (Ok (record { overhead = overhead; parts = p })) }
+    ensures fault { IfErr result (λ fault. (fault ≡ StateFault.Content) ⊎ (fault ≡ StateFault.OutOfMemory)) }
 {
     read_fields(alloc, fields, VERSION)
 }
