@@ -32,6 +32,13 @@ kept_text stores fields = with_checksum (stores_text stores ++ fields)
 abbrev pub AreCounted : List (List ℕ) → Type 0
 AreCounted stores = (length stores < 2 ^ 64) × AllByRecursion (λ store. length store < 2 ^ 64) stores
 
+-- the bytes are some STOREs and some fields, with their checksum; whether the fields are a core's isn't said
+pub record IsWhole (bytes : List ℕ) : Type 0 where
+  pub stores : List (List ℕ)
+  pub fields : List ℕ
+  pub counted : AreCounted stores
+  pub all : bytes ≡ kept_text stores fields
+
 -- the bytes have these STOREs and this core, of a device whose sealed buckets have this overhead
 pub record IsFileOf (overhead : ℕ) (device : Sizes) (bytes : List ℕ) (stores : List (List ℕ)) (core : State) : Type 0 where
   pub counted : AreCounted stores

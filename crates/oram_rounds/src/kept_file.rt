@@ -12,7 +12,7 @@ ghost use Rattle.oram_geometry.specs.declared.Sizes.{Sizes};
 ghost use Rattle.oram_semantics.specs.State.{State};
 ghost use Rattle.oram_core.specs.Core.{scheme_of};
 ghost use Rattle.oram_rounds.specs.Batches.{texts};
-ghost use Rattle.oram_rounds.specs.Files.{AreCounted, IsFile, IsFileOf, checksum, kept_text, store_text, stores_text, with_checksum};
+ghost use Rattle.oram_rounds.specs.Files.{AreCounted, IsFile, IsFileOf, IsWhole, checksum, kept_text, store_text, stores_text, with_checksum};
 
 use crate::lists::push;
 use oram_bucket::Sealer;
@@ -66,9 +66,9 @@ impl From<AllocError> for KeptCoreFault {
 
 impl From<StateFault> for KeptCoreFault {
     ghost use Rattle.oram_state.specs.declared.fault.StateFault.TheVariants as state;
-    ghost use Rattle.oram_rounds.specs.declared.kept_file.KeptCoreFault.TheVariants.{OutOfMemory};
+    ghost use Rattle.oram_rounds.specs.declared.kept_file.KeptCoreFault.TheVariants.{Core, OutOfMemory};
 
-    ghost from_gives = { λ fault f. fault ≡ state.OutOfMemory → f ≡ OutOfMemory };
+    ghost from_gives = { λ fault f. (fault ≡ state.OutOfMemory → f ≡ OutOfMemory) × (fault ≢ state.OutOfMemory → f ≡ Core fault) };
 
     fn from(fault: StateFault) -> KeptCoreFault {
         match fault {
@@ -232,6 +232,8 @@ pub fn decode_kept<S: Sealer>(
         → IfOk result (λ kept. (texts kept.stores.items ≡ stores) × (kept.core.device ≡ d) × (kept.core.state ≡ core)) }
     ensures only { (d : Sizes) (stores : List (List ℕ)) (core : State) → IsFileOf (S.cipher sealer).overhead d file.now stores core
         → IfErr result (λ fault. fault ≡ KeptCoreFault.OutOfMemory) }
+    ensures torn { IsErrOf result KeptCoreFault.Torn → ¬ IsWhole file.now }
+    ensures core { (fault : StateFault) → IsErrOf result (KeptCoreFault.Core fault) → IsWhole file.now × (fault ≡ StateFault.Content) }
 {
     let (stores, fields) = split_kept(alloc, file)?;
     match decode_fields(alloc, sealer, fields) {

@@ -19,4 +19,4 @@ returns-in-Err-clause-only g c = λ d stores core f.
     let same = kept_same (texts c.in_ok-stores.stores.items) stores c.in_ok-stores.fields.now f.fields read.counted f.counted (sym read.ok ∙ f.all) in
     let again : AreSavedFields c.in_ok-stores.fields.now (g.S.Sealer.cipher c.args.sealer).overhead d core =
     subst (λ (text : List ℕ). AreSavedFields text (g.S.Sealer.cipher c.args.sealer).overhead d core) (sym same.1) f.saved in
-    c.from.ensures (c.in-Err.ensures.only d core again)
+    c.from.ensures.0 (c.in-Err.ensures.only d core again)
