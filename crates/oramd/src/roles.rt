@@ -104,13 +104,13 @@ fn format_under<R: Files + Net + AllocGlobal>(
 
 /// Carries out the commands that wait in the core, and then answers `connections` sessions, one after the other,
 /// numbered from 0.
-fn sessions<L: OpenListener, S: Sealer, H: Link, T: Tape>(
+fn sessions<L: OpenListener, S: Sealer, H: Link, T: Tape + Drop>(
     alloc: Global,
     listener: &L,
     connections: u64,
     core: &mut Core<S>,
     link: &mut H,
-    tape: &mut T,
+    tape: &mut RoomyTape<T>,
 ) -> Result<(), Fault>
 where
     L::Stream: Read + Write + OpenStream,
@@ -121,6 +121,7 @@ where
         let (mut reader, mut writer) = next_connection(alloc, listener)?;
         let ended = serve(alloc, &mut reader, &mut writer, core, link, tape, session);
         after_serving(ended)?;
+        tape.renew(alloc, core)?;
     }
     Ok(())
 }

@@ -17,6 +17,13 @@ const MARGIN: usize = 3 << 20;
 /// The bytes that the allocator needs besides each of two copies of a block.
 const BESIDE_A_BLOCK: usize = 64;
 
+/// Takes the room that saving the present state of this core needs.
+fn room_for<S: Sealer>(alloc: Global, core: &Core<S>) -> Result<Vec<u8>, AllocError> {
+    let file = encode_state(alloc, core)?;
+    // The file, and the copy of the core's parts from which it is written.
+    Vec::with_capacity(alloc, file.len().saturating_mul(4).saturating_add(MARGIN))
+}
+
 /// A tape that holds room for saving the state of its device, and takes more before a command that may need it.
 ///
 /// A proxy saves its state when it ends, even if it ends because it is out of memory. Otherwise the next proxy would go
@@ -41,16 +48,27 @@ impl<T: Drop> RoomyTape<T> {
     ) -> Result<RoomyTape<T>, AllocError> {
         let device = core.device();
         let block = device.block_bytes().saturating_add(BESIDE_A_BLOCK);
-        let file = encode_state(alloc, core)?;
-        // The file, and the copy of the core's parts from which it is written.
-        let need = file.len().saturating_mul(4).saturating_add(MARGIN);
         Ok(RoomyTape {
             tape,
-            held: Vec::with_capacity(alloc, need)?,
+            held: room_for(alloc, core)?,
             commands: 0,
             // A command adds at most one block to the stash of each tree.
             growth: usize::from(device.trees()).saturating_mul(2 * block),
         })
+    }
+
+    /// Takes the room that saving the present state of this core needs, in place of all that it holds. What earlier commands
+    /// might have added to the stashes has long left them, so between two sessions there is less to hold.
+    pub(crate) fn renew<S: Sealer>(
+        &mut self,
+        alloc: Global,
+        core: &Core<S>,
+    ) -> Result<(), AllocError>
+        ensures tape { self.new.tape ≡ self.old.tape }
+    {
+        self.held = room_for(alloc, core)?;
+        self.commands = 0;
+        Ok(())
     }
 
     /// Takes the room for [`COMMANDS`] further commands.
