@@ -7,7 +7,7 @@ use Rattle.oram_cli.specs.declared.hosts.HostFault.TheVariants as host
 use Rattle.oram_settings.specs.declared.differences.FixedKey.{FixedKey}
 use Rattle.oram_settings.specs.declared.differences.FixedKey.TheVariants as fixed
 use Rattle.oram_disk_host.specs.declared.kinds.FaultKind.{FaultKind}
-use Rattle.oram_disk_host.specs.declared.kinds.FaultKind.TheVariants.{CommandLine, Settings, File, Unformatted, Address, NotABucketFile, OlderFile, NewerFile, WithoutLog, LogOfAnotherFile, LogWithoutFile, Damaged, Busy, NoFile, FileExists, Exists, Formatted, NotADisk, OlderState, WrongKey, Changed, Host, StateNotKept, UsedUp, InUse, Failed, NotFailed}
+use Rattle.oram_disk_host.specs.declared.kinds.FaultKind.TheVariants.{CommandLine, Settings, File, Unformatted, Address, NotABucketFile, OlderFile, NewerFile, WithoutLog, LogOfAnotherFile, LogWithoutFile, Damaged, Busy, NoFile, FileExists, Exists, Formatted, NotADisk, OlderState, ReplacedState, WrongKey, Changed, Host, StateNotKept, UsedUp, InUse, Failed, NotFailed}
 
 -- the text before the name of the settings with a changed value
 abbrev pub changed : FixedKey → List ℕ
@@ -80,6 +80,7 @@ rest Exists = codes " is there already, and is left as it is: name another folde
 rest Formatted = codes " is there already, and is left as it is: to format anew, take it away, and name a new file at the host\n"
 rest NotADisk = codes " isn't the state of a disk, and is left as it is: see that the settings name the right file\n"
 rest OlderState = codes " is the state of a disk of an older version, and is left as it is: serve it with that version, and copy what is in it to a new disk\n"
+rest ReplacedState = codes " is an older state of its disk, and nothing was stored by it: put the newest one back\n"
 rest WrongKey = codes " isn't this disk's: put the one back that it was formatted with\n"
 rest (Changed key) = codes " isn't what it was when the disk was formatted: put it back\n"
 rest (Host why) = host_rest why
@@ -94,7 +95,7 @@ rest NotFailed = codes " has not failed, and is left as it is: oramdisk serve se
 -- a state that can't be kept; 14: no access left; 16: a disk in use; 17: a disk that has failed; 18: a disk that
 -- hasn't; 19: a host's file that is missing; 20 to 22: a host with another disk, with none, or without room; 23, 24: a
 -- key or another value that isn't the one of the formatting; 25: a host's file of another version; 26: a file without
--- its log, or a log without its file
+-- its log, or a log without its file; 27: a state that was replaced by a newer one
 abbrev pub status : FaultKind → ℕ
 status CommandLine = 2
 status Settings = 2
@@ -128,3 +129,4 @@ status NewerFile = 25
 status WithoutLog = 26
 status LogOfAnotherFile = 26
 status LogWithoutFile = 26
+status ReplacedState = 27

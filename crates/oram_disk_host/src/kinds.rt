@@ -47,6 +47,8 @@ pub enum FaultKind {
     NotADisk,
     /// The file of this name is the state of a disk, in an older form.
     OlderState,
+    /// The file of this name is a state of its disk that was replaced by a newer one since, with which the host's records go.
+    ReplacedState,
     /// The key in the settings of this name isn't the one that the disk was formatted with.
     WrongKey,
     /// The value of a key in the settings of this name isn't the one that the disk was formatted with.
@@ -171,6 +173,8 @@ impl FaultKind {
                 " isn't the state of a disk, and is left as it is: see that the settings name the right file\n",
             FaultKind::OlderState =>
                 " is the state of a disk of an older version, and is left as it is: serve it with that version, and copy what is in it to a new disk\n",
+            FaultKind::ReplacedState =>
+                " is an older state of its disk, and nothing was stored by it: put the newest one back\n",
             FaultKind::WrongKey =>
                 " isn't this disk's: put the one back that it was formatted with\n",
             FaultKind::Changed(_) =>
@@ -216,6 +220,7 @@ impl FaultKind {
             FaultKind::Changed(_) => 24,
             FaultKind::OlderFile | FaultKind::NewerFile => 25,
             FaultKind::WithoutLog | FaultKind::LogOfAnotherFile | FaultKind::LogWithoutFile => 26,
+            FaultKind::ReplacedState => 27,
         }
     }
 }
