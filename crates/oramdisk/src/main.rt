@@ -2,6 +2,7 @@
 #![tactic(auto)]
 
 mod clients;
+mod newest;
 mod serve_command;
 mod watched_disk;
 

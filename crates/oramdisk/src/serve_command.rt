@@ -1,6 +1,7 @@
 //! Serves a disk to NBD clients, one connection after the other.
 
 use crate::clients::{ClientAttendant, Dismissal};
+use crate::newest::is_replaced;
 use crate::watched_disk::{FailureKeeper, WatchedDisk};
 use oram_bucket::{ChaChaSeal, PlainSeal, Sealer};
 use oram_client::{
@@ -14,7 +15,7 @@ use oram_disk_client::{
 use oram_disk_host::{Fault, FaultKind, listen_at, not_accepted, time};
 use oram_nbd::{BlockDevice, DiskFault, NbdFault, is_stop, serve};
 use oram_rounds::{BatchLink, Keeper, KeptCore, RoundLink, record_len};
-use oram_session::{ChaChaTape, Tape};
+use oram_session::{ChaChaTape, LinkFault, Tape};
 use oram_settings::{DiskSettings, counted, failure_text, relative_to, serving_text};
 use oram_sockets::{Connection, Listener, Peer, listen_at_path, watch};
 use oram_volume::Volume;
@@ -292,8 +293,26 @@ fn link_to<'a>(
     Ok(ReconnectLink::new(alloc, dialer, watch, settings.reconnect_timeout))
 }
 
+/// Fails if the host has records of a newer state of the disk than the one in the file of the settings, or has gone.
+fn check_newest<S: Sealer>(
+    alloc: Global,
+    link: &mut HostLink<'_>,
+    settings: &DiskSettings,
+    core: &Core<S>,
+) -> Result<(), Fault> {
+    match is_replaced(alloc, link, core) {
+        Ok(false) => Ok(()),
+        Ok(true) => Err(named(alloc, FaultKind::ReplacedState, settings.state.as_str())),
+        Err(LinkFault::OutOfMemory) => Err(Fault::OutOfMemory),
+        Err(_) => {
+            let why = FaultKind::Host(given_up(link.trouble()));
+            Err(named(alloc, why, settings.host.as_str()))
+        }
+    }
+}
+
 /// Returns the link of a process to its host, at which its STOREs wait. It first asks the host whether it keeps this
-/// disk.
+/// disk, and whether the state is the newest one.
 fn reached<'a, S: Sealer>(
     rt: &'a HostRuntime,
     settings: &DiskSettings,
@@ -311,6 +330,7 @@ fn reached<'a, S: Sealer>(
         }
     }
     let KeptCore { stores, core } = kept;
+    check_newest(alloc, &mut link, settings, &core)?;
     let device = core.device().copy();
     match RoundLink::with_kept(alloc, link, device, record_len(&core), stores) {
         Some(link) => Ok((core, link)),
