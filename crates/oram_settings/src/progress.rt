@@ -15,9 +15,7 @@ pub fn percent(done: u64, of: u64) -> u64
     (u128::from(done) * 100 / u128::from(of)) as u64
 }
 
-/// Returns in how many whole seconds the rest will be done, at the pace of the `milliseconds` so
-/// far.
-/// so far.
+/// Returns in how many whole seconds the rest will be done, at the pace of the `milliseconds` so far.
 fn seconds_left(done: u64, of: u64, milliseconds: u64) -> u64
     ensures { result ≡ spec.seconds_left done of milliseconds }
 {

@@ -15,8 +15,9 @@ pub struct Status {
     pub block_bytes: u64,
     /// The number of trees in which its blocks and its position maps lie.
     pub trees: u8,
-    /// The number of accesses that were made, and the greatest number that may be made.
+    /// The number of accesses: one for each command that was accepted, those that wait among them.
     pub accesses: u64,
+    /// The greatest number of accesses that a disk ever makes.
     pub lifetime: u64,
     /// The number of commands that have no reply yet.
     pub waiting: u64,
