@@ -8,7 +8,7 @@ from pathlib import Path
 
 from trials.connections import FrameClient, connect
 from trials.ports import free_port
-from trials.processes import LONGEST_WAIT
+from trials.processes import LONGEST_WAIT, begin
 from trials.settings import toml_of
 
 TIME = r"\d{4}-\d\d-\d\dT\d\d:\d\d:\d\dZ"
@@ -49,7 +49,7 @@ class Host:
         self.log = open(self.folder / "log", "ab")
         new = [] if self.path().exists() else ["--new"]
         words = [*under, self.oramdisk, "host", *new, "host.toml"]
-        self.process = subprocess.Popen(words, cwd=self.folder, stdin=subprocess.DEVNULL, stdout=subprocess.DEVNULL, stderr=self.log)
+        self.process = begin(words, cwd=self.folder, stdin=subprocess.DEVNULL, stdout=subprocess.DEVNULL, stderr=self.log)
         return self
 
     def stop(self, how=signal.SIGTERM):

@@ -8,7 +8,7 @@ from trials.bucket_host import Host
 from trials.connections import connect
 from trials.nbd_client import NbdClient
 from trials.ports import free_port
-from trials.processes import LONGEST_WAIT, end_of
+from trials.processes import LONGEST_WAIT, begin, end_of
 from trials.relay import Relay
 from trials.settings import put_values
 
@@ -73,7 +73,7 @@ class Disk:
         self.log = open(self.folder / "serve.log", "ab")
         words = [*under, self.trial.oramdisk, "serve", "disk.toml"]
         how = {"stdin": subprocess.DEVNULL, "stdout": subprocess.DEVNULL, "stderr": self.log}
-        self.process = subprocess.Popen(words, cwd=self.folder, **how)
+        self.process = begin(words, cwd=self.folder, **how)
         return self
 
     def stop(self, how=signal.SIGTERM):

@@ -1,9 +1,14 @@
 """Processes that a trial starts, and how they end."""
 
+import atexit
+import os
+import signal
 import subprocess
 
 # The seconds that a trial waits for a connection, a reply or the end of a process.
 LONGEST_WAIT = 60
+# The processes that were begun, in order.
+BEGUN = []
 
 
 class Ended:
@@ -16,10 +21,30 @@ class Ended:
         return f"status {self.status}, standard output {self.out!r}, standard error {self.err!r}"
 
 
+def begin(words, **how):
+    """Starts a process. It and those that it starts are a group of their own, which ends with the trial at the latest."""
+    BEGUN.append(subprocess.Popen(words, start_new_session=True, **how))
+    return BEGUN[-1]
+
+
+def number_begun():
+    """How many processes were begun so far."""
+    return len(BEGUN)
+
+
+@atexit.register
+def end_all_since(number=0):
+    """Kills what still runs of the processes that were begun behind so many others."""
+    for process in BEGUN[number:]:
+        if process.poll() is None:
+            os.killpg(process.pid, signal.SIGKILL)
+            process.wait()
+
+
 def start(words, folder, **more):
     """Starts a program in a folder, without input, and with pipes for what it writes."""
     pipes = {"stdin": subprocess.DEVNULL, "stdout": subprocess.PIPE, "stderr": subprocess.PIPE}
-    return subprocess.Popen(words, cwd=folder, **pipes, **more)
+    return begin(words, cwd=folder, **pipes, **more)
 
 
 def end_of(process):

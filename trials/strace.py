@@ -1,5 +1,6 @@
 """The system calls of a process, as strace sees and disturbs them."""
 
+import functools
 import re
 import shutil
 import signal
@@ -10,8 +11,10 @@ from pathlib import Path
 from trials.processes import end_of, start
 
 
-def is_here():
-    return shutil.which("strace") is not None
+@functools.cache
+def is_usable():
+    """Whether strace is here, and the system lets it trace."""
+    return shutil.which("strace") is not None and subprocess.run(["strace", "-o", "/dev/null", "true"], capture_output=True).returncode == 0
 
 
 def killing_before(calls, when):
@@ -28,9 +31,9 @@ def trace_renames_and_syncs(folder, *words):
     """Runs a program to its end. Returns how it ended, and its renames and syncs that were done, in order: each as the call with the new
     name or the file. Returns None for both if strace can't be used."""
     with tempfile.NamedTemporaryFile() as found:
-        tracer = ["strace", "-f", "-y", "-o", found.name, "-e", "trace=fsync,fdatasync,rename,renameat,renameat2"]
-        if not is_here() or subprocess.run([*tracer, "true"], capture_output=True).returncode:
+        if not is_usable():
             return None, None
+        tracer = ["strace", "-f", "-y", "-o", found.name, "-e", "trace=fsync,fdatasync,rename,renameat,renameat2"]
         end = end_of(start([*tracer, *words], folder))
         text = Path(found.name).read_text()
     calls = re.findall(r'(sync)\(\d+<([^>]*)>\) += 0|(rename)\w*\(.*"([^"\n]*)"[^"\n]*\) += 0', text)

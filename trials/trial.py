@@ -23,7 +23,7 @@ class Trial:
 
     def __init__(self, oramdisk, oramd, folder, dice):
         self.oramdisk, self.oramd, self.folder, self.dice = str(oramdisk), str(oramd), Path(folder), dice
-        self.tally, self.skipped = Tally(), 0
+        self.tally = Tally()
 
     def check(self, what, holds, seen=""):
         self.tally.check(what, holds, seen)
@@ -31,11 +31,11 @@ class Trial:
     def ends(self, what, process, status, line):
         self.tally.ends(what, process, status, line)
 
+    def try_part(self, part, *arguments):
+        self.tally.try_part(part, self, *arguments)
+
     def skip(self, why=None):
-        """Counts a part that can't be tried here, and prints why if that is given."""
-        self.skipped += 1
-        if why:
-            print(why, flush=True)
+        self.tally.skip(why)
 
     def host(self, name):
         """A host with a folder of this name."""
@@ -46,11 +46,6 @@ class Trial:
         return start([self.oramdisk, *words], folder or self.folder)
 
     def report(self):
-        """Prints the last lines of the trial, and returns the status that its script ends with. What was skipped counts as failed if CI is
-        set, since nobody sees it there."""
-        print(f"{self.skipped} skipped")
-        if os.environ.get("CI"):
-            self.tally.failed += self.skipped
         return self.tally.report()
 
 

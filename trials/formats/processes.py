@@ -11,6 +11,7 @@ from trials.connections import connect, open_connection
 from trials.formats.reader import Misread, Reader
 from trials.formats.state_file import read_state
 from trials.ports import free_port
+from trials.processes import begin
 from trials.settings import put_values
 
 # The seconds that these trials wait for a process or a reply.
@@ -98,7 +99,7 @@ class DiskFolder:
         return bytes.fromhex(re.search(r'^key = "([0-9a-f]{64})"$', text, re.MULTILINE)[1])
 
     def start(self, *words):
-        return subprocess.Popen([self.program, *words], stdin=subprocess.DEVNULL, stdout=self.log, stderr=self.log, start_new_session=True)
+        return begin([self.program, *words], stdin=subprocess.DEVNULL, stdout=self.log, stderr=self.log)
 
     def run(self, *words):
         """Runs the program to its end, which has to be a good one."""

@@ -87,13 +87,13 @@ class Silent:
     """A connection that is silent in the middle of a message. The host is to end it after a minute, while other trials go on."""
 
     def __init__(self, trial):
-        self.trial, self.host = trial, trial.host("silent").start()
+        self.host = trial.host("silent").start()
         self.client = self.host.client()
         self.client.stream.settimeout(2 * LONGEST_WAIT)
         self.client.stream.sendall(struct.pack(">I", 100) + b"\x02")
 
-    def check(self):
-        self.trial.check("a silent connection is ended", is_ended_by_host(self.client))
+    def check(self, trial):
+        trial.check("a silent connection is ended", is_ended_by_host(self.client))
         line = self.host.connection_line(self.client.port)
-        self.trial.check("a silent connection: its line", line and line[3] == ", it was silent for a minute", line)
+        trial.check("a silent connection: its line", line and line[3] == ", it was silent for a minute", line)
         self.host.stop()

@@ -29,7 +29,8 @@ def try_full_disk(trial, depth=3, record_len=8000):
         body = fill_disk(trial, host, model, depth, record_len)
         make_room(trial, host, model, body)
     finally:
-        subprocess.run(["umount", str(folder)])
+        # An exception may leave the host, whose folder this is.
+        subprocess.run(["umount", "-l", str(folder)], check=True)
 
 
 def fill_disk(trial, host, model, depth, record_len):

@@ -78,7 +78,7 @@ def try_kills(trial, rounds=15, depth=4, record_len=2000):
 def try_cut_writes(trial, rounds=40):
     """The host is killed right before a write or a sync, also of its opening: what was acknowledged is there, and the request in flight is
     there whole or not at all. Of the PUTs that no other answer has covered yet, a beginning is there."""
-    if not strace.is_here():
+    if not strace.is_usable():
         trial.skip()
         return
     host, model = trial.host("cut-writes"), Model()
@@ -89,7 +89,8 @@ def try_cut_writes(trial, rounds=40):
         when = trial.dice.randrange(1, 60)
         host.start(strace.killing_before("pwrite64,fdatasync,fsync", when))
         states, has_ended = ask_until_killed(trial, host, model)
-        cuts += has_ended
+        # strace ends by the signal that its program was killed by.
+        cuts += has_ended and host.process.returncode == -signal.SIGKILL
         model = state_after_cut(trial, host, states, when)
         if model is None:
             break

@@ -6,12 +6,14 @@ from trials.memory.verdicts import WENT_ON, WRONG, judge
 MOST = 1000
 
 
-def try_program(tally, refuser, pool, name, program, rows):
-    """Refuses the allocations of each block of a program's rows, or of oramsim's script."""
-    blocks = [rows] if name == "oramsim" else standing_alone(refuser, program, rows)
-    sweep(tally, refuser, pool, name, program, blocks)
+def try_program(tally, refuser, pool, name, program, rows, printed):
+    """Refuses the allocations of each block of a program's rows, or of oramsim's script, and what it prints in all is this."""
     if name == "oramsim":
+        sweep(tally, refuser, pool, name, program, [(rows, printed)])
         try_reopen(tally, refuser, program)
+    else:
+        # A row is printed with its answer, which stands in its text.
+        sweep(tally, refuser, pool, name, program, [(block, block) for block in standing_alone(refuser, program, rows)])
 
 
 def standing_alone(refuser, program, rows):
@@ -31,11 +33,11 @@ def spread(count):
 
 
 def sweep(tally, refuser, pool, name, program, blocks):
-    """Refuses the allocations of each block."""
+    """Refuses the allocations of each block, which prints this with memory."""
     runs, made, whole, others = 0, 0, 0, 0
-    for block in blocks:
+    for block, printed in blocks:
         wanted, count = refuser.count(program, block)
-        tally.check(f"{name}, {block[:60]}, with memory", name == "oramsim" or wanted == (0, block), str(wanted)[-300:])
+        tally.check(f"{name}, {block[:60]}, with memory", wanted == (0, printed), str(wanted)[-300:])
         ends = pool.map(lambda number: (number, refuser.run(program, block, number)), spread(count))
         for number, ended in ends:
             verdict = judge(name, ended, wanted)
@@ -43,6 +45,7 @@ def sweep(tally, refuser, pool, name, program, blocks):
             runs, others = runs + 1, others + (verdict == WENT_ON)
         made += count
         whole += count <= MOST
+    tally.check(f"{name}: allocations are refused", runs > 0, made)
     print(f"{name}: {runs} of {made} allocations refused, each one in {whole} of {len(blocks)} blocks; {others} runs went on", flush=True)
 
 

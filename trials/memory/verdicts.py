@@ -31,8 +31,8 @@ def judge(name, ended, wanted):
     front = text[: -len(NO_MEMORY)] if text.endswith(NO_MEMORY) else None
     if status == OUT_OF_MEMORY and front is not None and whole.startswith(front):
         return RIGHT
-    went_on = script_went_on(text, whole) if name == "oramsim" else status == 0 and rows_went_on(name, text, whole)
-    return WENT_ON if went_on else WRONG
+    went_on = script_went_on(text, whole) if name == "oramsim" else rows_went_on(name, text, whole)
+    return WENT_ON if status == good and went_on else WRONG
 
 
 def script_went_on(text, whole):

@@ -81,7 +81,7 @@ def try_damaged_state(trial, disk):
 
 def try_denied(trial):
     """The program names a file of the disk that the system doesn't let it open, with the system's reason."""
-    if not strace.is_here():
+    if not strace.is_usable():
         trial.skip()
         return
     disk = Disk(trial, "denied", size="16kB", table=16).formatted()

@@ -3,16 +3,23 @@
 import struct
 
 from trials.disk import BLOCK, SMALL, Disk
-from trials.nbd_client import EINVAL, ENOSPC, FLUSH, READ, REPLY_MAGIC, TRIM, WRITE, ZEROES, head_of
+from trials.nbd_client import EINVAL, ENOSPC, EXPORT_NAME, FLUSH, READ, REPLY_MAGIC, TRIM, WRITE, ZEROES, head_of, option_of
 
-LONGEST_WRITE = 1 << 25
+LONGEST_OPTION, LONGEST_WRITE = 1 << 16, 1 << 25
 UNKNOWN_KIND = 99
 
 
 def try_protocol(trial):
-    """Flags that don't exist, ranges beyond the end, a write that is too long, a client that wants zeros, and requests sent ahead."""
+    """A name that is too long, flags that don't exist, ranges beyond the end, a write that is too long, a client that wants zeros, and
+    requests sent ahead."""
     disk = Disk(trial, "protocol", sync=False).formatted()
     nbd = disk.serve().connect()
+    # The protocol has no reply to EXPORT_NAME but the size, so the connection ends.
+    nbd.greet(3)
+    nbd.give(option_of(EXPORT_NAME, bytes(LONGEST_OPTION + 1)))
+    trial.check("protocol: a name that is too long", nbd.take(1) is None)
+    nbd.close()
+    nbd = disk.connect()
     # A client that doesn't do without the zeros behind the answer to its choice.
     found = nbd.greet(1) and nbd.choose()
     trial.check("protocol: the zeros", (found, nbd.take(124)) == (SMALL, bytes(124)), found)

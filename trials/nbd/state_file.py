@@ -6,9 +6,9 @@ import socket
 
 from trials import strace
 from trials.disk import Disk
-from trials.disk_array import DiskArray, ask_at_random, check_and_end, check_disk, lose_write, make_requests
+from trials.disk_array import DiskArray, ask_at_random, check_and_end, check_disk, lose_write, make_requests, write_block
 from trials.ports import free_port
-from trials.statuses import CANNOT_KEEP, IN_USE, LISTENER_TAKEN
+from trials.statuses import CANNOT_KEEP, IN_USE, LISTENER_TAKEN, REPLACED_STATE
 
 TORN = b"torn" * 300_000
 
@@ -76,7 +76,7 @@ def try_in_the_way(trial, disk, array):
 def try_torn_file(trial):
     """A new file that a killed process left torn is written over whole. So the next state is found, even if its process is killed as well
     before it keeps another one."""
-    if not strace.is_here():
+    if not strace.is_usable():
         trial.skip()
         return
     disk = Disk(trial, "torn", table=16, sync=True).formatted()
@@ -87,6 +87,31 @@ def try_torn_file(trial):
     disk.wait()
     trial.check("torn: the state", disk.status().get("state") == "it is sound")
     check_and_end(trial, "torn: what it holds", disk, array)
+
+
+def try_replaced(trial):
+    """An older state that is put back is refused, and nothing is stored by it: with the newest one the disk goes on."""
+    disk = Disk(trial, "replaced", table=16).formatted()
+    array, states = DiskArray(), [disk.state_file.read_bytes()]
+    client = disk.serve().client()
+    for turn in range(6):
+        # The state behind each write is the one of its round.
+        for number in (turn, turn + 1, 2 * turn):
+            write_block(trial, client, array, number)
+        states.append(disk.state_file.read_bytes())
+    disk.end(client)
+    newest, buckets = disk.state_file.read_bytes(), disk.host_files()
+    disk.start_host()
+    line = "oramdisk: replaced/disk.state is an older state of its disk, and nothing was stored by it: put the newest one back"
+    for number, state in enumerate(states[:-1]):
+        disk.state_file.write_bytes(state)
+        trial.ends(f"replaced: served with older state {number}", disk.start("serve"), REPLACED_STATE, line)
+        trial.check(f"replaced: older state {number} is left as it is", disk.state_file.read_bytes() == state)
+    disk.host.stop()
+    trial.check("replaced: the host's files", disk.host_files() == buckets)
+    disk.start_host()
+    disk.state_file.write_bytes(newest)
+    check_and_end(trial, "replaced: what it holds with the newest state", disk, array)
 
 
 def try_in_use(trial):

@@ -1,6 +1,9 @@
-"""Proxies that end for want of memory."""
+"""Proxies that end for want of memory, and the memory that a proxy holds."""
 
-from trials.oramd.device import Device, make_requests, read_all
+import re
+from pathlib import Path
+
+from trials.oramd.device import READ, Device, body_of, make_requests, read_all
 from trials.oramd.setup import NO_MEMORY, Setup
 from trials.processes import end_of
 
@@ -13,29 +16,54 @@ def try_short_proxies(tally, oramd, dice, halvings=12, steps=48):
     tally.ends("short of memory: format", setup.format(), 0)
     limit, step, short = 64 << 20, 32 << 20, 0
     for _ in range(halvings):
-        is_short = try_short_proxy(tally, setup, limit)
-        limit, step = limit + (step if is_short else -step), step // 2
+        has_ended_well = try_short_proxy(tally, setup, limit) == 0
+        limit, step = limit - (step if has_ended_well else -step), step // 2
     for _ in range(steps):
         limit -= 16 << 10
-        short += try_short_proxy(tally, setup, limit)
+        short += try_short_proxy(tally, setup, limit) == NO_MEMORY
     setup.host.kill()
     end_of(setup.host)
     tally.check("some proxies were short of memory", 0 < short, short)
 
 
 def try_short_proxy(tally, setup, limit):
-    """A proxy with so little memory, and then one with all. Returns whether the first was short of it."""
+    """A proxy with so little memory, and then one with all. Returns the status of the first."""
     proxy = setup.start_proxy(1, memory=limit)
     session = setup.session(proxy)
+    has_begun = session.ask(body_of(READ, 0)) is not None
     make_requests(tally, f"a limit of {limit} bytes", session, setup.array, 10)
     session.close()
     end = end_of(proxy)
     holds = (end.status, end.err) in ((0, b""), (NO_MEMORY, b"oramd: out of memory\n"))
     # With less than the system needs to begin a program, it isn't begun.
-    tally.check(f"a limit of {limit} bytes: its end", holds or end.status in (127, -9, -11, -6), end)
+    tally.check(f"a limit of {limit} bytes: its end", holds or not has_begun and end.status in (127, -9, -11, -6), end)
     next_one = setup.start_proxy(1)
     session = setup.session(next_one)
     read_all(tally, f"behind a limit of {limit} bytes", session, setup.array)
     session.close()
     tally.ends(f"behind a limit of {limit} bytes: its end", next_one, 0)
-    return end.status != 0
+    return end.status
+
+
+def try_many_sessions(tally, oramd, dice, sessions=12, requests=100):
+    """What a proxy holds for saving its state doesn't grow from session to session."""
+    setup = Setup(tally, oramd, Device("many sessions", 16, 4096, 4, 16, "plain"), dice)
+    setup.start_host(2)
+    tally.ends("many sessions: format", setup.format(), 0)
+    proxy, sizes = setup.start_proxy(sessions), []
+    for number in range(sessions):
+        session = setup.session(proxy)
+        make_requests(tally, f"session {number}", session, setup.array, 1)
+        sizes.append(size_of(proxy))
+        make_requests(tally, f"session {number}", session, setup.array, requests)
+        session.close()
+    tally.ends("many sessions: the proxy's end", proxy, 0)
+    tally.ends("many sessions: the host's end", setup.host, 0)
+    # Behind the first sessions it is as large as one session needs. Room for the requests of the other eight would be 7 MB.
+    tally.check("many sessions: the proxy's memory", sizes[-1] < sizes[3] + 3_000_000, sizes)
+
+
+def size_of(process):
+    """The bytes of memory that a process has reserved."""
+    status = Path(f"/proc/{process.pid}/status").read_text()
+    return 1024 * int(re.search(r"^VmSize:\s+(\d+) kB$", status, re.MULTILINE)[1])

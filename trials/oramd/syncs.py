@@ -1,7 +1,5 @@
 """The order in which a state is synced and renamed."""
 
-import os
-
 from trials import strace
 from trials.oramd.device import Device
 from trials.oramd.setup import Setup
@@ -14,10 +12,9 @@ def try_syncs(tally, oramd, dice):
     settings = oramd.write_settings(setup.format_settings("synced.state"))
     end, calls = strace.trace_renames_and_syncs(oramd.folder, oramd.program, "format", settings)
     if calls is None:
-        print("not here: strace", flush=True)
         setup.host.kill()
         setup.host.wait()
-        tally.failed += "CI" in os.environ
+        tally.skip("strace is not here, or may not trace")
         return
     folder = oramd.folder.resolve()
     tally.check("a traced formatting", (end.status, end.err) == (0, b""), end)

@@ -7,7 +7,7 @@ import subprocess
 from pathlib import Path
 
 from trials.connections import read_pipe
-from trials.processes import LONGEST_WAIT
+from trials.processes import LONGEST_WAIT, begin
 from trials.rows.blocks import blocks_of
 
 SCRIPT = b"device 8 16 4 8 100\nread 1 5 6 3\nanswer\n"
@@ -65,7 +65,7 @@ def try_failing_streams(tally, oramsim, folder):
 
 def try_typing(tally, oramsim):
     """Each line is answered before the next is typed. Lines that come together are answered by one write."""
-    process = subprocess.Popen([oramsim], stdin=subprocess.PIPE, stdout=subprocess.PIPE, bufsize=0)
+    process = begin([oramsim], stdin=subprocess.PIPE, stdout=subprocess.PIPE, bufsize=0)
     for line, printed in zip(SCRIPT.splitlines(keepends=True), PRINTED):
         # A line in two pieces is answered once its end is there.
         process.stdin.write(line[:3])
