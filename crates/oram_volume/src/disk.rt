@@ -1,6 +1,6 @@
 //! A volume as a disk of bytes.
 
-ghost use Rattle.std.specs.Prelude.{◌≡◌, ◌≢◌, ◌*◌, ◌<◌, ◌≤◌, ◌^◌, [], ◌++◌, All, length, map, IfErr, IfOk, IsErrOf, MatchResult};
+ghost use Rattle.std.specs.Prelude.{◌≡◌, ◌≢◌, ◌*◌, ◌-◌, ◌<◌, ◌≤◌, ◌^◌, [], ◌∷◌, ◌++◌, All, length, map, min, sum_by, IfErr, IfOk, IsErrOf, MatchResult};
 ghost use Rattle.std.specs.List.{flat_map};
 ghost use Rattle.oram_core.specs.Core.{IsSameDevice};
 ghost use Rattle.oram_session.specs.Honesty.{HasFailed};
@@ -34,6 +34,27 @@ fn append_data(replies: &[Reply], out: &mut Vec<u8>) -> Result<(), AllocError>
     Ok(())
 }
 
+/// Returns how many bytes an operation reads.
+fn read_bytes(operation: &Operation) -> u64
+    ensures { result ≡ read_len operation.now }
+{
+    match operation {
+        Operation::Read { count, .. } => *count,
+        Operation::Write { .. } | Operation::Zero { .. } => 0,
+    }
+}
+
+/// Returns how many bytes all operations read, or the greatest number if they are more.
+fn read_in_all(operations: &[Operation]) -> usize
+    ensures { result ≡ min (sum_by read_len operations.now) (2 ^ 64 - 1) }
+{
+    let mut len: usize = 0;
+    for operation in operations {
+        len = len.saturating_add(read_bytes(operation) as usize);
+    }
+    len
+}
+
 /// Cuts the data of all reads into those of each operation.
 fn cut_up(alloc: Global, operations: &[Operation], found: &[u8]) -> Result<Vec<Bytes>, DiskFault>
     ensures len { IfOk result (λ given. map length given.items ≡ map read_len operations.now) }
@@ -43,10 +64,7 @@ fn cut_up(alloc: Global, operations: &[Operation], found: &[u8]) -> Result<Vec<B
     let mut given = Vec::with_capacity(alloc, operations.len())?;
     let mut rest = found;
     for operation in operations {
-        let len = match operation {
-            Operation::Read { count, .. } => *count as usize,
-            Operation::Write { .. } | Operation::Zero { .. } => 0,
-        };
+        let len = read_bytes(operation) as usize;
         // There is as much data as the operations read, so this never happens. The error acknowledges nothing, and doesn't
         // fail the disk.
         if len > rest.len() {
@@ -62,6 +80,33 @@ fn cut_up(alloc: Global, operations: &[Operation], found: &[u8]) -> Result<Vec<B
         return Err(DiskFault::OutOfMemory);
     }
     Ok(given)
+}
+
+/// Returns data as those of one operation, without copying them.
+fn alone(alloc: Global, found: Vec<u8>) -> Result<Vec<Bytes>, AllocError>
+    ensures { IfOk result (λ given. given.items ≡ found.items ∷ []) }
+{
+    let given = vec![in alloc; Bytes::from_vec(found)]?;
+    Ok(given)
+}
+
+/// Returns the data of each operation, out of the data of all reads. One operation alone takes these over as they are.
+fn given_out(
+    alloc: Global,
+    operations: &[Operation],
+    found: Vec<u8>,
+) -> Result<Vec<Bytes>, DiskFault>
+    ensures len { IfOk result (λ given. map length given.items ≡ map read_len operations.now) }
+    ensures all { IfOk result (λ given. flat_map (λ bytes. bytes) given.items ≡ found.items) }
+    ensures err { IfErr result (λ fault. fault ≡ DiskFault.OutOfMemory) }
+{
+    match operations {
+        [only] if read_bytes(only) == found.len() as u64 => {
+            let given = alone(alloc, found)?;
+            Ok(given)
+        }
+        _ => cut_up(alloc, operations, &found),
+    }
 }
 
 impl<S: Sealer, B: BatchLink, K: Keeper, T: Tape> Volume<S, B, K, T> {
@@ -84,9 +129,10 @@ impl<S: Sealer, B: BatchLink, K: Keeper, T: Tape> Volume<S, B, K, T> {
         ensures still { HasFailed self.old.core.state → HasFailed self.new.core.state }
         ensures stopped { IsErrOf result DiskFault.Stopped → Stops B.batches K.reads_back (running S.cipher T.words self.old) (running S.cipher T.words self.new) }
     {
+        // For the proof alone: the call's contract bounds the sizes of the device.
         let _blocks = self.blocks_in_all();
         let block = self.core.device().block_bytes() as u64;
-        let mut found = Vec::new(alloc);
+        let mut found = Vec::with_capacity(alloc, read_in_all(operations))?;
         let mut cursor = Cursor {
             operation: 0,
             block: 0,
@@ -110,6 +156,7 @@ impl<S: Sealer, B: BatchLink, K: Keeper, T: Tape> Volume<S, B, K, T> {
         ensures block { (16 ≤ self.now.core.device.block_bytes) × (self.now.core.device.block_bytes ≤ 4096) }
     {
         let device = self.core.device();
+        // For the proof alone: the contracts of these two calls bound the sizes of the device.
         let _trees = device.trees();
         let _block = device.block_bytes();
         device.blocks_in(0)
@@ -161,9 +208,10 @@ impl<S: Sealer, B: BatchLink, K: Keeper, T: Tape> BlockDevice for Volume<S, B, K
         if self.has_failed() {
             return Err(DiskFault::Failed);
         }
+        // For the proof alone: the call's contract bounds the sizes of the device.
         let _blocks = self.blocks_in_all();
         let found = self.carry_out_rounds(alloc, operations)?;
-        let given = cut_up(alloc, operations, &found)?;
+        let given = given_out(alloc, operations, found)?;
         Ok(given)
     }
 }

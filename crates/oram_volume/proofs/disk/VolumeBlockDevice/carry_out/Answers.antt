@@ -58,7 +58,7 @@ returns-clause-goes g c =
       (
         (
           given_are (d.block_bytes * d.blocks) ops bytes.held c.in_ok-found.found.items c.in_ok-given.given.items (length_laid d from.held bytes.held laid.held) c.requires.within c.in_ok-given.ensures.len
-              (c.in_ok-given.ensures.all ∙ c.deref.ensures.value) (step.0.0 ∙ laid_data d some ops c.requires.whole c.requires.within from.held bytes.held laid.held),
+              c.in_ok-given.ensures.all (step.0.0 ∙ laid_data d some ops c.requires.whole c.requires.within from.held bytes.held laid.held),
           k.1,
         ),
         λ e. cc,

@@ -7,7 +7,7 @@ use Rattle.std.specs.List.{flat_map}
 use Rattle.oram_geometry.specs.declared.Sizes.{Sizes}
 use Rattle.oram_nbd.specs.Operations.{IsWhole, len_of, place_of}
 use Rattle.oram_nbd.proofs.Beside.{at_rest as calls_none, joined_calls, weaker}
-use Rattle.oram_nbd.proofs.Saving.{all_at_rest, all_joined, all_weaker, part_after_all, part_behind}
+use Rattle.oram_nbd.proofs.Saving.{all_at_rest, all_joined, all_weaker, part_after_all, part_at_rest, part_behind}
 use Rattle.oram_semantics.specs.declared.events.Command.{Command}
 use Rattle.oram_semantics.specs.declared.events.Reply.{Reply}
 use Rattle.oram_session.proofs.CoreSteps.{same_trans}
@@ -25,8 +25,14 @@ loop-round_number-init g c = record {
   still = λ h. h;
   done = [];
   split = sym (rest_all c.args.self.now.core.device.block_bytes c.args.operations.now);
-  so_far = calls_none (λ may_lie world old h. (c.new-found.ensures.items, refl, all_at_rest (λ some. some refl)));
+  so_far = calls_none (λ may_lie world old h. (c.in_ok-found.ensures.items, refl, all_at_rest (λ some. some refl)));
 }
+
+pub returns-in_err-found-clause-goes : goal.returns-in_err-found-clause-goes
+returns-in_err-found-clause-goes g c =
+    let p = err_from_is_err_and c.from_residual.result c.from_residual.ensures.1 in
+    let d = c.args.self.now.core.device in
+    rw p.1 (calls_none (λ may_lie world old h. (([], all_commands d.block_bytes c.args.operations.now, refl, refl), λ e. cc, part_at_rest)))
 
 pub returns-clause-goes : goal.returns-clause-goes
 returns-clause-goes g c =
@@ -40,7 +46,7 @@ returns-clause-goes g c =
 
 pub returns-in_err-commands-clause-goes : goal.returns-in_err-commands-clause-goes
 returns-in_err-commands-clause-goes g c =
-    let p = err_from_is_err_and c.from_residual.result c.from_residual.ensures.1 in
+    let p = err_from_is_err_and c.from_residual-in_err-commands.result c.from_residual-in_err-commands.ensures.1 in
     let d = c.args.self.now.core.device in
     let ops = c.args.operations.now in
     let inv = c.loop-round_number.invariant in
