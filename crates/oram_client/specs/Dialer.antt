@@ -21,10 +21,10 @@ may_pass NoRoom = true
 may_pass AnotherDisk = false
 may_pass NoDisk = false
 
--- the trouble for a socket that can't be used
-abbrev pub socket_trouble : SocketFault → Trouble
-socket_trouble socket.Failed = OutOfReach Io
-socket_trouble socket.OutOfMemory = OutOfReach OutOfMemory
+-- the link's fault for a socket that can't be used
+abbrev pub link_fault : SocketFault → LinkFault
+link_fault socket.Failed = Io
+link_fault socket.OutOfMemory = OutOfMemory
 
 -- whether it is only that this program has no memory for what it sends or receives
 abbrev pub lacks_memory : Trouble → Bool

@@ -81,22 +81,25 @@ impl From<LinkFault> for Trouble {
 }
 
 impl From<io::Error> for Trouble {
+    ghost use Rattle.std.specs.IoError.{error_kind};
     ghost use Rattle.std.specs.Prelude.{◌≡◌};
-    ghost use Rattle.oram_session.specs.declared.link.LinkFault.TheVariants.{Io};
+    ghost use Rattle.oram_cli.specs.Sockets.{socket_fault};
+    ghost use Rattle.oram_client.specs.Dialer.{link_fault};
     ghost use Rattle.oram_client.specs.declared.dialer.Trouble.TheVariants.{OutOfReach};
 
-    ghost from_gives = { λ _ trouble. trouble ≡ OutOfReach Io };
+    ghost from_gives = { λ error trouble. trouble ≡ OutOfReach (link_fault (socket_fault (error_kind error))) };
 
-    fn from(_error: io::Error) -> Trouble {
-        Trouble::OutOfReach(LinkFault::Io)
+    fn from(error: io::Error) -> Trouble {
+        Trouble::from(SocketFault::from(error))
     }
 }
 
 impl From<SocketFault> for Trouble {
     ghost use Rattle.std.specs.Prelude.{◌≡◌};
-    ghost use Rattle.oram_client.specs.Dialer.{socket_trouble};
+    ghost use Rattle.oram_client.specs.Dialer.{link_fault};
+    ghost use Rattle.oram_client.specs.declared.dialer.Trouble.TheVariants.{OutOfReach};
 
-    ghost from_gives = { λ fault trouble. trouble ≡ socket_trouble fault };
+    ghost from_gives = { λ fault trouble. trouble ≡ OutOfReach (link_fault fault) };
 
     fn from(fault: SocketFault) -> Trouble {
         Trouble::OutOfReach(match fault {

@@ -75,9 +75,9 @@ struct Wait {
 ///
 /// A batch is tried until all of it is answered, or until the reconnect timeout. If a batch over a connection has a
 /// fault, the link closes that connection and sends the whole batch over a new one; if the host has no room for one of
-/// the messages, it sends the whole batch again over the same one. If memory runs out, that isn't tried again: the link
-/// returns this fault at once, and goes on being usable. So a STORE that was refused is sent again before the
-/// messages behind it count. The link pauses before each try but the first. Sending a batch again changes nothing at an
+/// the messages, it sends the whole batch again over the same one. So a STORE that was refused is sent again before the
+/// messages behind it count. If memory runs out, that isn't tried again: the link returns this fault at once, and goes
+/// on being usable. The link pauses before each try but the first. Sending a batch again changes nothing at an
 /// honest host, which carries it out once more, in the same order and with the same result; a session repeats a message
 /// after a fault in the same manner. The reconnect timeout is time by the clock from the beginning of the batch: while
 /// nobody uses the link, it doesn't run. Once it has passed, or the host turned out to keep another disk or none, later
