@@ -1,10 +1,12 @@
 -- The faults with which the client's commands end.
 use Rattle.std.specs.Global.{Global}
-use Rattle.std.specs.Prelude.{◌≡◌, ◌⊎◌, ℕ, List, String, ⊤, string_bytes}
+use Rattle.std.specs.Prelude.{◌≡◌, ◌≢◌, ◌⊎◌, ℕ, List, String, ⊤, string_bytes}
 use Rattle.oram_cli.specs.declared.file_faults.FileFault.{FileFault}
 use Rattle.oram_cli.specs.declared.file_faults.FileFault.TheVariants as file
 use Rattle.oram_cli.specs.declared.file_faults.FileReason.TheVariants as reason
 use Rattle.oram_client.specs.FilePlace.{IsNotLookedUp}
+use Rattle.oram_client.specs.KeptFile.{IsHead, IsOlder, kept_file}
+use Rattle.oram_client.specs.declared.kept_file.Head.{Head}
 use Rattle.oram_disk_host.specs.Faults.{file_fault}
 use Rattle.oram_disk_host.specs.declared.faults.Fault.{Fault}
 use Rattle.oram_disk_host.specs.declared.faults.Fault.TheVariants.{About, OutOfMemory}
@@ -26,3 +28,9 @@ abbrev pub IsUnreadFor : FileFault → List ℕ → List ℕ → Fault → Type 
 IsUnreadFor why state settings fault =
     (fault ≡ file_fault why)
     ⊎ (IsMissing why × (IsAbout kind.Unformatted settings fault ⊎ ((other : FileFault) × IsNotLookedUp state other × (fault ≡ file_fault other))))
+
+-- The fault for bytes of the file `name` that are no kept file: they have an older format, or are of no disk at all.
+abbrev pub IsNotKeptFor : List ℕ → List ℕ → Fault → Type 0
+IsNotKeptFor file name fault =
+    (IsOlder file × IsAbout kind.OlderState name fault)
+    ⊎ ((¬ IsOlder file) × ((head : Head) (process : List ℕ) → IsHead head → file ≢ kept_file head process) × IsAbout kind.NotADisk name fault)

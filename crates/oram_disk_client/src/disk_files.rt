@@ -1,10 +1,16 @@
 //! The files of a disk at its client.
 
-ghost use Rattle.std.specs.Prelude.{◌≡◌, ◌≢◌, ◌↔◌, Ok, Err, None, Some, IfErr, IfOk, IsTrue, OnOk};
+ghost use Rattle.std.specs.Prelude.{◌≡◌, ◌≢◌, ◌↔◌, ℕ, List, Ok, Err, None, Some, IfErr, IfOk, IsTrue, OnOk};
 ghost use Rattle.oram_cli.specs.declared.file_faults.FileFault.{FileFault};
+ghost use Rattle.oram_client.specs.KeptFile.{kept_file};
 ghost use Rattle.oram_client.specs.Keys as derived;
-ghost use Rattle.oram_disk_client.specs.Faults.{IsAbout, IsMissing, IsUnreadFor};
+ghost use Rattle.oram_core.specs.Core.{scheme_of};
+ghost use Rattle.oram_disk_client.specs.Faults.{IsAbout, IsMissing, IsNotKeptFor, IsUnreadFor};
 ghost use Rattle.oram_disk_client.specs.Sealers as spec;
+ghost use Rattle.oram_geometry.specs.declared.Sizes.{Sizes};
+ghost use Rattle.oram_rounds.specs.Batches.{texts};
+ghost use Rattle.oram_rounds.specs.Files.{IsFile, IsFileOf};
+ghost use Rattle.oram_semantics.specs.State.{State};
 ghost use Rattle.oram_settings.specs.Differences.{AgreeAt, IsFirstDifference, fixed_keys};
 ghost use Rattle.oram_settings.specs.declared.differences.FixedKey.{FixedKey};
 
@@ -111,13 +117,23 @@ pub fn named(alloc: Global, kind: FaultKind, name: &str) -> Fault
     }
 }
 
-/// Decodes the core and the STOREs that wait in `process`, which the file `name` holds.
+/// Decodes the core and the STOREs that wait in `process`, which the file `name` holds. Fails with [`FaultKind::NotADisk`] if
+/// `process` is the file of no process with this sealer.
 pub fn process_in<S: Sealer>(
     alloc: Global,
     sealer: S,
     process: &[u8],
     name: &str,
-) -> Result<KeptCore<S>, Fault> {
+) -> Result<KeptCore<S>, Fault>
+    ensures sealer { IfOk result (λ kept. kept.core.sealer ≡ sealer) }
+    ensures ok { IfOk result (λ kept. IsFile (scheme_of S.cipher kept.core) process.now (texts kept.stores.items) kept.core.state) }
+    // It returns the process that was kept, unless memory runs out.
+    ensures same { (d : Sizes) (stores : List (List ℕ)) (core : State) → IsFileOf (S.cipher sealer).overhead d process.now stores core
+        → IfOk result (λ kept. (texts kept.stores.items ≡ stores) × (kept.core.device ≡ d) × (kept.core.state ≡ core)) }
+    ensures only { (d : Sizes) (stores : List (List ℕ)) (core : State) → IsFileOf (S.cipher sealer).overhead d process.now stores core
+        → IfErr result (λ fault. fault ≡ Fault.OutOfMemory) }
+    ensures fault { IfErr result (λ fault. IsAbout FaultKind.NotADisk name.now fault) }
+{
     match decode_kept(alloc, sealer, process) {
         Ok(kept) => Ok(kept),
         Err(KeptCoreFault::OutOfMemory) => Err(Fault::OutOfMemory),
@@ -127,8 +143,12 @@ pub fn process_in<S: Sealer>(
     }
 }
 
-/// Reads the bytes of the kept file `name`.
-pub fn kept_in<'a>(alloc: Global, file: &'a [u8], name: &str) -> Result<KeptFile<'a>, Fault> {
+/// Reads the bytes of the kept file `name`. Fails with [`FaultKind::OlderState`] if they have an older format, and with
+/// [`FaultKind::NotADisk`] if they are no kept file at all.
+pub fn kept_in<'a>(alloc: Global, file: &'a [u8], name: &str) -> Result<KeptFile<'a>, Fault>
+    ensures ok { IfOk result (λ kept. file.now ≡ kept_file kept.head kept.process.now) }
+    ensures fault { IfErr result (λ fault. IsNotKeptFor file.now name.now fault) }
+{
     match read_kept_file(file) {
         Ok(kept) => Ok(kept),
         Err(KeptFault::Older) => Err(named(alloc, FaultKind::OlderState, name)),

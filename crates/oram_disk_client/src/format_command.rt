@@ -29,19 +29,30 @@ use std::time::{Duration, Instant};
 #[derive(Drop)]
 struct ProgressPrinter<'a, R> {
     rt: &'a R,
-    begun: Instant,
+    /// When the formatting began, unless the clock couldn't be read then.
+    begun: Option<Instant>,
     on_terminal: bool,
     meter: Meter,
 }
 
 impl<'a, R: Clock> ProgressPrinter<'a, R> {
-    fn new(rt: &'a R, on_terminal: bool) -> io::Result<ProgressPrinter<'a, R>> {
-        Ok(ProgressPrinter {
+    fn new(rt: &'a R, on_terminal: bool) -> ProgressPrinter<'a, R> {
+        ProgressPrinter {
             rt,
-            begun: Instant::now(rt)?,
+            begun: Instant::now(rt).ok(),
             on_terminal,
             meter: Meter::new(if on_terminal { 1 } else { 10 }),
-        })
+        }
+    }
+
+    /// Returns for how many milliseconds the formatting has gone on. If the clock can't be read, it returns 0, for which
+    /// [`progress_text`] estimates no time.
+    fn milliseconds(&self) -> u64 {
+        let passed = self
+            .begun
+            .and_then(|begun| begun.elapsed(self.rt).ok())
+            .unwrap_or(Duration::ZERO);
+        u64::try_from(passed.as_millis()).unwrap_or(u64::MAX)
     }
 }
 
@@ -54,9 +65,7 @@ impl<'a, R: Clock + Eprint + AllocGlobal> ProgressPrinter<'a, R> {
 
     fn print(&self, messages: u64, of: u64) -> io::Result<()> {
         let alloc = self.rt.alloc();
-        let elapsed = self.begun.elapsed(self.rt)?.as_millis();
-        let milliseconds = u64::try_from(elapsed).unwrap_or(u64::MAX);
-        let text = progress_text(alloc, messages, of, milliseconds)?;
+        let text = progress_text(alloc, messages, of, self.milliseconds())?;
         let text = text.as_str();
         let line = if !self.on_terminal {
             format!(in alloc; "oramdisk: {text}\n")?
@@ -128,10 +137,7 @@ fn formatted<S: Sealer>(
         Ok(buffers) => buffers,
         Err(fault) => return Err(unreached(fault, host)),
     };
-    let printer = match ProgressPrinter::new(rt, rt.stderr().is_terminal()) {
-        Ok(printer) => printer,
-        Err(error) => return Err(unreached(SocketFault::from(error), host)),
-    };
+    let printer = ProgressPrinter::new(rt, rt.stderr().is_terminal());
     let stored = stored_bytes(&device, settings.sealer);
     let _passed_over = printer.begin(stored, host.as_str());
     let mut ahead = Ahead::new(alloc, &device, reader, writer, printer);
