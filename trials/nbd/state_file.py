@@ -5,6 +5,7 @@ import signal
 import socket
 
 from trials import strace
+from trials.bucket_file import BucketFile
 from trials.disk import Disk
 from trials.disk_array import DiskArray, ask_at_random, check_and_end, check_disk, lose_write, make_requests, write_block
 from trials.ports import free_port
@@ -100,7 +101,7 @@ def try_replaced(trial):
             write_block(trial, client, array, number)
         states.append(disk.state_file.read_bytes())
     disk.end(client)
-    newest, buckets = disk.state_file.read_bytes(), disk.host_files()
+    newest, records = disk.state_file.read_bytes(), records_at(disk.host)
     disk.start_host()
     line = "oramdisk: replaced/disk.state is an older state of its disk, and nothing was stored by it: put the newest one back"
     for number, state in enumerate(states[:-1]):
@@ -108,10 +109,17 @@ def try_replaced(trial):
         trial.ends(f"replaced: served with older state {number}", disk.start("serve"), REPLACED_STATE, line)
         trial.check(f"replaced: older state {number} is left as it is", disk.state_file.read_bytes() == state)
     disk.host.stop()
-    trial.check("replaced: the host's files", disk.host_files() == buckets)
+    trial.check("replaced: the host's records", records_at(disk.host) == records)
     disk.start_host()
     disk.state_file.write_bytes(newest)
     check_and_end(trial, "replaced: what it holds with the newest state", disk, array)
+
+
+def records_at(host):
+    """The records that a host keeps, which doesn't run."""
+    file = BucketFile(host.path())
+    file.replay()
+    return file.records()
 
 
 def try_in_use(trial):
