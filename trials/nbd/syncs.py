@@ -6,12 +6,12 @@ from trials import strace
 from trials.disk import BLOCK, Disk
 from trials.nbd_client import WRITE
 
-NO_STRACE = "not here: strace"
+NO_STRACE = "strace is not here, or may not trace"
 
 
 def try_syncs(trial, writes=5):
     """A disk whose settings say so syncs its state before each reply; a host syncs its file before it answers a STORE."""
-    if not strace.is_here():
+    if not strace.is_usable():
         trial.skip(NO_STRACE)
         return
     for sync in (True, False):
