@@ -44,7 +44,7 @@ def end_all_since(number=0):
 def start(words, folder, **more):
     """Starts a program in a folder, without input, and with pipes for what it writes."""
     pipes = {"stdin": subprocess.DEVNULL, "stdout": subprocess.PIPE, "stderr": subprocess.PIPE}
-    return begin(words, cwd=folder, **pipes, **more)
+    return begin(words, cwd=folder, **{**pipes, **more})
 
 
 def end_of(process):

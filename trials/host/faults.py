@@ -45,7 +45,7 @@ def try_taken(trial, folder):
     held = "oramdisk: first/buckets is held by another process: end that one first"
     check_refused(trial, "a file that is held", host.path(), lambda: trial.start("host", "host.toml", folder=folder), FILE_HELD, held)
     write_settings(folder, "second", f"127.0.0.1:{host.port}")
-    taken = f"oramdisk: can't listen at 127.0.0.1:{host.port}: end the program that listens there, or name another place"
+    taken = f"oramdisk: can't listen at 127.0.0.1:{host.port}: see that no other program listens there, that it is a place of this machine, and that you may use it"
     trial.ends("a port that is taken", trial.start("host", "--new", "host.toml", folder=folder), LISTENER_TAKEN, taken)
     trial.check("and no file is made", not (folder / "second").exists())
     client = host.client()

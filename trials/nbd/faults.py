@@ -7,7 +7,7 @@ from trials.disk import Disk
 from trials.nbd.formatting import check_that_host_has_a_disk
 from trials.nbd.lost_host import unreachable
 from trials.ports import free_port
-from trials.processes import LONGEST_WAIT, end_of
+from trials.processes import LONGEST_WAIT, end_of, start
 from trials.statuses import BAD_FILE, BAD_WORDS, NO_STATE, OUT_OF_REACH
 
 
@@ -18,6 +18,7 @@ def try_faults(trial):
     try_unformatted(trial, disk)
     try_formattings(trial, disk)
     try_damaged_state(trial, disk)
+    try_lost_report(trial, disk)
 
 
 def try_words(trial):
@@ -77,6 +78,15 @@ def try_damaged_state(trial, disk):
     for command in ("serve", "status"):
         trial.ends(f"{command}: a damaged state", disk.start(command), NO_STATE, line)
     disk.host.stop()
+
+
+def try_lost_report(trial, disk):
+    """A report that can't be written is a fault."""
+    (disk.folder / "kept").rename(disk.state_file)
+    with open("/dev/full", "wb") as full:
+        end = end_of(start([trial.oramdisk, "status", "faults/disk.toml"], trial.folder, stdout=full))
+    line = "oramdisk: standard output: the disk is full: make room on it\n"
+    trial.check("status: a report that can't be written", (end.status, end.err.decode()) == (BAD_FILE, line), end)
 
 
 def try_denied(trial):

@@ -8,7 +8,7 @@ from trials.statuses import CHANGED_SETTING, NO_STATE, WRONG_KEY
 
 
 def try_wrong_settings(trial):
-    """A disk is started with a wrong key, and with numbers that aren't those of the formatting: it says so, and changes nothing."""
+    """A disk has a wrong key, or numbers that aren't those of the formatting: `serve` and `status` say so, and change nothing."""
     disk = Disk(trial, "settings", table=16).formatted()
     file, state = disk.settings_file, disk.state_file
     right, kept = file.read_text(), state.read_bytes()
@@ -24,7 +24,8 @@ def try_wrong_settings(trial):
         (CHANGED_SETTING, changed.format("sealer"), {"sealer": "plain"}),
     ):
         disk.set(**values)
-        trial.ends(f"serve with another {list(values)[0]}", disk.start("serve"), status, line)
+        for command in ("serve", "status"):
+            trial.ends(f"{command} with another {list(values)[0]}", disk.start(command), status, line)
         file.write_text(right)
     trial.check("the state is as it was", state.read_bytes() == kept)
     # A state of an older form is reported as such.

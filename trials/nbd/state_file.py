@@ -1,6 +1,5 @@
 """The file of a disk's state: what a killed process may leave beside it, what stands in its way, and who may use it."""
 
-import re
 import signal
 import socket
 
@@ -9,6 +8,7 @@ from trials.bucket_file import BucketFile
 from trials.disk import Disk
 from trials.disk_array import DiskArray, ask_at_random, check_and_end, check_disk, lose_write, make_requests, write_block
 from trials.ports import free_port
+from trials.settings import put_values
 from trials.statuses import CANNOT_KEEP, IN_USE, LISTENER_TAKEN, REPLACED_STATE
 
 TORN = b"torn" * 300_000
@@ -134,6 +134,7 @@ def try_in_use(trial):
     check_disk(trial, "the first: what it holds", client, array)
     client.close()
     try_taken_port(trial, disk)
+    try_linked(trial, disk, array)
     check_and_end(trial, "the next: what it holds", disk, array)
 
 
@@ -144,11 +145,28 @@ def try_second_process(trial, disk):
     for command in ("serve", "format", "retry"):
         trial.ends(f"a second process, {command}", disk.start(command), IN_USE, line)
     # The same settings but for the address.
-    text = disk.settings_file.read_text()
-    other = re.sub(r"^listen = .*", f'listen = "127.0.0.1:{free_port()}"', text, flags=re.MULTILINE)
-    (disk.folder / "other.toml").write_text(other)
+    other = disk.folder / "other.toml"
+    other.write_text(disk.settings_file.read_text())
+    put_values(other, {"listen": f"127.0.0.1:{free_port()}"})
     trial.ends("a second process at another address", trial.start("serve", "used/other.toml"), IN_USE, line)
+    (disk.folder / "linked.state").symlink_to("disk.state")
+    put_values(other, {"state": "linked.state"})
+    line = line.replace("used/disk.state", str(disk.state_file.resolve()))
+    trial.ends("a second process by a link to the state", trial.start("serve", "used/other.toml"), IN_USE, line)
     trial.check("the state is as it was", disk.state_file.read_bytes() == before)
+
+
+def try_linked(trial, disk, array):
+    """A disk whose settings name a link to its state: the state is replaced where it is, and the link stays."""
+    before = disk.state_file.read_bytes()
+    disk.set(state="linked.state")
+    client = disk.serve().client()
+    make_requests(trial, client, array, 5)
+    disk.end(client)
+    trial.check("the link stays", (disk.folder / "linked.state").is_symlink())
+    trial.check("the state that it leads to is a new one", disk.state_file.read_bytes() != before)
+    disk.set(state="disk.state")
+    disk.start_host()
 
 
 def try_taken_port(trial, disk):
@@ -158,6 +176,6 @@ def try_taken_port(trial, disk):
         address = f"127.0.0.1:{taken.getsockname()[1]}"
         disk.set(listen=address)
         before = disk.state_file.read_bytes()
-        line = f"oramdisk: can't listen at {address}: end the program that listens there, or name another place"
+        line = f"oramdisk: can't listen at {address}: see that no other program listens there, that it is a place of this machine, and that you may use it"
         trial.ends("a port that is taken", disk.start("serve"), LISTENER_TAKEN, line)
         trial.check("and the state is as it was", disk.state_file.read_bytes() == before)

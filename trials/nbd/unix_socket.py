@@ -67,7 +67,7 @@ def try_taken_socket(trial, disk):
     file.write_text("a file")
     for place in (str(disk.socket), str(file)):
         other.set(listen=f"unix:{place}")
-        line = f"oramdisk: can't listen at {place}: end the program that listens there, or name another"
+        line = f"oramdisk: can't listen at {place}: see that no other program listens there"
         end = end_of(other.start("serve"))
         trial.check("a socket that is taken", end.status == LISTENER_TAKEN and end.err.decode().startswith(line), end)
     trial.check("a file stays", file.read_text() == "a file")

@@ -28,6 +28,20 @@ pub fn text_in<R: Files + AllocGlobal>(rt: &R, name: &str) -> Result<Option<Stri
     Ok(String::from_utf8(bytes_in(rt, name)?).ok())
 }
 
+/// Returns the name of the file that a link leads to, or `name` itself if it isn't a link. A file with a lock, or one that is
+/// replaced as a whole, has to be named like this: the lock and the new file are beside the name.
+pub fn linked_name<R: Files + AllocGlobal>(rt: &R, name: String) -> Result<String, FileFault> {
+    if !Path::new(name.as_str()).is_symlink(rt) {
+        return Ok(name);
+    }
+    match rt.canonicalize(rt.alloc(), name.as_str()) {
+        Ok(path) => Ok(path.into_string()),
+        // What it leads to is missing, as on a disk that isn't mounted.
+        Err(error) if error.kind() == ErrorKind::NotFound => Ok(name),
+        Err(error) => Err(call_fault(rt.alloc(), name.as_str(), &error)),
+    }
+}
+
 /// Returns the name under which a file is written before it is renamed.
 pub fn new_name(alloc: Global, name: &str) -> Result<String, AllocError>
     ensures { IfOk result (λ new. string_bytes new ≡ name.now ++ codes ".new") }

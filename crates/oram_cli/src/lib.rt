@@ -21,7 +21,7 @@ mod writer;
 pub use command_line::{arguments, read_named, texts_of, word_taker};
 pub use file_faults::{FileFault, FileReason, call_fault, file_fault, reason_of};
 pub use files::{
-    AtomicFile, bytes_in, create_for_owner, folder_of, new_name, sync_folder, text_in,
+    AtomicFile, bytes_in, create_for_owner, folder_of, linked_name, new_name, sync_folder, text_in,
 };
 pub use hosts::HostFault;
 pub use input::InputFault;

@@ -15,7 +15,7 @@ ghost use Rattle.oram_settings.specs.Differences.{AgreeAt, IsFirstDifference, fi
 ghost use Rattle.oram_settings.specs.declared.differences.FixedKey.{FixedKey};
 
 use oram_bucket::Sealer;
-use oram_cli::{FileFault, FileReason, InputFault, LockFault, StateLock, lock_state};
+use oram_cli::{FileFault, FileReason, InputFault, LockFault, StateLock, linked_name, lock_state};
 use oram_client::{
     DiskKey, Head, KeptFault, KeptFile, Keys, SealerKind, WrongKey, kept_name, keys_for,
     read_kept_file,
@@ -43,7 +43,8 @@ fn settings_of(alloc: Global, name: &str, text: &str) -> Result<DiskSettings, Fa
 }
 
 /// Reads the settings in the file `name`, and makes the device that they describe. In the result, the path of the
-/// state's file is as seen from the working directory, not from the folder of `name`.
+/// state's file is as seen from the working directory, not from the folder of `name`, and is that of the file itself if the
+/// settings name a link to it.
 pub fn disk_in<R: Files + AllocGlobal>(
     rt: &R,
     name: &str,
@@ -52,7 +53,7 @@ pub fn disk_in<R: Files + AllocGlobal>(
     let text = settings_text(rt, name)?;
     let text = text.as_str();
     let mut settings = settings_of(alloc, name, text)?;
-    settings.state = relative_to(alloc, name, settings.state.as_str())?;
+    settings.state = linked_name(rt, relative_to(alloc, name, settings.state.as_str())?)?;
     match device_of(
         settings.size,
         settings.block,

@@ -1,8 +1,11 @@
 //! Reports how a disk is, and lets a failed one be tried again.
 
-use crate::disk_files::{disk_in, kept_in, process_in, state_bytes, take_lock};
+use crate::disk_files::{
+    check_settings, disk_in, kept_in, keys_in, process_in, state_bytes, take_lock,
+};
 use crate::failures::{forget_failure, kept_failure};
 use oram_bucket::{ChaChaSeal, PlainSeal};
+use oram_cli::call_fault;
 use oram_client::{SealerKind, kept_bytes, kept_name};
 use oram_disk_host::{Fault, FaultKind};
 use oram_settings::{report, status_of};
@@ -21,19 +24,26 @@ fn with_failure(alloc: Global, report: &str, why: &str) -> Result<String, AllocE
     format!(in alloc; "{front}state: {why}")
 }
 
-/// Prints the report of the disk whose settings are in the file `name`, from its kept state. It doesn't ask the host.
+/// Prints the report of the disk whose settings are in the file `name`, from its kept state. It doesn't ask the host. Fails
+/// with the same faults as a process that serves the disk, if the settings or the key aren't those of the disk.
 pub fn print_status(rt: &HostRuntime, name: String) -> Result<(), Fault> {
     let alloc = rt.alloc();
     let (settings, _) = disk_in(rt, name.as_str())?;
     let state = settings.state.as_str();
     let file = state_bytes(rt, kept_bytes(rt, state), state, name.as_str())?;
     let kept = kept_in(alloc, file.as_slice(), state)?;
+    let keys = keys_in(alloc, &settings, &kept.head, name.as_str())?;
     let status = match kept.head.sealer {
-        SealerKind::Plain => { status_of(&process_in(alloc, PlainSeal, kept.process, state)?.core) }
-        // No bucket is opened, so any key will do.
+        SealerKind::Plain => {
+            let core = process_in(alloc, PlainSeal, kept.process, state)?.core;
+            check_settings(&settings, core.device(), kept.head.sealer, name)?;
+            status_of(&core)
+        }
         SealerKind::ChaCha20 => {
-            let sealer = ChaChaSeal { key: [0; 32] };
-            status_of(&process_in(alloc, sealer, kept.process, state)?.core)
+            let sealer = ChaChaSeal { key: keys.sealer.0 };
+            let core = process_in(alloc, sealer, kept.process, state)?.core;
+            check_settings(&settings, core.device(), kept.head.sealer, name)?;
+            status_of(&core)
         }
     };
     let text = report(alloc, &status)?;
@@ -45,8 +55,10 @@ pub fn print_status(rt: &HostRuntime, name: String) -> Result<(), Fault> {
         )?,
         None => text,
     };
-    let _passed_over = rt.print(text.as_str());
-    Ok(())
+    match rt.print(text.as_str()) {
+        Ok(()) => Ok(()),
+        Err(error) => Err(call_fault(alloc, "standard output", &error).into()),
+    }
 }
 
 /// Lets the failed disk whose settings are in the file `name` be tried again: the next process that serves it goes on

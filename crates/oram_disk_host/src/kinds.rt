@@ -146,7 +146,8 @@ impl FaultKind {
         match self {
             FaultKind::CommandLine | FaultKind::Settings | FaultKind::Unformatted => "\n",
             FaultKind::File(reason) => file_rest(reason),
-            FaultKind::Address => ": end the program that listens there, or name another place\n",
+            FaultKind::Address =>
+                ": see that no other program listens there, that it is a place of this machine, and that you may use it\n",
             FaultKind::NotABucketFile =>
                 " isn't a file of buckets, and is left as it is: name another file\n",
             FaultKind::OlderFile =>

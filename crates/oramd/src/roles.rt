@@ -14,7 +14,7 @@ use crate::settings_file::{Settings, read_settings};
 use oram_bucket::{ChaChaSeal, PlainSeal, Sealer};
 use oram_cli::{
     AtomicFile, InputFault, SocketFault, StateLock, buffered, bytes_in, call_fault, connect,
-    listen, lock_state, text_in,
+    linked_name, listen, lock_state, text_in,
 };
 use oram_core::Core;
 use oram_geometry::Device;
@@ -64,7 +64,7 @@ fn host<R: Files + Net + AllocGlobal>(
     connections: u64,
     image: String,
 ) -> Result<(), Fault> {
-    let file = AtomicFile::new(rt.alloc(), image)?;
+    let file = AtomicFile::new(rt.alloc(), linked_name(rt, image)?)?;
     let mut server = load_image(rt, &file)?;
     let listener = listen(rt, address)?;
     let served = host_connections(rt.alloc(), &listener, connections, &mut server);
@@ -153,7 +153,7 @@ fn proxy<S: Sealer>(rt: &HostRuntime, serving: Serving, sealer: S) -> Result<(),
         state,
         tape_key,
     } = serving;
-    let file = AtomicFile::new(rt.alloc(), state)?;
+    let file = AtomicFile::new(rt.alloc(), linked_name(rt, state)?)?;
     file.check_present(rt)?;
     let _lock = take_lock(rt, file.name())?;
     let bytes = bytes_in(rt, file.name())?;
