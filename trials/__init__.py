@@ -1,4 +1,5 @@
-"""The trials: programs that run the built programs as their users do, as real processes on real sockets and files.
+"""The trials: programs that run the built programs as their users do, as real processes on real sockets and files. One of them tries the
+prover instead.
 
 Each script at the top of the repository lists what it tries, and a folder here has the code:
 
@@ -10,6 +11,7 @@ Each script at the top of the repository lists what it tries, and a folder here 
     ./trial_readme    readme/     the commands of the README, and the units of contrib/systemd
     ./trial_rows      rows/       the built programs on the rows of the folder `rows`
     ./trial_volume    volume/     a host whose file lies on a replicated volume
+    ./trial_edits     edits/      the must-fail edits, which the prover has to refuse
     ./measure         measuring/  how long a disk takes over a line with a delay and a rate; it judges nothing
 
 What several of them use is in the modules of this folder:
