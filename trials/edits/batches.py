@@ -5,15 +5,20 @@ functions can be tried in one check: an edit is refused if a goal of its own fun
 read the same libraries again each time.
 """
 
+from tempfile import TemporaryDirectory
+
 from trials.edits.edit import read_edit
 from trials.edits.prover import Prover
+from trials.programs import crates_of
 
 
 class Batches:
-    """The edits of one crate, and what was refused."""
+    """The edits of one crate, tried over the libraries in the folder `tree`, and what was refused."""
 
-    def __init__(self, folder):
-        self.name, self.folder, self.prover = folder.name, folder, None
+    def __init__(self, folder, tree):
+        self.name, self.folder, self.tree, self.prover = folder.name, folder, tree, None
+        # The crates of the repository that this one is made of.
+        self.libraries = crates_of(self.name) - {self.name}
         self.texts = {str(file.relative_to(folder)): file.read_text() for file in (folder / "src").rglob("*.rt")}
         self.files = sorted((folder / "must-fail").glob("*.edit"))
         self.lines = []
@@ -22,13 +27,13 @@ class Batches:
     def size(self):
         return sum(map(len, self.texts.values()))
 
-    def try_all(self, tree):
-        """Tries every edit over the libraries in a folder, unless all were refused before and nothing that they stand on has changed.
-        Returns itself, since a process of its own does this."""
-        self.prover = Prover(tree, self.name)
+    def try_all(self):
+        """Tries every edit, unless all were refused before and nothing that they stand on has changed. Returns itself, since a process
+        of its own does this."""
+        self.prover = Prover(self.tree, self.name)
         kept, mark = self.folder / "out" / "edits", self.prover.mark(self.files)
         if complaint := self.prover.complaint():
-            self.fail("", f"isn't tried over {tree}: {complaint}")
+            self.fail("", f"isn't tried over {self.tree}: {complaint}")
         elif kept.is_file() and kept.read_text() == mark:
             self.refused = len(self.files)
             self.lines.append(f"{self.name}: all were refused before, and nothing that they stand on has changed")
@@ -50,19 +55,21 @@ class Batches:
         return edits
 
     def try_batches(self, left):
-        """Tries one edit of each function in the first check, another one in the second, and so on."""
-        while left:
-            batch = {edit.function: edit for edit in reversed(left)}.values()
-            left = [edit for edit in left if edit not in batch]
-            for edit in self.try_together(batch):
-                if len(batch) == 1 or self.try_together([edit]):
-                    self.fail(edit.name, f"isn't refused: `{edit.function}` has no goal that isn't proved; see the lines above")
+        """Tries one edit of each function in the first check, another one in the second, and so on. What a check proves of the functions
+        that aren't edited is kept for those behind it."""
+        with TemporaryDirectory(prefix="edits-") as proved:
+            while left:
+                batch = {edit.function: edit for edit in reversed(left)}.values()
+                left = [edit for edit in left if edit not in batch]
+                for edit in self.try_together(batch, proved):
+                    if len(batch) == 1 or self.try_together([edit], proved):
+                        self.fail(edit.name, f"isn't refused: `{edit.function}` has no goal that isn't proved; see the lines above")
 
-    def try_together(self, edits):
+    def try_together(self, edits, proved):
         """Tries edits of different functions in one check, and returns those whose functions have no goal that was refused."""
         texts = dict(self.texts)
         applied = [edit for edit in edits if edit.apply(texts)]
-        goals, said = self.prover.check(texts, {edit.function for edit in applied})
+        goals, said = self.prover.check(texts, {edit.function for edit in applied}, proved)
         self.checks += 1
         refused = [edit for edit in applied if edit.function in goals]
         self.refused += len(refused)

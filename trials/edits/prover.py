@@ -50,11 +50,12 @@ class Prover:
         """A sum of all that the crate and its libraries are made of, and of these files."""
         return hashlib.sha256(repr([self.here.stamp(), *(file.read_text() for file in files)]).encode()).hexdigest()
 
-    def check(self, texts, functions):
-        """Checks the functions with these names, and those that they call, in a crate whose files have these texts. Returns the goals that
-        weren't proved, by the names of their functions, and what the prover wrote."""
+    def check(self, texts, functions, proved):
+        """Checks the functions with these names, and those that they call, in a crate whose files have these texts. The folder `proved` has
+        what earlier checks of the crate proved, which isn't checked again, and gets what this one proves. Returns the goals that weren't
+        proved, by the names of their functions, and what the prover wrote."""
         only = [word for function in sorted(functions) for word in ("--only", function)]
-        ran = self.kit.checked(self.there, texts, ["--jobs", "1", *only], None)
+        ran = self.kit.checked(self.there, texts, ["--jobs", "1", *only], proved)
         found = goals_in(ran.stdout)
         goals = {it: [goal for path in found if f"::{path}".endswith(f"::{it}") for goal in found[path]] for it in functions}
         return {function: found for function, found in goals.items() if found}, ran.stdout
