@@ -142,23 +142,30 @@ fn time_of_hashing(rt: &HostRuntime, record_len: usize) -> io::Result<Duration> 
     Ok(start.elapsed(rt)? / HASHINGS)
 }
 
-/// Formats a device, makes accesses to it, and prints how long they took.
-fn measure<S: Sealer>(rt: &HostRuntime, name: &str, device: Device, sealer: S) -> io::Result<()> {
-    let record_len = device.record_len(sealer.overhead());
-    let records = records_of(&device);
+/// Prints how long formatting one of `records` records took, beside one hashing of it.
+fn report_formatting(
+    rt: &HostRuntime,
+    name: &str,
+    formatting: Duration,
+    records: u64,
+    record_len: usize,
+) -> io::Result<()> {
     let hashing = time_of_hashing(rt, record_len)?;
-    let mut server = Server::new(rt.alloc());
-    let start = Instant::now(rt)?;
-    let Ok(mut core) = Core::format(rt.alloc(), device, sealer, &mut server) else {
-        return Err(AllocError.into());
-    };
-    let formatting = start.elapsed(rt)?;
     println!(rt; "{name}")?;
     println!(rt;
         "  formatting a record: {} ns, one hashing of it: {} ns",
         formatting.as_nanos() / u128::from(records.max(1)),
         hashing.as_nanos()
-    )?;
+    )
+}
+
+/// Makes accesses to a device, and prints how long they took.
+fn measure_accesses<S: Sealer>(
+    rt: &HostRuntime,
+    core: &mut Core<S>,
+    server: &mut Server,
+) -> io::Result<()> {
+    let record_len = core.device().record_len(core.overhead());
     let mut times = Times {
         core: Duration::ZERO,
         host: Duration::ZERO,
@@ -167,10 +174,23 @@ fn measure<S: Sealer>(rt: &HostRuntime, name: &str, device: Device, sealer: S) -
     let mut random = ChaCha20Rng::from_seed([1; 32]);
     for _ in 0..ACCESSES {
         let command = some_access(rt.alloc(), core.device(), &mut random)?;
-        access(rt, &mut core, &mut server, &command, record_len, &mut times)?;
+        access(rt, core, server, &command, record_len, &mut times)?;
     }
-    report(rt, &core, &times)?;
-    report_file(rt, &core)
+    report(rt, core, &times)?;
+    report_file(rt, core)
+}
+
+/// Formats a device, makes accesses to it, and prints how long both took.
+fn measure<S: Sealer>(rt: &HostRuntime, name: &str, device: Device, sealer: S) -> io::Result<()> {
+    let record_len = device.record_len(sealer.overhead());
+    let records = records_of(&device);
+    let mut server = Server::new(rt.alloc());
+    let start = Instant::now(rt)?;
+    let Ok(mut core) = Core::format(rt.alloc(), device, sealer, &mut server) else {
+        return Err(AllocError.into());
+    };
+    report_formatting(rt, name, start.elapsed(rt)?, records, record_len)?;
+    measure_accesses(rt, &mut core, &mut server)
 }
 
 /// Returns a part of a whole, in hundredths.

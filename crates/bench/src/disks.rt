@@ -138,35 +138,66 @@ fn carry_out<K: Keeper + Drop>(
     }
 }
 
-/// Returns how long the accesses take as rounds of one command.
-fn by_rounds(rt: &(impl Alloc<A = Global> + Clock), accesses: &[Access]) -> io::Result<Duration> {
+/// Returns how long the accesses take on a disk as rounds of one command.
+fn time_of_rounds<K: Keeper + Drop>(
+    rt: &(impl Alloc<A = Global> + Clock),
+    disk: &mut KeptVolume<K>,
+    accesses: &[Access],
+) -> io::Result<Duration> {
     let alloc = rt.alloc();
-    let mut disk = formatted(alloc, MemoryKeeper::new(alloc))?;
     let start = Instant::now(rt)?;
     for access in accesses {
-        carry_out(alloc, &mut disk, access.command(alloc)?)?;
+        carry_out(alloc, disk, access.command(alloc)?)?;
     }
     start.elapsed(rt)
 }
 
-/// Returns how long the accesses take as NBD requests.
-fn by_requests<K: Keeper + Drop>(
+/// Returns how long the accesses take as rounds of one command, on a new disk whose state is kept in memory.
+fn by_rounds(rt: &(impl Alloc<A = Global> + Clock), accesses: &[Access]) -> io::Result<Duration> {
+    let alloc = rt.alloc();
+    let mut disk = formatted(alloc, MemoryKeeper::new(alloc))?;
+    time_of_rounds(rt, &mut disk, accesses)
+}
+
+/// Returns how long a disk takes for the NBD requests in `said`.
+fn time_of_requests<K: Keeper + Drop>(
     rt: &(impl Alloc<A = Global> + Clock),
-    keeper: K,
+    disk: &mut KeptVolume<K>,
     said: &[u8],
 ) -> io::Result<Duration> {
     let alloc = rt.alloc();
-    let mut disk = formatted(alloc, keeper)?;
     let mut reader = OneAtATime { unread: said };
     let mut replies = Vec::new(alloc);
     let start = Instant::now(rt)?;
-    let served = transmit(alloc, &mut reader, &mut replies, &mut disk);
+    let served = transmit(alloc, &mut reader, &mut replies, disk);
     let taken = start.elapsed(rt)?;
     if served == Ok(u64::from(REQUESTS)) {
         Ok(taken)
     } else {
         Err(failed())
     }
+}
+
+/// Returns how long the NBD requests in `said` take on a new disk with this keeper.
+fn by_requests<K: Keeper + Drop>(
+    rt: &(impl Alloc<A = Global> + Clock),
+    keeper: K,
+    said: &[u8],
+) -> io::Result<Duration> {
+    let mut disk = formatted(rt.alloc(), keeper)?;
+    time_of_requests(rt, &mut disk, said)
+}
+
+/// Returns how long the NBD requests in `said` take on a new disk whose state is kept in the file `name`.
+fn by_file<R: Files + Clock + Alloc<A = Global>>(
+    rt: &R,
+    name: &str,
+    sync: bool,
+    said: &[u8],
+) -> io::Result<Duration> {
+    let place = FilePlace::new(rt, rt.alloc(), name)?;
+    let head = Head::new(&DiskKey([4; 32]), Salt([4; 32]), SealerKind::ChaCha20);
+    by_requests(rt, FileKeeper::new(place, head, sync), said)
 }
 
 /// Prints the time of a request, and how many times that of a round it is.
@@ -180,34 +211,38 @@ fn report(rt: &impl Print, name: &str, time: Duration, round: Duration) -> io::R
     )
 }
 
+/// Measures the accesses as rounds, and the requests in `said`, which are the same, with each keeper.
+fn measure_each<R: Files + Clock + Print + Alloc<A = Global>>(
+    rt: &R,
+    name: &str,
+    accesses: &[Access],
+    said: &[u8],
+) -> io::Result<()> {
+    let round = by_rounds(rt, accesses)?;
+    report(rt, "rounds of one command, kept in memory", round, round)?;
+    let in_memory = by_requests(rt, MemoryKeeper::new(rt.alloc()), said)?;
+    report(rt, "requests, kept in memory", in_memory, round)?;
+    for (line, sync) in [
+        ("requests, kept without sync", false),
+        ("requests, kept and synced", true),
+    ] {
+        report(rt, line, by_file(rt, name, sync, said)?, round)?;
+    }
+    Ok(())
+}
+
 /// Measures all of this with files in this folder.
 pub(crate) fn measure<R: Files + Clock + Print + Alloc<A = Global>>(
     rt: &R,
     folder: &str,
 ) -> io::Result<()> {
     let alloc = rt.alloc();
-    let accesses = some_accesses(alloc)?;
-    let said = said(alloc, &accesses)?;
-    let name = format!(in alloc; "{folder}/bench.state")?;
     println!(rt;
         "{REQUESTS} requests of {BLOCK_BYTES} bytes, reads and writes, of a disk of {BLOCKS} blocks"
     )?;
-    let round = by_rounds(rt, &accesses)?;
-    report(rt, "rounds of one command, kept in memory", round, round)?;
-    report(
-        rt,
-        "requests, kept in memory",
-        by_requests(rt, MemoryKeeper::new(alloc), &said)?,
-        round,
-    )?;
-    for (line, sync) in [
-        ("requests, kept without sync", false),
-        ("requests, kept and synced", true),
-    ] {
-        let place = FilePlace::new(rt, alloc, name.as_str())?;
-        let head = Head::new(&DiskKey([4; 32]), Salt([4; 32]), SealerKind::ChaCha20);
-        let keeper = FileKeeper::new(place, head, sync);
-        report(rt, line, by_requests(rt, keeper, &said)?, round)?;
-    }
+    let accesses = some_accesses(alloc)?;
+    let said = said(alloc, &accesses)?;
+    let name = format!(in alloc; "{folder}/bench.state")?;
+    measure_each(rt, name.as_str(), &accesses, &said)?;
     fs::remove_file(rt, name.as_str())
 }

@@ -243,17 +243,12 @@ fn report(rt: &impl Print, times: &mut Compared, differing: u32) -> io::Result<(
     println!(rt; "  answers that differ: {differing}")
 }
 
-/// Formats a tree in a new file and in memory, and makes accesses to both.
-fn measure_shape<R: Files + Clock + Print + Alloc<A = Global>, F: FilePair>(
-    rt: &R,
+/// Formats a tree in a new file, and prints how long that took.
+fn measure_puts<F: FilePair>(
+    rt: &(impl Alloc<A = Global> + Clock + Print),
     shape: Shape,
     store: &mut FileStore<F>,
-    file: &str,
-) -> io::Result<()>
-where
-    R::File: Write + Seek,
-{
-    let mut server = Server::new(rt.alloc());
+) -> io::Result<()> {
     let start = Instant::now(rt)?;
     let taken = format(rt.alloc(), store, shape)?;
     if store.commit_puts().is_err() {
@@ -265,14 +260,42 @@ where
         shape.depth,
         shape.record_len,
         formatting.as_millis()
-    )?;
-    let _ = format(rt.alloc(), &mut server, shape)?;
-    let plain_name = format!(in rt.alloc(); "{file}-plain")?;
-    let mut plain = Plain(fs::create(rt, plain_name.as_str())?);
+    )
+}
+
+/// Makes accesses to a store, to a server in memory and to the new file `plain`, and prints how long they took.
+fn measure_accesses<R: Files + Clock + Print + Alloc<A = Global>, F: FilePair>(
+    rt: &R,
+    shape: Shape,
+    store: &mut FileStore<F>,
+    server: &mut Server,
+    plain: &str,
+) -> io::Result<()>
+where
+    R::File: Write + Seek,
+{
+    let mut plain = Plain(fs::create(rt, plain)?);
     let mut times = Compared::new(rt.alloc());
-    let differing = compare(rt, shape, store, &mut server, &mut plain, &mut times)?;
-    fs::remove_file(rt, plain_name.as_str())?;
+    let differing = compare(rt, shape, store, server, &mut plain, &mut times)?;
     report(rt, &mut times, differing)
+}
+
+/// Formats a tree in a new file and in memory, and makes accesses to both.
+fn measure_shape<R: Files + Clock + Print + Alloc<A = Global>, F: FilePair>(
+    rt: &R,
+    shape: Shape,
+    store: &mut FileStore<F>,
+    file: &str,
+) -> io::Result<()>
+where
+    R::File: Write + Seek,
+{
+    measure_puts(rt, shape, store)?;
+    let mut server = Server::new(rt.alloc());
+    let _ = format(rt.alloc(), &mut server, shape)?;
+    let plain = format!(in rt.alloc(); "{file}-plain")?;
+    measure_accesses(rt, shape, store, &mut server, plain.as_str())?;
+    fs::remove_file(rt, plain.as_str())
 }
 
 /// Returns the shape of the tree of the first device of `bench core`.

@@ -1,6 +1,6 @@
 //! The files of a disk at its client.
 
-ghost use Rattle.std.specs.Prelude.{◌≡◌, ◌≢◌, ◌↔◌, ℕ, List, Ok, Err, None, Some, IfErr, IfOk, IsTrue, OnOk};
+ghost use Rattle.std.specs.Prelude.{◌≡◌, ◌≢◌, ◌↔◌, ◌⊎◌, string_bytes, ℕ, List, Ok, Err, None, Some, IfErr, IfOk, IsTrue, OnOk};
 ghost use Rattle.oram_cli.specs.declared.file_faults.FileFault.{FileFault};
 ghost use Rattle.oram_client.specs.KeptFile.{kept_file};
 ghost use Rattle.oram_client.specs.Keys as derived;
@@ -120,7 +120,7 @@ pub fn named(alloc: Global, kind: FaultKind, name: &str) -> Fault
 
 /// Decodes the core and the STOREs that wait in `process`, which the file `name` holds. Fails with [`FaultKind::NotADisk`] if
 /// `process` is the file of no process with this sealer.
-pub fn process_in<S: Sealer>(
+fn process_in<S: Sealer>(
     alloc: Global,
     sealer: S,
     process: &[u8],
@@ -199,7 +199,7 @@ pub(crate) fn sealer_of(sealing: Sealing) -> SealerKind
 }
 
 /// Fails if the settings in the file `name` aren't those that the disk was formatted with.
-pub fn check_settings(
+fn check_settings(
     settings: &DiskSettings,
     device: &Device,
     sealer: SealerKind,
@@ -214,4 +214,31 @@ pub fn check_settings(
         None => Ok(()),
         Some(key) => Err(Fault::About(FaultKind::Changed(key), name)),
     }
+}
+
+/// Decodes the process of the kept file of a disk, which `sealer` seals. Fails with
+/// [`FaultKind::NotADisk`] if it is no such process, and if the settings in the file `name` aren't those that the disk was formatted
+/// with.
+pub fn process_for<S: Sealer>(
+    alloc: Global,
+    settings: &DiskSettings,
+    name: String,
+    kept: &KeptFile<'_>,
+    sealer: S,
+) -> Result<KeptCore<S>, Fault>
+    ensures sealer { IfOk result (λ process. process.core.sealer ≡ sealer) }
+    ensures ok { IfOk result (λ process. IsFile (scheme_of S.cipher process.core) kept.now.process.now (texts process.stores.items) process.core.state) }
+    ensures agrees { IfOk result (λ process. IsFirstDifference (AgreeAt settings.now process.core.device (spec.sealing_of kept.now.head.sealer)) fixed_keys None) }
+    ensures fault { IfErr result (λ fault. IsAbout FaultKind.NotADisk (string_bytes settings.now.state) fault
+        ⊎ ((key : FixedKey) × (fault ≡ Fault.About (FaultKind.Changed key) name))) }
+    // Of a process that was kept it returns all, unless memory runs out or the settings differ; the fault names the first key.
+    ensures same { (d : Sizes) (stores : List (List ℕ)) (core : State) → IsFileOf (S.cipher sealer).overhead d kept.now.process.now stores core
+        → IfOk result (λ process. (texts process.stores.items ≡ stores) × (process.core.device ≡ d) × (process.core.state ≡ core)) }
+    ensures changed { (d : Sizes) (stores : List (List ℕ)) (core : State) → IsFileOf (S.cipher sealer).overhead d kept.now.process.now stores core
+        → IfErr result (λ fault. (fault ≡ Fault.OutOfMemory) ⊎ ((key : FixedKey) × (fault ≡ Fault.About (FaultKind.Changed key) name)
+        × IsFirstDifference (AgreeAt settings.now d (spec.sealing_of kept.now.head.sealer)) fixed_keys (Some key))) }
+{
+    let process = process_in(alloc, sealer, kept.process, settings.state.as_str())?;
+    check_settings(settings, process.core.device(), kept.head.sealer, name)?;
+    Ok(process)
 }

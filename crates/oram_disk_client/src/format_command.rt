@@ -3,7 +3,7 @@
 ghost use Rattle.std.specs.Prelude.{None, IfOk};
 ghost use Rattle.oram_client.specs.FilePlace.{FilePlaceState, NotesFound};
 
-use crate::disk_files::{disk_in, keys_in, sealer_of, take_lock};
+use crate::disk_files::{disk_in, keys_in, named, sealer_of, take_lock};
 use crate::failures::forget_failure;
 use oram_bucket::{ChaChaSeal, PlainSeal, Sealer};
 use oram_cli::{HostFault, SocketFault, buffered, connect_within, limit_silence};
@@ -152,19 +152,19 @@ fn format_with<S: Sealer>(
     rt: &HostRuntime,
     device: Device,
     sealer: S,
-    mut keeper: FileKeeper<FilePlace<&HostRuntime>>,
+    keeper: &mut FileKeeper<FilePlace<&HostRuntime>>,
     identity: &Identity,
-    settings: DiskSettings,
+    settings: &DiskSettings,
 ) -> Result<(), Fault>
     // No kept file was found.
-    requires { (earlier : FilePlaceState) × NotesFound earlier None keeper.place }
+    requires { (earlier : FilePlaceState) × NotesFound earlier None keeper.old.place }
 {
     let alloc = rt.alloc();
-    let core = formatted(rt, device, sealer, identity, &settings)?;
+    let core = formatted(rt, device, sealer, identity, settings)?;
     let file = encode_kept(alloc, &[], &core)?;
     match keeper.keep(file.as_slice()) {
         Ok(()) => Ok(()),
-        Err(_) => Err(Fault::About(FaultKind::StateNotKept, settings.state)),
+        Err(_) => Err(named(alloc, FaultKind::StateNotKept, settings.state.as_str())),
     }
 }
 
@@ -200,14 +200,19 @@ pub fn format_disk(rt: &HostRuntime, name: String) -> Result<(), Fault> {
     let sealer = sealer_of(settings.sealer);
     let head = Head::new(&DiskKey(settings.key), new_salt(rt)?, sealer);
     let keys = keys_in(alloc, &settings, &head, name.as_str())?;
-    let keeper = FileKeeper::new(place, head, settings.sync);
+    let mut keeper = FileKeeper::new(place, head, settings.sync);
     match sealer {
-        SealerKind::Plain => {
-            format_with(rt, device, PlainSeal, keeper, &keys.identity, settings)
-        }
+        SealerKind::Plain => format_with(
+            rt,
+            device,
+            PlainSeal,
+            &mut keeper,
+            &keys.identity,
+            &settings,
+        ),
         SealerKind::ChaCha20 => {
             let sealer = ChaChaSeal { key: keys.sealer.0 };
-            format_with(rt, device, sealer, keeper, &keys.identity, settings)
+            format_with(rt, device, sealer, &mut keeper, &keys.identity, &settings)
         }
     }
 }

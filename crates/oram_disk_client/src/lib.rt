@@ -3,7 +3,7 @@
 //!
 //! [`make_folder`], [`format_disk`], [`print_status`] and [`retry`] are the commands. The functions beside them read the files
 //! of a disk, for these commands and for the one that serves: [`disk_in`] its settings, [`state_bytes`], [`kept_in`] and
-//! [`process_in`] its state, and [`kept_failure`] why it failed.
+//! [`process_for`] its state, and [`kept_failure`] why it failed.
 #![tactic(auto)]
 
 mod disk_files;
@@ -12,9 +12,7 @@ mod format_command;
 mod new_disk;
 mod status_command;
 
-pub use disk_files::{
-    check_settings, disk_in, kept_in, keys_in, named, process_in, state_bytes, take_lock,
-};
+pub use disk_files::{disk_in, kept_in, keys_in, named, process_for, state_bytes, take_lock};
 pub use failures::{keep_failure, kept_failure};
 pub use format_command::format_disk;
 pub use new_disk::make_folder;

@@ -1,14 +1,12 @@
 //! Reports how a disk is, and lets a failed one be tried again.
 
-use crate::disk_files::{
-    check_settings, disk_in, kept_in, keys_in, process_in, state_bytes, take_lock,
-};
+use crate::disk_files::{disk_in, kept_in, keys_in, process_for, state_bytes, take_lock};
 use crate::failures::{forget_failure, kept_failure};
 use oram_bucket::{ChaChaSeal, PlainSeal};
 use oram_cli::call_fault;
 use oram_client::{SealerKind, kept_bytes, kept_name};
 use oram_disk_host::{Fault, FaultKind};
-use oram_settings::{report, status_of};
+use oram_settings::{Status, report, status_of};
 use std::alloc::{AllocError, Global};
 use std::str;
 
@@ -24,29 +22,10 @@ fn with_failure(alloc: Global, report: &str, why: &str) -> Result<String, AllocE
     format!(in alloc; "{front}state: {why}")
 }
 
-/// Prints the report of the disk whose settings are in the file `name`, from its kept state. It doesn't ask the host. Fails
-/// with the same faults as a process that serves the disk, if the settings or the key aren't those of the disk.
-pub fn print_status(rt: &HostRuntime, name: String) -> Result<(), Fault> {
+/// Prints the report of a disk whose core has this status and whose state is in the file `state`.
+fn print_report(rt: &HostRuntime, state: &str, status: &Status) -> Result<(), Fault> {
     let alloc = rt.alloc();
-    let (settings, _) = disk_in(rt, name.as_str())?;
-    let state = settings.state.as_str();
-    let file = state_bytes(rt, kept_bytes(rt, state), state, name.as_str())?;
-    let kept = kept_in(alloc, file.as_slice(), state)?;
-    let keys = keys_in(alloc, &settings, &kept.head, name.as_str())?;
-    let status = match kept.head.sealer {
-        SealerKind::Plain => {
-            let core = process_in(alloc, PlainSeal, kept.process, state)?.core;
-            check_settings(&settings, core.device(), kept.head.sealer, name)?;
-            status_of(&core)
-        }
-        SealerKind::ChaCha20 => {
-            let sealer = ChaChaSeal { key: keys.sealer.0 };
-            let core = process_in(alloc, sealer, kept.process, state)?.core;
-            check_settings(&settings, core.device(), kept.head.sealer, name)?;
-            status_of(&core)
-        }
-    };
-    let text = report(alloc, &status)?;
+    let text = report(alloc, status)?;
     let text = match kept_failure(rt, state)? {
         Some(why) => with_failure(
             alloc,
@@ -59,6 +38,29 @@ pub fn print_status(rt: &HostRuntime, name: String) -> Result<(), Fault> {
         Ok(()) => Ok(()),
         Err(error) => Err(call_fault(alloc, "standard output", &error).into()),
     }
+}
+
+/// Prints the report of the disk whose settings are in the file `name`, from its kept state. It doesn't ask the host. Fails
+/// with the same faults as a process that serves the disk, if the settings or the key aren't those of the disk.
+pub fn print_status(rt: &HostRuntime, name: String) -> Result<(), Fault> {
+    let alloc = rt.alloc();
+    let (settings, _) = disk_in(rt, name.as_str())?;
+    let state = settings.state.as_str();
+    let file = state_bytes(rt, kept_bytes(rt, state), state, name.as_str())?;
+    let kept = kept_in(alloc, file.as_slice(), state)?;
+    let keys = keys_in(alloc, &settings, &kept.head, name.as_str())?;
+    let status = match kept.head.sealer {
+        SealerKind::Plain => {
+            let process = process_for(alloc, &settings, name, &kept, PlainSeal)?;
+            status_of(&process.core)
+        }
+        SealerKind::ChaCha20 => {
+            let sealer = ChaChaSeal { key: keys.sealer.0 };
+            let process = process_for(alloc, &settings, name, &kept, sealer)?;
+            status_of(&process.core)
+        }
+    };
+    print_report(rt, state, &status)
 }
 
 /// Lets the failed disk whose settings are in the file `name` be tried again: the next process that serves it goes on

@@ -126,13 +126,12 @@ where
     Ok(())
 }
 
-/// Where a proxy listens, how many sessions it answers, where its host and its state are, and its tape's key.
+/// Where a proxy listens, how many sessions it answers, where its host is, and its tape's key.
 #[derive(Drop)]
 struct Serving {
     address: String,
     connections: u64,
     host: String,
-    state: String,
     tape_key: [u8; 32],
 }
 
@@ -144,49 +143,64 @@ fn take_lock(rt: &HostRuntime, state: &str) -> Result<StateLock, Fault> {
     }
 }
 
-/// Answers the sessions of a device. Saves its state however they end.
-fn proxy<S: Sealer>(rt: &HostRuntime, serving: Serving, sealer: S) -> Result<(), Fault> {
-    let Serving {
-        address,
-        connections,
-        host,
-        state,
-        tape_key,
-    } = serving;
+/// Loads the core from the state file `name`.
+fn saved_core<S: Sealer>(rt: &HostRuntime, name: &str, sealer: S) -> Result<Core<S>, Fault> {
+    let bytes = bytes_in(rt, name)?;
+    load_core(rt.alloc(), sealer, &bytes)
+}
+
+/// Saves the core to its state file.
+fn save_core<S: Sealer>(rt: &HostRuntime, file: &AtomicFile, core: &Core<S>) -> Result<(), Fault> {
+    let bytes = encode_state(rt.alloc(), core)?;
+    Ok(file.save_bytes(rt, &bytes)?)
+}
+
+/// Answers the sessions of a device, and returns how they ended. Fails if they can't begin: the core is as it was then.
+fn answer<S: Sealer>(
+    rt: &HostRuntime,
+    serving: &Serving,
+    core: &mut Core<S>,
+) -> Result<Result<(), Fault>, Fault> {
+    let trees = core.device().trees();
+    let tape = ChaChaTape {
+        key: serving.tape_key,
+        trees,
+    };
+    let mut tape = RoomyTape::new(rt.alloc(), tape, core)?;
+    let listener = listen(rt, serving.address.as_str())?;
+    let (reader, writer) = connect(rt, serving.host.as_str())?;
+    let mut link = StreamLink::new(rt.alloc(), reader, writer);
+    let count = serving.connections;
+    Ok(sessions(rt.alloc(), &listener, count, core, &mut link, &mut tape))
+}
+
+/// Answers the sessions of the device whose state is in the file `state`. Saves the state however they end.
+fn proxy<S: Sealer>(
+    rt: &HostRuntime,
+    serving: &Serving,
+    state: String,
+    sealer: S,
+) -> Result<(), Fault> {
     let file = AtomicFile::new(rt.alloc(), linked_name(rt, state)?)?;
     file.check_present(rt)?;
     let _lock = take_lock(rt, file.name())?;
-    let bytes = bytes_in(rt, file.name())?;
-    let mut core = load_core(rt.alloc(), sealer, &bytes)?;
-    let trees = core.device().trees();
-    let tape = ChaChaTape {
-        key: tape_key,
-        trees,
-    };
-    let mut tape = RoomyTape::new(rt.alloc(), tape, &core)?;
-    let listener = listen(rt, address.as_str())?;
-    let (reader, writer) = connect(rt, host.as_str())?;
-    let mut link = StreamLink::new(rt.alloc(), reader, writer);
-    let served = sessions(
-        rt.alloc(),
-        &listener,
-        connections,
-        &mut core,
-        &mut link,
-        &mut tape,
-    );
-    // The memory that the tape holds is for what follows.
-    drop(tape);
-    let bytes = encode_state(rt.alloc(), &core)?;
-    file.save_bytes(rt, &bytes)?;
+    let mut core = saved_core(rt, file.name(), sealer)?;
+    // The memory that the tape holds is free again behind this.
+    let served = answer(rt, serving, &mut core)?;
+    save_core(rt, &file, &core)?;
     ending(&core, served)
 }
 
 /// Answers the sessions of a device that is sealed with `key`, if there is one.
-fn proxy_under(rt: &HostRuntime, serving: Serving, key: Option<[u8; 32]>) -> Result<(), Fault> {
+fn proxy_under(
+    rt: &HostRuntime,
+    serving: &Serving,
+    state: String,
+    key: Option<[u8; 32]>,
+) -> Result<(), Fault> {
     match key {
-        None => proxy(rt, serving, PlainSeal),
-        Some(key) => proxy(rt, serving, ChaChaSeal { key }),
+        None => proxy(rt, serving, state, PlainSeal),
+        Some(key) => proxy(rt, serving, state, ChaChaSeal { key }),
     }
 }
 
@@ -235,10 +249,9 @@ pub(crate) fn run(rt: &HostRuntime, role: Role, name: &str) -> Result<(), Fault>
                 address: listen,
                 connections,
                 host,
-                state,
                 tape_key,
             };
-            proxy_under(rt, serving, key)
+            proxy_under(rt, &serving, state, key)
         }
     }
 }

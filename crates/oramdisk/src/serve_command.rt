@@ -9,8 +9,8 @@ use oram_client::{
 };
 use oram_core::{Core, Reason};
 use oram_disk_client::{
-    check_settings, disk_in, keep_failure, kept_failure, kept_in, keys_in, named, process_in,
-    state_bytes, take_lock,
+    disk_in, keep_failure, kept_failure, kept_in, keys_in, named, process_for, state_bytes,
+    take_lock,
 };
 use oram_disk_host::{Fault, FaultKind, listen_at, not_accepted, time};
 use oram_nbd::{BlockDevice, DiskFault, NbdFault, is_stop, serve};
@@ -311,6 +311,23 @@ fn check_newest<S: Sealer>(
     }
 }
 
+/// Asks the host whether it keeps this disk, and whether the state is the newest one.
+fn check_host<S: Sealer>(
+    alloc: Global,
+    link: &mut HostLink<'_>,
+    settings: &DiskSettings,
+    core: &Core<S>,
+) -> Result<(), Fault> {
+    match link.reach(alloc) {
+        Ok(()) => check_newest(alloc, link, settings, core),
+        Err(trouble) if trouble.lacks_memory() => Err(Fault::OutOfMemory),
+        Err(trouble) => {
+            let why = FaultKind::Host(given_up(Some(trouble)));
+            Err(named(alloc, why, settings.host.as_str()))
+        }
+    }
+}
+
 /// Returns the link of a process to its host, at which its STOREs wait. It first asks the host whether it keeps this
 /// disk, and whether the state is the newest one.
 fn reached<'a, S: Sealer>(
@@ -321,16 +338,8 @@ fn reached<'a, S: Sealer>(
 ) -> Result<(Core<S>, RoundLink<HostLink<'a>>), Fault> {
     let alloc = rt.alloc();
     let mut link = link_to(rt, settings, keys)?;
-    match link.reach(alloc) {
-        Ok(()) => {}
-        Err(trouble) if trouble.lacks_memory() => return Err(Fault::OutOfMemory),
-        Err(trouble) => {
-            let why = FaultKind::Host(given_up(Some(trouble)));
-            return Err(named(alloc, why, settings.host.as_str()));
-        }
-    }
+    check_host(alloc, &mut link, settings, &kept.core)?;
     let KeptCore { stores, core } = kept;
-    check_newest(alloc, &mut link, settings, &core)?;
     let device = core.device().copy();
     match RoundLink::with_kept(alloc, link, device, record_len(&core), stores) {
         Some(link) => Ok((core, link)),
@@ -425,14 +434,12 @@ fn serve_kept(
     let keeper = FileKeeper::new(place, kept.head, settings.sync);
     match kept.head.sealer {
         SealerKind::Plain => {
-            let process = process_in(alloc, PlainSeal, kept.process, state)?;
-            check_settings(&settings, process.core.device(), kept.head.sealer, name)?;
+            let process = process_for(alloc, &settings, name, &kept, PlainSeal)?;
             serve_process(rt, settings, clients, keeper, &keys, process)
         }
         SealerKind::ChaCha20 => {
             let sealer = ChaChaSeal { key: keys.sealer.0 };
-            let process = process_in(alloc, sealer, kept.process, state)?;
-            check_settings(&settings, process.core.device(), kept.head.sealer, name)?;
+            let process = process_for(alloc, &settings, name, &kept, sealer)?;
             serve_process(rt, settings, clients, keeper, &keys, process)
         }
     }

@@ -1,5 +1,5 @@
 //! Scripts and their runs.
-ghost use Rattle.std.specs.Prelude.{◌≡◌, ◌⊎◌, [], ◌∷◌, true, false, IfOk, IfErr, OnOk, IfSome};
+ghost use Rattle.std.specs.Prelude.{◌≡◌, ◌⊎◌, [], ◌∷◌, true, false, None, IfOk, IfErr, OnOk, IfSome};
 ghost use Rattle.std.specs.Io.BufRead.{strip_last};
 ghost use Rattle.std.specs.Io.KnownBytes.{Appends, IsAtEnd};
 ghost use Rattle.oramsim.specs.declared.script.SimFault.TheVariants.{OutOfMemory};
@@ -106,6 +106,33 @@ fn print_bad_line<W: Write>(alloc: Global, writer: &mut W, number: u64) -> Resul
     put(writer, text.as_bytes())
 }
 
+/// Runs the lines of a script, up to the first that it can't have. There is no machine yet, and `line` is room for a line.
+/// Both are borrowed, so that no way out of the loop has to drop them: each such drop is proved by itself.
+fn run_each<R: BufRead, W: Write>(
+    alloc: Global,
+    reader: &mut R,
+    writer: &mut W,
+    machine: &mut Option<Machine>,
+    line: &mut Vec<u8>,
+) -> Result<Ending, SimFault>
+    requires { machine.old ≡ None }
+    ensures ok { IfOk result (λ ending. HasEnded (R.remaining reader.old) (W.contents writer.old) (W.contents writer.new) ending) }
+    ensures end { result ≡ Ok Ending.End → IfSome (R.remaining reader.old) (λ _. IsAtEnd (R.remaining reader.new)) }
+    ensures err { IfErr result (λ e. IsGivingUp (R.remaining reader.old) (W.contents writer.old) (W.contents writer.new) e) }
+{
+    let mut held = 0;
+    for number in 0..u64::MAX {
+        if !next_line(reader, writer, &mut held, line)? {
+            return Ok(Ending::End);
+        }
+        if !pass(alloc, writer, machine, without_end(line.as_slice()))? {
+            print_bad_line(alloc, writer, number + 1)?;
+            return Ok(Ending::BadLine(number + 1));
+        }
+    }
+    Err(SimFault::Read)
+}
+
 /// Runs the lines of a script, up to the first that it can't have.
 fn run_lines<R: BufRead, W: Write>(
     alloc: Global,
@@ -116,19 +143,8 @@ fn run_lines<R: BufRead, W: Write>(
     ensures end { result ≡ Ok Ending.End → IfSome (R.remaining reader.old) (λ _. IsAtEnd (R.remaining reader.new)) }
     ensures err { IfErr result (λ e. IsGivingUp (R.remaining reader.old) (W.contents writer.old) (W.contents writer.new) e) }
 {
-    let mut machine = None;
     let mut line = Vec::new(alloc);
-    let mut held = 0;
-    for number in 0..u64::MAX {
-        if !next_line(reader, writer, &mut held, &mut line)? {
-            return Ok(Ending::End);
-        }
-        if !pass(alloc, writer, &mut machine, without_end(line.as_slice()))? {
-            print_bad_line(alloc, writer, number + 1)?;
-            return Ok(Ending::BadLine(number + 1));
-        }
-    }
-    Err(SimFault::Read)
+    run_each(alloc, reader, writer, &mut None, &mut line)
 }
 
 /// Runs the lines of a script, and prints `out of memory` if memory runs out.

@@ -52,15 +52,23 @@ fn flip(file: &mut [u8], place: usize) -> Result<(), RowFault> {
     Ok(())
 }
 
+/// Writes the file of a core.
+fn write_file(alloc: Global, core: &AnyCore, page: &mut Page) -> Result<(), RowFault> {
+    page.bytes(&core.file(alloc)?);
+    Ok(())
+}
+
 /// `file again SEALER FILE`: reads the core of a file, and writes the core's file.
 fn again(alloc: Global, words: &mut RowWords, page: &mut Page) -> Result<(), RowFault> {
     let sealing = sealing_in(alloc, words)?;
     let file = words.bytes(alloc);
     match core_in(alloc, sealing, &file)? {
-        Ok(core) => page.bytes(&core.file(alloc)?),
-        Err(fault) => write_fault(page, Some(fault)),
+        Ok(core) => write_file(alloc, &core, page),
+        Err(fault) => {
+            write_fault(page, Some(fault));
+            Ok(())
+        }
     }
-    Ok(())
 }
 
 impl Files {

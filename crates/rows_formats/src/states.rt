@@ -176,6 +176,14 @@ impl States {
         Ok(())
     }
 
+    /// Goes on with a core that was read back, and keeps the one that was never saved.
+    fn go_on_with(&mut self, core: AnyCore) {
+        let saved = self.core.replace(core);
+        if self.twin.is_none() {
+            self.twin = saved;
+        }
+    }
+
     /// `core again SEALER`: saves the core, and goes on with the one that is read back. The message on its way stays
     /// outstanding. The core that was never saved gets the same events from then on, and has to do the same.
     fn again(
@@ -188,10 +196,7 @@ impl States {
         let file = self.core()?.file(alloc)?;
         match core_in(alloc, sealing, &file)? {
             Ok(core) => {
-                let saved = self.core.replace(core);
-                if self.twin.is_none() {
-                    self.twin = saved;
-                }
+                self.go_on_with(core);
                 page.word("read back");
             }
             Err(fault) => write_fault(page, Some(fault)),

@@ -64,6 +64,30 @@ fn tell_reading(
     tell_life(page, place, life, ended)
 }
 
+/// Lets a life that has begun write, and the lives after it read, and writes how they went: what `lives` does behind its first
+/// five words.
+fn write_and_read(
+    alloc: Global,
+    round: u8,
+    place: &HostPlace,
+    life: &mut Life,
+    words: &mut RowWords,
+    page: &mut Page,
+) -> Result<(), RowFault> {
+    let (written, ended) = life.write_all(alloc, round)?;
+    page.word("written");
+    page.number(written);
+    tell_life(page, place, life, ended)?;
+    if !words.is_empty() {
+        life.next(alloc, Room::read(words)?)?;
+        place.set(Way::read(alloc, words)?)?;
+        tell_reading(alloc, place, life, page)?;
+    }
+    life.next(alloc, Room::AMPLE)?;
+    place.set(Way::Honest)?;
+    tell_reading(alloc, place, life, page)
+}
+
 /// `lives DEVICE ROUND KEEPER WAY`: lets a device write three blocks, `ROUND` in each round, in a life that may end early.
 /// The next life begins from what was kept, over the same host, and reads these blocks and one that was not written.
 /// Writes of the first life how many writes had their reply, and of the next one how many blocks it found written; of
@@ -77,16 +101,5 @@ pub(crate) fn lives(alloc: Global, words: &mut RowWords, page: &mut Page) -> Res
     let keeper = MemoryKeeper::with(alloc, file, Room::read(words)?);
     place.put(server, Way::read(alloc, words)?);
     let mut life = Life::begin(alloc, &place, keeper)?;
-    let (written, ended) = life.write_all(alloc, round)?;
-    page.word("written");
-    page.number(written);
-    tell_life(page, &place, &life, ended)?;
-    if !words.is_empty() {
-        life.next(alloc, Room::read(words)?)?;
-        place.set(Way::read(alloc, words)?)?;
-        tell_reading(alloc, &place, &mut life, page)?;
-    }
-    life.next(alloc, Room::AMPLE)?;
-    place.set(Way::Honest)?;
-    tell_reading(alloc, &place, &mut life, page)
+    write_and_read(alloc, round, &place, &mut life, words, page)
 }

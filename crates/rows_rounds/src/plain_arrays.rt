@@ -115,3 +115,17 @@ impl PlainArray {
         })
     }
 }
+
+/// Returns how many replies are those of an array of zeros to `many_commands`, in order. The first command has the ticket
+/// `first`.
+pub(crate) fn right_replies(
+    alloc: Global,
+    blocks: u32,
+    count: u32,
+    first: u64,
+    replies: &[Reply],
+) -> Result<u64, RowFault> {
+    let commands = many_commands(alloc, blocks, count)?;
+    let mut array = PlainArray::new(alloc, blocks)?;
+    Ok(array.right(&commands, first, replies))
+}

@@ -5,7 +5,7 @@ use crate::hosts::{HostPlace, Sent, Way};
 use crate::keepers::{MemoryKeeper, Room};
 use crate::kept_files::{tell_cut_fields, tell_cut_files, tell_flipped_files, tell_other_sealer};
 use crate::lives::{Life, link_for};
-use crate::plain_arrays::{PlainArray, many_commands};
+use crate::plain_arrays::{many_commands, right_replies};
 use oram_bytes::Bytes;
 use oram_core::{Command, Note, Reply, ReplyBody};
 use oram_host::Server;
@@ -189,23 +189,15 @@ impl<'a> Rounds<'a> {
         let before = self.before()?;
         let blocks = self.life()?.blocks();
         let count = words.short();
-        let commands = many_commands(alloc, blocks, count)?;
-        let mut array = PlainArray::new(alloc, blocks)?;
         let first = self.life()?.core.next_ticket();
         let mut notes = Vec::new(alloc);
+        let commands = many_commands(alloc, blocks, count)?;
         let ended = self.life()?.round(alloc, commands, &mut notes)?;
-        let accepted = notes
-            .iter()
-            .filter(|note| matches!(**note, Note::Accepted(_)))
-            .count();
-        page.word("accepted");
-        page.number(accepted);
-        tell_refusals(page, &notes);
+        tell_notes(page, &notes);
         match ended {
             Ok(replies) => {
                 page.word("right");
-                let commands = many_commands(alloc, blocks, count)?;
-                page.number(array.right(&commands, first, &replies));
+                page.number(right_replies(alloc, blocks, count, first, &replies)?);
             }
             Err(fault) => page.fault(fault),
         }
@@ -292,6 +284,17 @@ fn commands_in(alloc: Global, words: &mut RowWords) -> Result<Vec<Command>, RowF
         commands.push(command)?;
     }
     Ok(commands)
+}
+
+/// Writes how many commands the core accepted, and what it says to the others.
+fn tell_notes(page: &mut Page, notes: &[Note]) {
+    let accepted = notes
+        .iter()
+        .filter(|note| matches!(**note, Note::Accepted(_)))
+        .count();
+    page.word("accepted");
+    page.number(accepted);
+    tell_refusals(page, notes);
 }
 
 /// Writes what the core says to the commands that it refuses.

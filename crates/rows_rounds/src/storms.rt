@@ -150,6 +150,27 @@ impl Storm<'_> {
         }
         Err(RowFault::NoRow)
     }
+
+    /// Carries out this many rounds, and writes how they went.
+    fn run(
+        &mut self,
+        alloc: Global,
+        life: &mut Life,
+        rounds: u32,
+        page: &mut Page,
+    ) -> Result<(), RowFault> {
+        for _ in 0..rounds {
+            self.round(alloc, life)?;
+        }
+        life.keeper.check_memory()?;
+        page.word("ends");
+        page.number(self.ends);
+        page.word("replies");
+        page.number(self.replies);
+        page.word("right");
+        page.number(self.right);
+        Ok(())
+    }
 }
 
 /// `storm DEVICE SEED COUNT`: lets a device carry out COUNT rounds, each with one to six commands of all kinds. In half of the
@@ -180,15 +201,5 @@ pub(crate) fn run_storm(
         replies: 0,
         right: 0,
     };
-    for _ in 0..words.short() {
-        storm.round(alloc, &mut life)?;
-    }
-    life.keeper.check_memory()?;
-    page.word("ends");
-    page.number(storm.ends);
-    page.word("replies");
-    page.number(storm.replies);
-    page.word("right");
-    page.number(storm.right);
-    Ok(())
+    storm.run(alloc, &mut life, words.short(), page)
 }

@@ -72,26 +72,36 @@ fn carry_out(
     Ok(())
 }
 
+/// Returns how long the accesses take in a core and a server.
+fn time_alone(
+    rt: &HostRuntime,
+    core: &mut Core<PlainSeal>,
+    server: &mut Server,
+    events: &[Event],
+) -> io::Result<Duration> {
+    let start = Instant::now(rt)?;
+    for event in events {
+        carry_out(rt.alloc(), core, server, event)?;
+    }
+    start.elapsed(rt)
+}
+
 /// Makes the accesses in the core and the server alone, and returns how long that took.
 fn alone(rt: &HostRuntime, device: Device, events: &[Event]) -> io::Result<Duration> {
     let mut server = Server::new(rt.alloc());
     let Ok(mut core) = Core::format(rt.alloc(), device, PlainSeal, &mut server) else {
         return Err(AllocError.into());
     };
-    let start = Instant::now(rt)?;
-    for event in events {
-        carry_out(rt.alloc(), &mut core, &mut server, event)?;
-    }
-    Ok(start.elapsed(rt)?)
+    time_alone(rt, &mut core, &mut server, events)
 }
 
-/// Serves these frames over a link to a server in memory, and returns how long that took.
-fn served(rt: &HostRuntime, device: Device, frames: &[u8]) -> io::Result<Duration> {
-    let mut server = Server::new(rt.alloc());
-    let Ok(mut core) = Core::format(rt.alloc(), device, PlainSeal, &mut server) else {
-        return Err(AllocError.into());
-    };
-    let mut link = Direct::new(rt.alloc(), server);
+/// Returns how long it takes to serve these frames over a link.
+fn time_served(
+    rt: &HostRuntime,
+    core: &mut Core<PlainSeal>,
+    link: &mut Direct,
+    frames: &[u8],
+) -> io::Result<Duration> {
     let mut tape = ChaChaTape {
         key: [7; 32],
         trees: core.device().trees(),
@@ -102,15 +112,25 @@ fn served(rt: &HostRuntime, device: Device, frames: &[u8]) -> io::Result<Duratio
         rt.alloc(),
         &mut reader,
         &mut io::sink(),
-        &mut core,
-        &mut link,
+        core,
+        link,
         &mut tape,
         0,
     );
     if ended != Ok(u64::from(ACCESSES)) {
         return Err(AllocError.into());
     }
-    Ok(start.elapsed(rt)?)
+    start.elapsed(rt)
+}
+
+/// Serves these frames over a link to a server in memory, and returns how long that took.
+fn served(rt: &HostRuntime, device: Device, frames: &[u8]) -> io::Result<Duration> {
+    let mut server = Server::new(rt.alloc());
+    let Ok(mut core) = Core::format(rt.alloc(), device, PlainSeal, &mut server) else {
+        return Err(AllocError.into());
+    };
+    let mut link = Direct::new(rt.alloc(), server);
+    time_served(rt, &mut core, &mut link, frames)
 }
 
 /// Prints how long a session takes, beside the same accesses alone.

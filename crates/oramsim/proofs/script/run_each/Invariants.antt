@@ -1,7 +1,7 @@
 use Rattle.std.proofs.Common.{IfSome}
 use Rattle.oramsim.specs.Correspondence.{AreWhole}
 use Rattle.oramsim.proofs.Progress.{Came}
-use Rattle.oramsim.proofs.script.run_lines.Given as goal
+use Rattle.oramsim.proofs.script.run_each.Given as goal
 
 abbrev pub invariant-loop-number : goal.invariant-loop-number
 invariant-loop-number g l = record {

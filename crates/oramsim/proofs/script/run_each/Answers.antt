@@ -1,14 +1,15 @@
-use Rattle.std.proofs.Common.{◌≡◌, ◌<◌, true, Ok, length, ap, ◌∙◌, arith}
+use Rattle.std.proofs.Common.{◌≡◌, ◌<◌, true, Ok, length, ap, sym, subst, ◌∙◌, arith}
 use Rattle.std.proofs.KnownBytes.{Keeps-refl}
 use Rattle.std.specs.Io.BufRead.{strip_last}
+use Rattle.oramsim.specs.Correspondence.{AreWhole}
 use Rattle.oramsim.specs.declared.script.SimFault.TheVariants.{Read}
 use Rattle.oramsim.proofs.Cut.{came_kept, cut_error, cut_here, cut_within}
 use Rattle.oramsim.proofs.GivenUp.{raised}
 use Rattle.oramsim.proofs.Progress.{came_none, came_more, came_end, came_bad}
-use Rattle.oramsim.proofs.script.run_lines.Goals as goal
+use Rattle.oramsim.proofs.script.run_each.Goals as goal
 
 pub loop-number-init : goal.loop-number-init
-loop-number-init g c = record { whole = tt; came = came_none _ _ }
+loop-number-init g c = record { whole = subst AreWhole (sym c.requires) tt; came = rw (c.requires) (came_none _ _) }
 
 pub returns-in_err-next_line-clause-err : goal.returns-in_err-next_line-clause-err
 returns-in_err-next_line-clause-err g c =
