@@ -55,8 +55,8 @@ pub fn print_status(rt: &HostRuntime, name: String) -> Result<(), Fault> {
             status_of(&process.core)
         }
         SealerKind::ChaCha20 => {
-            let sealer = ChaChaSeal { key: keys.sealer.0 };
-            let process = process_for(alloc, &settings, name, &kept, sealer)?;
+            let key = keys.sealer.0;
+            let process = process_for(alloc, &settings, name, &kept, ChaChaSeal { key })?;
             status_of(&process.core)
         }
     };

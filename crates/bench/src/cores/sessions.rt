@@ -95,13 +95,13 @@ fn alone(rt: &HostRuntime, device: Device, events: &[Event]) -> io::Result<Durat
     time_alone(rt, &mut core, &mut server, events)
 }
 
-/// Returns how long it takes to serve these frames over a link.
-fn time_served(
-    rt: &HostRuntime,
-    core: &mut Core<PlainSeal>,
-    link: &mut Direct,
-    frames: &[u8],
-) -> io::Result<Duration> {
+/// Serves these frames over a link to a server in memory, and returns how long that took.
+fn served(rt: &HostRuntime, device: Device, frames: &[u8]) -> io::Result<Duration> {
+    let mut server = Server::new(rt.alloc());
+    let Ok(mut core) = Core::format(rt.alloc(), device, PlainSeal, &mut server) else {
+        return Err(AllocError.into());
+    };
+    let mut link = Direct::new(rt.alloc(), server);
     let mut tape = ChaChaTape {
         key: [7; 32],
         trees: core.device().trees(),
@@ -112,25 +112,15 @@ fn time_served(
         rt.alloc(),
         &mut reader,
         &mut io::sink(),
-        core,
-        link,
+        &mut core,
+        &mut link,
         &mut tape,
         0,
     );
     if ended != Ok(u64::from(ACCESSES)) {
         return Err(AllocError.into());
     }
-    start.elapsed(rt)
-}
-
-/// Serves these frames over a link to a server in memory, and returns how long that took.
-fn served(rt: &HostRuntime, device: Device, frames: &[u8]) -> io::Result<Duration> {
-    let mut server = Server::new(rt.alloc());
-    let Ok(mut core) = Core::format(rt.alloc(), device, PlainSeal, &mut server) else {
-        return Err(AllocError.into());
-    };
-    let mut link = Direct::new(rt.alloc(), server);
-    time_served(rt, &mut core, &mut link, frames)
+    Ok(start.elapsed(rt)?)
 }
 
 /// Prints how long a session takes, beside the same accesses alone.
