@@ -59,8 +59,9 @@ def try_many_sessions(tally, oramd, dice, sessions=12, requests=100):
         session.close()
     tally.ends("many sessions: the proxy's end", proxy, 0)
     tally.ends("many sessions: the host's end", setup.host, 0)
-    # Behind the first sessions it is as large as one session needs. Room for the requests of the other eight would be 7 MB.
-    tally.check("many sessions: the proxy's memory", sizes[-1] < sizes[3] + 3_000_000, sizes)
+    # The largest of the first four sessions is as large as any: what the proxy has given back when it is looked at differs from
+    # session to session. Room for the requests of the other eight would be 7 MB.
+    tally.check("many sessions: the proxy's memory", max(sizes[4:]) < max(sizes[:4]) + 3_000_000, sizes)
 
 
 def size_of(process):
