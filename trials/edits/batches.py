@@ -56,7 +56,7 @@ class Batches:
 
     def try_batches(self, left):
         """Tries one edit of each function in the first check, another one in the second, and so on. What a check proves of the functions
-        that aren't edited is kept for those behind it."""
+        that aren't edited is kept for the checks after it."""
         with TemporaryDirectory(prefix="edits-") as proved:
             while left:
                 batch = {edit.function: edit for edit in reversed(left)}.values()

@@ -14,7 +14,7 @@ from trials.programs import TOP
 ANSWERED = re.compile(r"\./proofs/(\S+)/\w+\.antt:\d+:\d+: error: `([^`]+)`: (.*)")
 # What depends on a goal that isn't proved, and a file that names what an edit took away: both say nothing of a contract.
 NO_REFUSAL = re.compile(r"was rejected, w|has no field|is not in scope|has no `|was not admitted")
-# A goal without an answer, which the prover's search didn't prove. The line of its function comes behind those of its goals.
+# A goal without an answer, which the prover's search didn't prove. The line of its function comes after those of its goals.
 SEARCHED = re.compile(r"note: src/\S+:\d+:\d+: .*\(`([^`]+)`\)")
 FUNCTION = re.compile(r"fn \w+::(\S+): ")
 
