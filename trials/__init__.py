@@ -6,7 +6,7 @@ Each script at the top of the repository lists what it tries, and a folder here 
     ./trial           oramd/      oramd, as host, formatting and proxy
     ./trial_disk      host/       `oramdisk host`
     ./trial_nbd       nbd/        a disk of oramdisk, over NBD
-    ./trial_formats   formats/    what a disk's two sides keep, read by docs/formats.md alone
+    ./trial_formats   formats/    what a disk's two sides keep, read as docs/formats.md says
     ./trial_memory    memory/     programs whose allocations are refused
     ./trial_readme    readme/     the commands of the README, and the units of contrib/systemd
     ./trial_rows      rows/       the built programs on the rows of the folder `rows`
@@ -19,7 +19,7 @@ What several of them use is in the modules of this folder:
     programs          where the built programs are, and whether they are up to date
     trial, tally      what the parts of one trial share; the counts of what held and what didn't
     processes, ports  how processes are started and how they end; free ports
-    connections, relay  connections and frames; what stands between a host and its clients, and cuts their connections
+    connections, relay  connections and frames; what is between a host and its clients, and cuts their connections
     settings          settings files
     statuses          the statuses with which oramdisk ends
     strace            system calls: counted, in their order, and made to fail

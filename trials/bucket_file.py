@@ -18,7 +18,7 @@ class BucketFile:
         self.file, self.log = file, log_of(file)
 
     def trees(self):
-        """The trees' depths, the lengths of their records, and where their cells begin. The file ends behind the last byte written."""
+        """The trees' depths, the lengths of their records, and where their cells begin. The file ends after the last byte written."""
         whole = self.file.read_bytes()[self.ENTRIES : 2 * self.ENTRIES].ljust(self.ENTRIES, b"\0")
         entries = {number: struct.unpack_from("<BBxxIQ", whole, 16 * number) for number in range(256)}
         return {number: entry[1:] for number, entry in entries.items() if entry[0] == 1}

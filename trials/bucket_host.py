@@ -70,8 +70,8 @@ class Host:
         return (self.folder / "log").read_text().splitlines()
 
     def connection_line(self, port):
-        """What the line of the connection from this port says: messages, bytes in, bytes out, and how the connection ended. The line stands
-        there once the next connection is answered."""
+        """What the line of the connection from this port says: messages, bytes in, bytes out, and how the connection ended. The
+        line is there by the time the next connection is answered."""
         client = self.client()
         client.ask(b"")
         client.close()

@@ -103,7 +103,7 @@ class Disk:
         return stream and NbdClient(stream)
 
     def client(self):
-        """A connection to it, behind its handshake."""
+        """A connection to it, after its handshake."""
         nbd = self.connect()
         if nbd is None or not nbd.greet() or nbd.choose() is None:
             return None

@@ -24,7 +24,7 @@ class DiskArray:
             self.blocks[at] = after if is_sure else self.blocks[at] | after
 
     def may_hold(self, offset, found):
-        """Whether these bytes may stand there."""
+        """Whether these bytes may be there."""
         copy = DiskArray(self.size, self.block)
         copy.blocks = [set(held) for held in self.blocks]
         copy.write(offset, found, True)

@@ -27,7 +27,7 @@ class Request(NamedTuple):
 
     @classmethod
     def drawn(cls, dice, size):
-        """A random request of a disk of this size."""
+        """A random request to a disk of this size."""
         kind = dice.choice([WRITE, WRITE, WRITE, TRIM, ZEROES, READ, FLUSH])
         if kind == FLUSH:
             return cls(FLUSH)
@@ -42,12 +42,12 @@ def head_of(cookie, kind, offset, length, flags=0):
 
 
 def option_of(kind, sent=b"", length=None):
-    """An option with what is sent along, and the length that it says of this, if that is another one."""
+    """An option with the data that is sent along, and the length that it gives for this data, if it isn't the right one."""
     return b"IHAVEOPT" + struct.pack(">II", kind, len(sent) if length is None else length) + sent
 
 
 class NbdClient:
-    """A connection to a disk. Each call returns None if the connection has ended."""
+    """A connection to a disk. Calls that return what was read return None if the connection has ended."""
 
     def __init__(self, stream):
         self.stream = stream
@@ -60,7 +60,7 @@ class NbdClient:
         return hello == b"NBDMAGICIHAVEOPT\x00\x03"
 
     def take(self, count):
-        """The next bytes of the connection, this many."""
+        """This number of bytes, the next ones of the connection."""
         try:
             found = read_exactly(self.stream, count)
         except OSError:
@@ -104,7 +104,7 @@ class NbdClient:
         return self.give(head_of(self.cookie, request.kind, request.offset, request.length, request.flags) + request.payload)
 
     def hear(self, cookie, request):
-        """The error of the reply to a request, and what the reply brings; None also if another reply comes."""
+        """The error of the reply to a request, and what the reply brings. None also if another reply comes."""
         reply = self.take(16)
         if reply is None:
             return None
@@ -115,6 +115,6 @@ class NbdClient:
         return None if found is None else (error, found)
 
     def close(self):
-        """Says that it goes, and goes."""
+        """Tells the disk that it leaves, and closes the connection."""
         self.give(head_of(0, DISCONNECT, 0, 0))
         self.stream.close()

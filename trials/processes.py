@@ -34,7 +34,7 @@ def number_begun():
 
 @atexit.register
 def end_all_since(number=0):
-    """Kills what still runs of the processes that were begun behind so many others."""
+    """Kills the processes that still run, of all that were begun after the first `number` ones."""
     for process in BEGUN[number:]:
         if process.poll() is None:
             os.killpg(process.pid, signal.SIGKILL)

@@ -1,4 +1,4 @@
-"""What stands between a host and its clients, and disturbs them."""
+"""What is between a host and its clients, and disturbs them."""
 
 import socket
 import threading

@@ -18,13 +18,32 @@ def is_usable():
 
 
 def killing_before(calls, when):
-    """The words that start a program under strace, which kills it right before one of these calls: the one of this number."""
+    """The words that start a program under strace, which kills it right before one of these calls: the one with this
+    number."""
     return ["strace", "-f", "-o", "/dev/null", "-e", f"trace={calls}", "-e", f"inject={calls}:signal=SIGKILL:when={when}"]
 
 
 def denying(file):
-    """The words that start a program under strace, which lets each attempt to open this file fail for want of permission."""
+    """The words that start a program under strace, which makes each attempt to open this file fail for lack of
+    permission."""
     return ["strace", "-f", "-o", "/dev/null", "-P", file, "-e", "trace=openat", "-e", "inject=openat:error=EACCES"]
+
+
+def noting(calls, file):
+    """The words that start a program under strace, which writes these calls to a file, with the names of the files that they are about."""
+    return ["strace", "-f", "-y", "-o", file, "-e", f"trace={calls}"]
+
+
+def writes_before_sync(text, file):
+    """What a process wrote to a file before it first synced it, by the lines of strace: for each write its place and its length. None if
+    it never synced it."""
+    name, writes = re.escape(f"<{file}>"), []
+    for line in text.splitlines():
+        if re.search(rf"fd?a?t?a?sync\(\d+{name}\) += 0", line):
+            return writes
+        if wrote := re.search(rf"pwrite64\(\d+{name}, .*, \d+, (\d+)\) += (\d+)", line):
+            writes.append((int(wrote[1]), int(wrote[2])))
+    return None
 
 
 def trace_renames_and_syncs(folder, *words):

@@ -1,8 +1,8 @@
 """The must-fail edits of a crate, tried together.
 
 A function is proved from its own body and from the contracts of what it calls, never from the bodies of those. So edits of different
-functions can be tried in one check: an edit is refused if a goal of its own function isn't proved. A check of its own for each would
-read the same libraries again each time.
+functions can be tried in one check: an edit is refused if a goal of its own function isn't proved. A separate
+check for each edit would read the same libraries each time.
 """
 
 from tempfile import TemporaryDirectory
@@ -28,8 +28,8 @@ class Batches:
         return sum(map(len, self.texts.values()))
 
     def try_all(self):
-        """Tries every edit, unless all were refused before and nothing that they stand on has changed. Returns itself, since a process
-        of its own does this."""
+        """Tries every edit, unless all were refused before and nothing that they depend on has changed. Returns itself, since a
+        process of its own does this."""
         self.prover = Prover(self.tree, self.name)
         kept, mark = self.folder / "out" / "edits", self.prover.mark(self.files)
         if complaint := self.prover.complaint():

@@ -7,7 +7,7 @@ from trials.edits.sources import functions_in
 
 @dataclass(frozen=True)
 class Edit:
-    """An edit of a crate: its name, that of its function, and what it replaces by what in which files."""
+    """An edit of a crate: its name, the name of its function, and which text it replaces by which other one in which files."""
 
     name: str
     function: str
@@ -42,7 +42,7 @@ def read_edit(file, texts):
 
 
 def function_with(path, text, part):
-    """The name of the function in whose body this part of a file stands."""
+    """The name of the function in whose body this part of a file is."""
     if text.count(part) != 1:
         raise ValueError(f"{path} has its `old:` text {text.count(part)} times, and not once")
     begin = text.index(part)

@@ -34,8 +34,8 @@ class Proofs:
         return self.ended or self.proved.issuperset(crates)
 
     def room_for_checks(self):
-        """How many checks of edits may run at a time: each takes a processor that no proof wants, and its memory. After the proofs one
-        runs at least."""
+        """How many checks of edits may run at a time: each takes a processor that no proof needs, and memory. After the proofs
+        at least one runs."""
         processors = len(os.sched_getaffinity(0))
         if self.ended:
             return max(1, min(processors, kib("MemTotal") * 9 // 10 // OF_A_CHECK))

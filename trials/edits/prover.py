@@ -1,4 +1,4 @@
-"""Checks of a crate with other texts of its files, as the toolchain makes them itself for a must-fail edit."""
+"""Checks of a crate whose files have other texts, made in the way in which the toolchain itself tries a must-fail edit."""
 
 import hashlib
 import importlib.machinery
@@ -10,9 +10,11 @@ from pathlib import Path
 
 from trials.programs import TOP
 
-# A goal of a function that has an answer or a proof in a file. The name of one that calls itself begins with a plus there.
+# A goal of a function that has an answer or a proof in a file. The name of a function that calls itself begins with a plus
+# there.
 ANSWERED = re.compile(r"\./proofs/(\S+)/\w+\.antt:\d+:\d+: error: `([^`]+)`: (.*)")
-# What depends on a goal that isn't proved, and a file that names what an edit took away: both say nothing of a contract.
+# Errors in what depends on a goal that isn't proved, or in a file that names what an edit took away: they say nothing about a
+# contract.
 NO_REFUSAL = re.compile(r"was rejected, w|has no field|is not in scope|has no `|was not admitted")
 # A goal without an answer, which the prover's search didn't prove. The line of its function comes after those of its goals.
 SEARCHED = re.compile(r"note: src/\S+:\d+:\d+: .*\(`([^`]+)`\)")
@@ -40,7 +42,7 @@ class Prover:
         self.here, self.there = (self.kit.rtlib.Crate(f"{top}/crates/{crate}", str(top), {}) for top in (TOP, tree))
 
     def complaint(self):
-        """Why nothing can be tried over that folder; None if it can."""
+        """Why nothing can be tried over that folder; None if edits can be tried."""
         lacking = [library.name for library in self.there.below() if not Path(library.rlib).is_dir()]
         if lacking:
             return f"not all of its libraries are proved there: {', '.join(lacking)}"

@@ -40,7 +40,7 @@ def module_of(file):
 
 
 def owner_in(head):
-    """What the prover calls the `impl` block with this head: the name of its type, and behind it all those of its trait, as
+    """What the prover calls the `impl` block with this head: the name of its type, and after it all those of its trait, as
     `TroubleFromIoError` for `impl From<io::Error> for Trouble`."""
     head = re.sub(r"^<(?:[^<>]|<[^<>]*>)*>", "", head.strip())
     trait, _, owner = head.rpartition(" for ")

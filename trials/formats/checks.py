@@ -29,7 +29,7 @@ class Reading:
         self.tally.check(f"{self.name}: {what}", holds, seen)
 
     def run(self, accepted):
-        """All checks. So many commands were accepted."""
+        """All checks, given how many commands were accepted."""
         self.check_head(accepted)
         self.check_stores()
         self.check_places()

@@ -89,7 +89,8 @@ class Life:
 
 
 def try_disk(tally, folder, program, name, sizes, values):
-    """A disk of these sizes, by these values of its settings: read once it is formatted, once it was used, and with a command at work."""
+    """A disk of these sizes, with these values in its settings, is read once it is formatted, once it was used, and with a
+    command at work."""
     disk = DiskFolder(Path(folder) / name, program, sizes, values)
     try:
         life = Life(tally, name, disk, sizes)

@@ -21,7 +21,7 @@ COOKIE = 7
 
 
 def take(stream, count):
-    """The next bytes of a connection, this many."""
+    """This number of bytes, the next ones of a connection."""
     data = b""
     while len(data) < count:
         part = stream.recv(count - len(data))
@@ -43,7 +43,7 @@ def ask_host(stream, body):
 
 
 class PageClient:
-    """A client of a disk, by the page's part on NBD."""
+    """A client of a disk, written after the page's part on NBD."""
 
     def __init__(self, path, process):
         self.stream = self.connect(path, process)
@@ -102,7 +102,7 @@ class DiskFolder:
         return begin([self.program, *words], stdin=subprocess.DEVNULL, stdout=self.log, stderr=self.log)
 
     def run(self, *words):
-        """Runs the program to its end, which has to be a good one."""
+        """Runs the program to its end, which has to be a success."""
         status = self.start(*words).wait(LONGEST_STEP)
         if status != 0:
             raise Misread(f"oramdisk {words[0]} ended with the status {status}: {self.said()}")
@@ -140,6 +140,6 @@ class DiskFolder:
         return read_state((self.folder / "disk.state").read_bytes())
 
     def said(self):
-        """The last that its processes have printed."""
+        """What its processes have printed last."""
         self.log.flush()
         return Path(self.log.name).read_text(errors="replace")[-1000:]

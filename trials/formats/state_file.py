@@ -72,7 +72,7 @@ def read_state(data):
     if mode in AT_WORK:
         read_work(reader, state)
     if mode != FAILED and not reader.is_at_end():
-        raise Misread("there is more behind the state")
+        raise Misread("there is more after the state")
     return state
 
 
@@ -94,7 +94,7 @@ def read_trees(reader, state):
 
 
 def read_work(reader, state):
-    """The commands that wait, and where the first of them is."""
+    """The commands that wait, and how far the first of them is."""
     sizes, trees = state.sizes, len(state.sizes.trees())
     for _ in range(reader.number(4)):
         _session, kind, address = reader.number(4), reader.number(1), reader.number(4)

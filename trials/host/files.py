@@ -77,7 +77,7 @@ def make_other_files(trial, folder):
 
 
 def try_logs(trial):
-    """A file and its log belong together: what was stored last may stand in the log alone."""
+    """A file and its log belong together: what was stored last may be only in the log."""
     folder = trial.folder / "logs"
     folder.mkdir()
     host, model = used_host(trial, folder)
@@ -87,7 +87,7 @@ def try_logs(trial):
     whole, kept = file.read_bytes(), log.read_bytes()
     try_wrong_logs(trial, folder, file, log)
     try_log_alone(trial, folder, file, log)
-    # Both are moved by copying them, and what stands in the log alone comes along.
+    # Both are moved by copying them, and what is only in the log comes along.
     moved = Host(trial.oramdisk, trial.folder / "moved", "whole")
     moved.path().write_bytes(whole)
     log_of(moved.path()).write_bytes(kept)
@@ -104,7 +104,7 @@ def try_wrong_logs(trial, folder, file, log):
     other.stop()
     kept = log.read_bytes()
     log.unlink()
-    log_is = "oramdisk: the log of whole, the file beside it with -log behind its name,"
+    log_is = "oramdisk: the log of whole, the file beside it with -log after its name,"
     put_back = "put back the one that it was served with last"
     start = lambda: trial.start("host", "host.toml", folder=folder)
     check_refused(trial, "a file without its log", file, start, WRONG_LOG, f"{log_is} isn't there: {put_back}")
@@ -118,7 +118,7 @@ def try_wrong_logs(trial, folder, file, log):
 def try_log_alone(trial, folder, file, log):
     """The file is missing, and only its log is there: no new file is made."""
     file.unlink()
-    alone = "oramdisk: there is no file whole, but its log, the file beside it with -log behind its name, holds records of it: put the file back, or take the log away"
+    alone = "oramdisk: there is no file whole, but its log, the file beside it with -log after its name, holds records of it: put the file back, or take the log away"
     start = lambda: trial.start("host", "--new", "host.toml", folder=folder)
     check_refused(trial, "a log without its file", log, start, WRONG_LOG, alone)
 

@@ -10,7 +10,7 @@ from trials.host.kills import format_tree, random_store
 
 
 def mount_disk(folder, size):
-    """Mounts a disk of this size at a new folder. Returns whether it could."""
+    """Mounts a disk of this size at a new folder. Returns whether that worked."""
     folder.mkdir()
     words = ["mount", "-t", "tmpfs", "-o", f"size={size}", "tmpfs", str(folder)]
     return subprocess.run(words, stderr=subprocess.DEVNULL).returncode == 0
@@ -29,13 +29,13 @@ def try_full_disk(trial, depth=3, record_len=8000):
         body = fill_disk(trial, host, model, depth, record_len)
         make_room(trial, host, model, body)
     finally:
-        # An exception may leave the host, whose folder this is.
+        # After an exception the host may still run, with its file in this folder: so the unmounting is a lazy one.
         subprocess.run(["umount", "-l", str(folder)], check=True)
 
 
 def fill_disk(trial, host, model, depth, record_len):
     """Stores paths until one is refused, and looks at what is there. Returns the STORE that was refused."""
-    # What is left goes to another file, but for a little.
+    # Another file takes up the room that is left, except for a little.
     room = os.statvfs(host.folder)
     (host.folder / "filler").write_bytes(bytes(max(room.f_bavail * room.f_frsize - 100_000, 0)))
     client = host.client()

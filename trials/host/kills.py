@@ -1,9 +1,11 @@
-"""A host that is killed: while it stores, right before a write or a sync, behind a formatting, and while thousands of PUTs wait."""
+"""A host that is killed: while it stores, right before a write or a sync, after a formatting, and while thousands of PUTs wait. And what it
+writes when it starts again."""
 
 import contextlib
 import copy
 import os
 import signal
+import tempfile
 import threading
 from pathlib import Path
 
@@ -12,6 +14,9 @@ from trials.bucket_file import BucketFile
 from trials.bucket_host import check_answers
 from trials.bucket_messages import DONE, MISSING, PUT, SHAPE_TAKEN, Model, fetch, is_a, put, refused, shape, store
 from trials.host.messages import random_body
+
+# How many bytes a host writes at once when it writes its log over itself.
+WRITTEN_AGAIN = 4096
 
 # The most records of a formatting that a host leaves unsynced before it syncs them together.
 MOST_PENDING = 4096
@@ -76,8 +81,8 @@ def try_kills(trial, rounds=15, depth=4, record_len=2000):
 
 
 def try_cut_writes(trial, rounds=40):
-    """The host is killed right before a write or a sync, also of its opening: what was acknowledged is there, and the request in flight is
-    there whole or not at all. Of the PUTs that no other answer has covered yet, a beginning is there."""
+    """The host is killed right before a write or a sync, even while it opens its file: what was acknowledged is there, and the
+    request in flight is there whole or not at all. Of the PUTs that no other answer has covered yet, a beginning is there."""
     if not strace.is_usable():
         trial.skip()
         return
@@ -86,16 +91,48 @@ def try_cut_writes(trial, rounds=40):
     host.stop()
     cuts = 0
     for _ in range(rounds):
-        when = trial.dice.randrange(1, 60)
+        # A host first writes its log over itself. Most of the cuts come after that.
+        opening = log_of(host).stat().st_size // WRITTEN_AGAIN + 1
+        when = trial.dice.randrange(1, 60) + trial.dice.choice([0, opening, opening, opening])
         host.start(strace.killing_before("pwrite64,fdatasync,fsync", when))
         states, has_ended = ask_until_killed(trial, host, model)
-        # strace ends by the signal that its program was killed by.
+        # strace ends by the same signal as the program that it runs.
         cuts += has_ended and host.process.returncode == -signal.SIGKILL
         model = state_after_cut(trial, host, states, when)
         if model is None:
             break
     trial.check("cuts", cuts > rounds // 4, cuts)
     print(f"{cuts} hosts cut off at a write or a sync", flush=True)
+
+
+def log_of(host):
+    """The log beside a host's file."""
+    return host.path().with_name(f"{host.path().name}-log")
+
+
+def try_log_written_again(trial, stores=20):
+    """A host writes its whole log over itself before it first syncs it, since an earlier sync may have failed. Nothing else changes."""
+    if not strace.is_usable():
+        trial.skip()
+        return
+    host, model = trial.host("log-again").start(), Model()
+    format_tree(trial, host, model, 3, 700)
+    client = host.client()
+    check_answers(trial, "STOREs into the log", client, model, [random_store(trial.dice, 3, 700) for _ in range(stores)])
+    client.close()
+    host.stop()
+    log, before = log_of(host), log_of(host).read_bytes()
+    with tempfile.NamedTemporaryFile() as found:
+        host.start(strace.noting("pwrite64,fsync,fdatasync", found.name))
+        client = host.client()
+        check_answers(trial, "what it holds with its log written again", client, model, [fetch(0, leaf) for leaf in range(8)])
+        client.close()
+        kill_children(host.process)
+        host.wait()
+        writes = strace.writes_before_sync(Path(found.name).read_text(), log.resolve())
+    places = {at for place, length in writes or [] for at in range(place, place + length)}
+    trial.check("the log is written again before it is synced", places == set(range(len(before))), (len(places), len(before)))
+    trial.check("the log that was written again", log.read_bytes() == before)
 
 
 def ask_until_killed(trial, host, model, count=40):
@@ -121,14 +158,14 @@ def ask_until_killed(trial, host, model, count=40):
 
 
 def kill_children(tracer):
-    """Kills the processes that strace watches; it ends with them. They may have ended by now, at a write behind the connection's end."""
+    """Kills the processes that strace watches; it ends with them. They may have ended by now, at a write after the connection's end."""
     with contextlib.suppress(OSError):
         for watched in Path(f"/proc/{tracer.pid}/task/{tracer.pid}/children").read_text().split():
             os.kill(int(watched), signal.SIGKILL)
 
 
 def state_after_cut(trial, host, states, when):
-    """The state in which the host is found behind a cut; None if it is none of those in which it may be."""
+    """The state in which the host is found after a cut; None if it is none of those in which it may be."""
     host.start()
     client = host.client()
     fetches = states[-1].all_fetches()

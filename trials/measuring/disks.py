@@ -45,7 +45,7 @@ class MeasuredDisk:
         subprocess.run([oramdisk, "format", "disk.toml"], cwd=folder, check=True, stderr=subprocess.DEVNULL)
 
     def set_host(self, port):
-        """Writes its settings anew, each of them, so that programs of several versions are measured with the same ones."""
+        """Writes all of its settings anew, so that programs of several versions are measured with the same ones."""
         values = f'block = {BLOCK}\nslots = 4\ntable = {self.table}\nsealer = "chacha"\nstate = "disk.state"\nsync = true\nreconnect_timeout = 600\n'
         reached = f'host = "127.0.0.1:{port}"\nlisten = "unix:disk.sock"\n'
         (self.folder / "disk.toml").write_text(f'size = {self.size}\nkey = "{self.key}"\n{reached}{values}')
@@ -87,7 +87,8 @@ def measure_disks(programs, top, size, is_one_tree, ways, count):
 
 
 def measure_file(folder, way, count, is_luks):
-    """What the same requests of a file behind nbdkit take over such a line: of a plain one, or of one that is encrypted at home by qemu."""
+    """What the same requests of a file behind nbdkit take over such a line: of a plain file, or of one that qemu encrypts on
+    the client's side."""
     name, opened = folder / "plain", folder / "luks.sock"
     opened.unlink(missing_ok=True)
     name.write_bytes(bytes(1 << 26))

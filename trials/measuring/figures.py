@@ -1,4 +1,4 @@
-"""A client that takes times, and the figures that come of them."""
+"""A client that measures times, and the figures that result."""
 
 import os
 import random
@@ -54,13 +54,13 @@ class TimedClient(NbdClient):
 
 
 def busy(process):
-    """The seconds of processor that a process has had."""
+    """The seconds of processor time that a process has used."""
     fields = Path(f"/proc/{process.pid}/stat").read_text().rpartition(")")[2].split()
     return (int(fields[11]) + int(fields[12])) / TICKS
 
 
 class Figures:
-    """What requests over one line took: seconds each, but for the number a second with sixteen in flight."""
+    """What requests over one line took: seconds for each, and the number of requests a second with sixteen in flight."""
 
     def __init__(self, client, count, line=None, processes=()):
         places = client.size // BLOCK

@@ -72,7 +72,8 @@ class Line(threading.Thread):
                 return
 
     def pass_on(self, queue, stream):
-        """Sends what was heard when the line has had the time for it. A line is busy with one chunk after the other, and delays each."""
+        """Sends what was received once the line has had the time for it. A line is busy with one chunk after the other, and
+        delays each."""
         free = 0.0
         while True:
             when, heard = queue.get()

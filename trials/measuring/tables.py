@@ -4,7 +4,7 @@ from trials.measuring.figures import SIXTEEN, spoken
 
 
 def print_table(name, rows):
-    """Prints a table with a row for each line: of each program's figures there."""
+    """Prints a table with a row for each line, which has each program's figures over that line."""
     heads = [f"{program}4 KiB | 4 KiB a second, {SIXTEEN} in flight | 64 KiB" for program in (f"{one}: " if one else "" for one in rows[0][1])]
     print(f"\n{name}\n\n| Round trip | {' | '.join(heads)} |\n|---|{'---|---|---|' * len(heads)}")
     for way, figures in rows:

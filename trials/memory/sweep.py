@@ -7,17 +7,17 @@ MOST = 1000
 
 
 def try_program(tally, refuser, pool, name, program, rows, printed):
-    """Refuses the allocations of each block of a program's rows, or of oramsim's script, and what it prints in all is this."""
+    """Refuses the allocations of each block of a program's rows, or of oramsim's script, which prints `printed`."""
     if name == "oramsim":
         sweep(tally, refuser, pool, name, program, [(rows, printed)])
         try_reopen(tally, refuser, program)
     else:
-        # A row is printed with its answer, which stands in its text.
+        # A row program prints each row with its answer, which the text of the row has too.
         sweep(tally, refuser, pool, name, program, [(block, block) for block in standing_alone(refuser, program, rows)])
 
 
 def standing_alone(refuser, program, rows):
-    """The blocks of the rows, each behind those that it needs. What a block has to write is its own text."""
+    """The blocks of the rows, each after those that it needs. What a block has to write is its own text."""
     groups = []
     for block in rows.rstrip(b"\n").split(b"\n\n"):
         if groups and refuser.count(program, block + b"\n")[0] != (0, block + b"\n"):
@@ -33,7 +33,7 @@ def spread(count):
 
 
 def sweep(tally, refuser, pool, name, program, blocks):
-    """Refuses the allocations of each block, which prints this with memory."""
+    """Refuses the allocations of each block. With memory the block prints the text that is given beside it."""
     runs, made, whole, others = 0, 0, 0, 0
     for block, printed in blocks:
         wanted, count = refuser.count(program, block)
@@ -50,8 +50,8 @@ def sweep(tally, refuser, pool, name, program, blocks):
 
 
 def try_reopen(tally, refuser, program):
-    """`reopen` writes the core to its file and reads it back, which no clause can say: so it takes memory for a file and for a core, while
-    `lost` takes none."""
+    """`reopen` writes the core to its file and reads it back, which no clause of a contract can say. So it takes memory for a
+    file and for a core, while `lost` takes none."""
     begun = b"device 64 16 4 16 100\nread 0 5 1 2 3 4\n"
     counts = [refuser.count(program, begun + line)[1] for line in (b"lost\n", b"reopen\n")]
     tally.check("a script's reopen takes memory for a file and a core", counts[1] - counts[0] > 10, counts)

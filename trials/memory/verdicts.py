@@ -5,7 +5,7 @@ import re
 NO_MEMORY = b"out of memory\n"
 OUT_OF_MEMORY = 3
 RIGHT, WENT_ON, WRONG = "right", "went on", "wrong"
-# The answers that may be others without memory, since their calls go on: they refuse or repeat what there was none for.
+# The answers that may differ without memory, since their calls go on: they refuse or repeat what there was no memory for.
 GO_ON = {
     "rows_disk": re.compile(rb"(format|link) .*"),
     "rows_sessions": re.compile(rb"(session|far_session) .*"),
@@ -23,8 +23,9 @@ MESSAGES_SENT = re.compile(rb"(fetches|stores) \d+")
 
 
 def judge(name, ended, wanted):
-    """Judges a run by its status and what it wrote, and by those with memory. It is RIGHT if it wrote the same, or a beginning of that and
-    the want of memory; it WENT_ON if calls went on without memory that may; else it is WRONG."""
+    """Judges a run by its status and what it wrote, compared with the run with memory. It is RIGHT if it wrote the same, or a
+    beginning of that and then that memory ran out; it WENT_ON if calls that may go on without memory did so; otherwise it is
+    WRONG."""
     (status, text), (good, whole) = ended, wanted
     if (status, text) == (good, whole):
         return RIGHT
@@ -43,7 +44,7 @@ def script_went_on(text, whole):
 
 
 def rows_went_on(name, text, whole):
-    """Each row is as with memory, but for those of calls that go on without it."""
+    """Each row is as with memory, except those of calls that go on without it."""
     lines, wanted = text.split(b"\n"), whole.split(b"\n")
     return len(lines) == len(wanted) and all(may_differ(name, line, good) for line, good in zip(lines, wanted))
 

@@ -55,7 +55,7 @@ def try_unformatted(trial, disk):
 
 
 def try_formattings(trial, disk):
-    """Settings that can't be, and formattings without a host and at one that has a disk already."""
+    """Settings that no disk can have, and formattings without a host or at a host that has a disk already."""
     disk.set(size=1000)
     line = "faults/disk.toml, line 2: size has to be a whole number of blocks, from 1 to 16777216 of them"
     trial.ends("numbers of no disk", disk.format(), BAD_WORDS, f"oramdisk: {line}")

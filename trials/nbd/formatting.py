@@ -40,7 +40,7 @@ def format_and_read(trial, disk, number):
     failure = disk.folder / "disk.state.failed"
     failure.write_text("of another disk\n")
     disk.formatted()
-    # A host that is killed right behind a formatting has all of it.
+    # A host that is killed right after a formatting has all of it.
     disk.host.stop(signal.SIGKILL)
     trial.check("what an earlier disk left is gone", not failure.exists())
     disk.start_host()
@@ -66,7 +66,7 @@ def try_killed_formatting(trial):
         process.communicate()
         trial.check(f"a killed formatting {number}: no state", not disk.state_file.exists())
         if number == 0:
-            check_that_host_has_a_disk(trial, "a formatting behind a killed one", disk)
+            check_that_host_has_a_disk(trial, "a formatting after a killed one", disk)
         disk.host.stop()
         disk.host.file = f"again-{number}"
         disk.start_host()

@@ -1,4 +1,4 @@
-"""Clients that send what no client sends."""
+"""Clients that send what no honest client sends."""
 
 
 from trials.connections import reset_on_close
@@ -6,7 +6,7 @@ from trials.disk import Disk
 from trials.disk_array import DiskArray, check_disk
 from trials.nbd_client import EINVAL, ENOSPC, GO, INFO, LIST, READ, STARTTLS, WRITE, head_of, option_of
 
-# A length, of an option or of a request, that no client means.
+# A length, of an option or of a request, that no honest client sends.
 HUGE = 0xFFFFFFFF
 
 
@@ -74,7 +74,7 @@ KINDS = [
 
 
 def be_hostile(trial, nbd):
-    """A client of a random kind sends what no client sends, and goes."""
+    """A client of a random kind sends what no honest client sends, and leaves."""
     KINDS[trial.dice.randrange(len(KINDS))](trial, nbd, trial.dice)
     if trial.dice.random() < 0.5:
         reset_on_close(nbd.stream)

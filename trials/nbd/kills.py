@@ -22,8 +22,8 @@ def try_kills(trial):
 
 
 def kill_and_ask(trial, sync, in_flight, kills, trees):
-    """Kills this many times, and makes requests in between. Counts the requests of those turns in which each that was in flight had a
-    reply."""
+    """Kills this many times, and makes requests in between. Counts the requests of those turns in which each request in
+    flight had a reply."""
     name = f"kills-{sync}-{in_flight}".lower()
     disk = Disk(trial, name, table=TABLES[trees], reconnect_timeout=60, sync=sync).formatted()
     trial.check(f"kills: {trees} trees", disk.status().get("trees") == str(trees), disk.status())

@@ -15,11 +15,11 @@ GRACE = 12
 
 def unreachable(address):
     """The line by which a program reports that its host is out of reach."""
-    return f"oramdisk: can't reach the host at {address}: see that it runs and that the way to it is open, and start again"
+    return f"oramdisk: can't reach the host at {address}: see that it runs there, and no other program, and that the way to it is open, and start again"
 
 
 def try_cut(trial):
-    """A connection to the host that is cut is opened again, and nobody notices but in the log."""
+    """A connection to the host that is cut is opened again, and only the log shows it."""
     disk = Disk(trial, "cut", table=16, reconnect_timeout=60, sync=False).formatted()
     array = DiskArray()
     client = disk.serve().client()

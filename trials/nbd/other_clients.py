@@ -21,7 +21,7 @@ QEMU_IO_COMMANDS = [
 
 
 def run_to_end(trial, what, *words, folder=None):
-    """A program of others ends well. Returns what it printed."""
+    """A program that others wrote ends well. Returns what it printed."""
     try:
         end = subprocess.run(words, cwd=folder or trial.folder, capture_output=True, timeout=300)
     except subprocess.TimeoutExpired:

@@ -20,7 +20,7 @@ def try_protocol(trial):
     trial.check("protocol: a name that is too long", nbd.take(1) is None)
     nbd.close()
     nbd = disk.connect()
-    # A client that doesn't do without the zeros behind the answer to its choice.
+    # A client that doesn't do without the zeros after the answer to its choice.
     found = nbd.greet(1) and nbd.choose()
     trial.check("protocol: the zeros", (found, nbd.take(124)) == (SMALL, bytes(124)), found)
     for what, kind, offset, length, flags, error in (

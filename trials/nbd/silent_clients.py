@@ -17,7 +17,7 @@ def check_line(trial, what, disk, pattern):
 
 
 def check_that_others_are_turned_away(trial, what, disk):
-    """A client that comes while another one has the disk learns it at once: its connection is closed, and there is a line."""
+    """A client that comes while another one has the disk learns this at once: its connection is closed, and there is a line."""
     other = disk.connect()
     port = other.stream.getsockname()[1]
     try:
@@ -40,7 +40,7 @@ def try_silent(trial):
     # A client that asks for more than the buffers between the two hold, and then goes.
     ask_for_all(disk.client(), 40).stream.close()
     client = disk.client()
-    check_disk(trial, "behind a client that left its replies unread", client, array)
+    check_disk(trial, "after a client that left its replies unread", client, array)
     client.close()
     # One that asks for as much, reads nothing, and stays.
     unread = ask_for_all(disk.client(), 60)
@@ -51,7 +51,7 @@ def try_silent(trial):
             break
     check_line(trial, "a client that reads nothing is let go", disk, line)
     client = disk.client()
-    check_disk(trial, "behind a client that read nothing", client, array)
+    check_disk(trial, "after a client that read nothing", client, array)
     client.close()
     unread.stream.close()
     disk.stop()
@@ -59,7 +59,8 @@ def try_silent(trial):
 
 
 def try_without_handshake(trial, disk, array, what, said, idle_seconds):
-    """A client says no more than this. It keeps others out for ten seconds. The next client has the disk, although it is then idle."""
+    """A client that says no more than this keeps others out for ten seconds. The next client has the disk, although it is then
+    idle."""
     silent = disk.connect()
     silent.give(said)
     silent.take(18)
@@ -69,7 +70,7 @@ def try_without_handshake(trial, disk, array, what, said, idle_seconds):
     trial.check(f"{what}: the next has the disk", client is not None and ask_at_random(trial, client, array))
     check_line(trial, f"{what}: its line", disk, rf"oramdisk: \S+ from {TIME} until {TIME}, it made no handshake within ten seconds")
     check_that_others_are_turned_away(trial, f"beside a client, {what}", disk)
-    # A client behind its handshake may be idle for longer than that.
+    # A client after its handshake may be idle for longer than that.
     threading.Event().wait(idle_seconds)
     trial.check(f"{what}: an idle client", ask_at_random(trial, client, array))
     client.close()

@@ -27,7 +27,7 @@ def try_kept_file(trial):
 
 
 def try_torn_beside_state(trial, disk, array):
-    """A torn new file stands beside the state, and then beside the one that was set aside: that one is read."""
+    """A torn new file is beside the state, and then beside the state that was set aside: in both cases the state is read."""
     state, aside = disk.state_file, disk.folder / "disk.state.aside"
     for what, before in (("whole", state), ("set aside", aside)):
         if before != state:
@@ -42,7 +42,7 @@ def try_torn_beside_state(trial, disk, array):
 
 
 def try_older_beside_state(trial, disk, array):
-    """An older state that was set aside stands beside the newer one: the newer one is read."""
+    """An older state that was set aside is beside the newer one: the newer one is read."""
     older = disk.state_file.read_bytes()
     client = disk.serve().client()
     make_requests(trial, client, array, 5)
@@ -56,7 +56,7 @@ def try_older_beside_state(trial, disk, array):
 
 
 def try_in_the_way(trial, disk, array):
-    """A folder stands where the state is to be put: the service ends without a reply, and what was acknowledged is there."""
+    """A folder is where the state is to be put: the service ends without a reply, and what was acknowledged is there."""
     client = disk.serve().client()
     trial.check("in the way: a reply before", ask_at_random(trial, client, array))
     held = disk.state_file.with_name("held")
@@ -91,20 +91,22 @@ def try_torn_file(trial):
 
 
 def try_replaced(trial):
-    """An older state that is put back is refused, and nothing is stored by it: with the newest one the disk goes on."""
+    """An older state that is put back is refused, and nothing is stored by it. With the newest state the disk goes on."""
     disk = Disk(trial, "replaced", table=16).formatted()
     array, states = DiskArray(), [disk.state_file.read_bytes()]
     client = disk.serve().client()
     for turn in range(6):
-        # The state behind each write is the one of its round.
+        # The state after each write is the one of its round.
         for number in (turn, turn + 1, 2 * turn):
             write_block(trial, client, array, number)
         states.append(disk.state_file.read_bytes())
+    # So the last of these states is only one round older than the newest one.
+    write_block(trial, client, array, 3)
     disk.end(client)
     newest, records = disk.state_file.read_bytes(), records_at(disk.host)
     disk.start_host()
-    line = "oramdisk: replaced/disk.state is an older state of its disk, and nothing was stored by it: put the newest one back"
-    for number, state in enumerate(states[:-1]):
+    line = "oramdisk: replaced/disk.state is an older state of its disk, and nothing was stored by it: put the newest one back; if a loss of power with sync = false took that one, the disk is lost"
+    for number, state in enumerate(states):
         disk.state_file.write_bytes(state)
         trial.ends(f"replaced: served with older state {number}", disk.start("serve"), REPLACED_STATE, line)
         trial.check(f"replaced: older state {number} is left as it is", disk.state_file.read_bytes() == state)
@@ -116,7 +118,7 @@ def try_replaced(trial):
 
 
 def records_at(host):
-    """The records that a host keeps, which doesn't run."""
+    """The records that a host keeps, while the host isn't running."""
     file = BucketFile(host.path())
     file.replay()
     return file.records()
@@ -139,7 +141,7 @@ def try_in_use(trial):
 
 
 def try_second_process(trial, disk):
-    """A second process ends at once with a line, also if it is to serve at another address."""
+    """A second process ends at once with a line, even if it is to serve at another address."""
     before = disk.state_file.read_bytes()
     line = "oramdisk: the disk of used/disk.state is in use by another process: end that one first"
     for command in ("serve", "format", "retry"):

@@ -33,7 +33,7 @@ def is_failure(reason, tree=r"\d+", level=r"\d+"):
 
 
 def check_retry(trial, disk, status, out, err):
-    """`retry` ends so."""
+    """`retry` ends in this way."""
     end = end_of(disk.start("retry"))
     trial.check(f"{disk.name}: retry", (end.status, end.out, end.err.decode()) == (status, out, err), end)
 

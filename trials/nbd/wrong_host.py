@@ -29,7 +29,7 @@ def try_wrong_host(trial):
     trial.check("the other disk is as it was", other.host_files() == kept)
     trial.check("the state is as it was", disk.state_file.read_bytes() == state)
     disk.start_host()
-    check_and_end(trial, "behind the wrong hosts: what it holds", disk, array)
+    check_and_end(trial, "after the wrong hosts: what it holds", disk, array)
 
 
 def leave_write_waiting(trial, disk, array):

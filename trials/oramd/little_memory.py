@@ -1,4 +1,4 @@
-"""Proxies that end for want of memory, and the memory that a proxy holds."""
+"""Proxies that end for lack of memory, and the memory that a proxy holds."""
 
 import re
 from pathlib import Path
@@ -9,8 +9,8 @@ from trials.processes import end_of
 
 
 def try_short_proxies(tally, oramd, dice, halvings=12, steps=48):
-    """A proxy that ends for want of memory has saved its state: the next one goes on from it. The limit is halved towards the least at
-    which ten requests are answered, and falls in small steps from there."""
+    """A proxy that ends for lack of memory has saved its state: the next one goes on from it. The limit is halved towards the
+    least at which ten requests are answered, and falls in small steps from there."""
     setup = Setup(tally, oramd, Device("short of memory", 600, 64, 4, 40, "plain"), dice)
     setup.start_host(1000)
     tally.ends("short of memory: format", setup.format(), 0)
@@ -27,7 +27,7 @@ def try_short_proxies(tally, oramd, dice, halvings=12, steps=48):
 
 
 def try_short_proxy(tally, setup, limit):
-    """A proxy with so little memory, and then one with all. Returns the status of the first."""
+    """A proxy with so little memory, and then one without a limit. Returns the status of the first."""
     proxy = setup.start_proxy(1, memory=limit)
     session = setup.session(proxy)
     has_begun = session.ask(body_of(READ, 0)) is not None
@@ -35,13 +35,13 @@ def try_short_proxy(tally, setup, limit):
     session.close()
     end = end_of(proxy)
     holds = (end.status, end.err) in ((0, b""), (NO_MEMORY, b"oramd: out of memory\n"))
-    # With less than the system needs to begin a program, it isn't begun.
+    # With less memory than the system needs to start a program, the proxy isn't started.
     tally.check(f"a limit of {limit} bytes: its end", holds or not has_begun and end.status in (127, -9, -11, -6), end)
     next_one = setup.start_proxy(1)
     session = setup.session(next_one)
-    read_all(tally, f"behind a limit of {limit} bytes", session, setup.array)
+    read_all(tally, f"after a limit of {limit} bytes", session, setup.array)
     session.close()
-    tally.ends(f"behind a limit of {limit} bytes: its end", next_one, 0)
+    tally.ends(f"after a limit of {limit} bytes: its end", next_one, 0)
     return end.status
 
 

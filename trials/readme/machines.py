@@ -112,7 +112,7 @@ class Machines:
         self.started.clear()
 
     def said(self):
-        """The last that was printed on both machines."""
+        """What was printed last on both machines."""
         return (self.folder / "log").read_text(errors="replace")[-2000:]
 
 

@@ -27,7 +27,7 @@ def quick_start(text):
 
 
 def start_again(text):
-    """The commands by which a disk is started again, as the page's row says them."""
+    """The commands by which a disk is started again, as the page's row gives them."""
     row = re.search(r"^\| Start \|(.*)\|$", text, flags=re.MULTILINE)[1]
     commands = re.findall(r"`((?:\./)?oramdisk [^`]*)`", row)
     return [("rented" if " host " in command else "yours", f"{command} &") for command in commands]
@@ -53,7 +53,7 @@ def run_page(tally, machines, commands):
 
 
 def open_disk(path):
-    """A connection to the disk at a Unix socket, behind its handshake."""
+    """A connection to the disk at a Unix socket, after its handshake."""
     client = NbdClient(open_connection(path))
     client.stream.settimeout(LONGEST_COMMAND)
     client.greet()

@@ -1,4 +1,4 @@
-"""oramsim: its scripts, streams that fail, and a person who types."""
+"""oramsim: its scripts, streams that fail, and a person who types a script."""
 
 import os
 import resource
@@ -39,7 +39,7 @@ def try_scripts(tally, oramsim):
 
 
 def limited(size):
-    """What a process does first that may write so many bytes to a file, and gets an error if it writes more."""
+    """What a process does first so that it can write this number of bytes to a file, and gets an error if it writes more."""
 
     def limit():
         signal.signal(signal.SIGXFSZ, signal.SIG_IGN)
@@ -49,7 +49,7 @@ def limited(size):
 
 
 def try_failing_streams(tally, oramsim, folder):
-    """The status is 4 if the input can't be read, or if the output can't be written, of which a beginning is there."""
+    """The status is 4 if the input can't be read, or if the output can't be written; a beginning of the output is there."""
     directory = os.open(folder, os.O_RDONLY)
     ran = run(oramsim, stdin=directory, capture_output=True)
     os.close(directory)

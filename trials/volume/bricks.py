@@ -13,7 +13,7 @@ from trials.volume.gluster import LONGEST
 
 
 def check_requests(trial, what, client, array, count):
-    """So many random requests, each with its reply."""
+    """This number of random requests, each with its reply."""
     for _ in range(count):
         trial.check(what, ask_at_random(trial, client, array))
 
@@ -29,7 +29,7 @@ def try_volume(trial, volume):
     try_second_host(trial, volume)
     kill_one(trial, volume, client, array)
     kill_two(trial, volume, disk, client, array)
-    check_requests(trial, "a request behind that", client, array, 20)
+    check_requests(trial, "a request after that", client, array, 20)
     client.close()
     disk.stop(signal.SIGKILL)
     disk.host.stop(signal.SIGKILL)

@@ -16,7 +16,7 @@ WANTED = ["glusterd", "gluster", "glusterfs", "umount", "unshare", "bash"]
 VOLUME = "trial"
 # The port that its daemon listens at; its bricks know no other.
 DAEMON_PORT = 24007
-# The seconds that a volume may take at the longest to begin, to heal or to come back.
+# The most seconds that a volume may take to start, to heal or to come back.
 LONGEST = 180
 
 
@@ -50,7 +50,7 @@ class Volume:
         return [f"brick-{number}" for number in range(3)]
 
     def say(self, *words):
-        """Asks the daemon. Returns whether it did so, and what it wrote."""
+        """Asks the daemon to do something. Returns whether it did, and what it wrote."""
         words = ["gluster", "--mode=script", *words]
         end = subprocess.run(words, stdin=subprocess.DEVNULL, capture_output=True, text=True, timeout=LONGEST)
         return end.returncode == 0, end.stdout + end.stderr
@@ -106,7 +106,8 @@ class Volume:
 
 
 def run_apart():
-    """Runs this script once more, with processes and mounts of its own: so the daemon's files are nobody else's, and all ends with it.
+    """Runs this script once more, with processes and mounts of its own: so the daemon's files are nobody else's, and everything
+    ends with the script.
     Returns its status; None if that can't be done here."""
     if os.geteuid() != 0 or not os.path.exists("/dev/fuse") or None in map(shutil.which, WANTED) or is_taken(DAEMON_PORT):
         return None

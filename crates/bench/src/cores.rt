@@ -1,9 +1,9 @@
-//! How long an access takes in the core and the server, beside two hashings of the same bytes.
+//! How long an access takes in the core and the server, compared with hashing the same bytes twice.
 //!
 //! It measures a single tree of large blocks, plain and sealed; two trees of as many blocks as a disk of 256 MiB has;
-//! and three trees of small blocks: 2,000 accesses each. It also measures formatting a record, beside one hashing of
-//! it; writing the state file at the end, and that of a large core, beside one hashing of as many bytes; and the
-//! accesses as a session, beside the same accesses in the core and the server alone.
+//! and three trees of small blocks: 2,000 accesses each. It also measures formatting a record, compared with hashing it
+//! once; writing the state file at the end, and that of a large core, compared with hashing as many bytes once; and the
+//! accesses as a session, compared with the same accesses in the core and the server alone.
 mod sessions;
 
 use oram_bucket::{Block, ChaChaSeal, PlainSeal, Sealer};
@@ -22,7 +22,7 @@ use std::time::{Duration, Instant};
 
 const ACCESSES: u32 = 2_000;
 
-/// An access has fewer messages: a fetch and a store for each of at most 13 trees.
+/// More messages than an access has: a fetch and a store for each of at most 13 trees.
 const MOST_MESSAGES: u32 = 27;
 
 const FETCH: u8 = 1;
@@ -35,7 +35,7 @@ struct Times {
     hashing: Duration,
 }
 
-/// The number of hashings of one record that give the time of one.
+/// How many times a record is hashed to find how long one hashing takes.
 const HASHINGS: u32 = 1_000;
 
 /// Returns a read or a write of some block, with words of its own.
@@ -65,7 +65,7 @@ fn some_access(
     })
 }
 
-/// Hashes each record with SHA-256, twice over.
+/// Hashes each record twice with SHA-256.
 fn hash_twice(records: &[u8], record_len: usize) -> u8 {
     let once = |mixed, record: &[u8]| mixed ^ node_digest(record)[0];
     let first = records.chunks(record_len.max(1)).fold(0, once);
@@ -85,7 +85,7 @@ fn step<S: Sealer>(
     Ok(reaction.sends.pop())
 }
 
-/// Returns the server's answer to a message. It also hashes the records of a path twice, and times that apart.
+/// Returns the server's answer to a message. It also hashes the records of a path twice, and times that separately.
 fn serve(
     rt: &(impl Alloc<A = Global> + std::rt::Clock),
     server: &mut Server,
@@ -142,7 +142,7 @@ fn time_of_hashing(rt: &HostRuntime, record_len: usize) -> io::Result<Duration> 
     Ok(start.elapsed(rt)? / HASHINGS)
 }
 
-/// Prints how long formatting one of `records` records took, beside one hashing of it.
+/// Prints how long formatting one of `records` records took, compared with hashing it once.
 fn report_formatting(
     rt: &HostRuntime,
     name: &str,
@@ -198,7 +198,7 @@ fn hundredths(part: Duration, whole: Duration) -> u128 {
     part.as_micros() * 100 / whole.as_micros().max(1)
 }
 
-/// Prints how long the accesses took, on average, and how many blocks lie in no bucket at the end.
+/// Prints how long the accesses took, on average, and how many blocks are in no bucket at the end.
 fn report<S: Sealer>(rt: &HostRuntime, core: &Core<S>, times: &Times) -> io::Result<()> {
     let micros = |time: Duration| time.as_micros() / u128::from(ACCESSES);
     let whole = times.core.saturating_add(times.host);
@@ -227,7 +227,7 @@ fn report<S: Sealer>(rt: &HostRuntime, core: &Core<S>, times: &Times) -> io::Res
     Ok(())
 }
 
-/// Prints how long writing the core's state file takes, and one hashing of as many bytes.
+/// Prints how long writing the core's state file takes, and how long hashing as many bytes once takes.
 fn report_file<S: Sealer>(rt: &HostRuntime, core: &Core<S>) -> io::Result<()> {
     let start = Instant::now(rt)?;
     let file = encode_state(rt.alloc(), core)?;

@@ -57,7 +57,7 @@ impl Keeper for MemoryKeeper {
     }
 }
 
-/// Requests that arrive one at a time, so that each of them is carried out by itself.
+/// Requests that arrive one at a time, so that each of them is carried out alone.
 #[derive(Drop)]
 struct OneAtATime<'a> {
     unread: &'a [u8],
@@ -231,7 +231,7 @@ fn measure_each<R: Files + Clock + Print + Alloc<A = Global>>(
     Ok(())
 }
 
-/// Measures all of this with files in this folder.
+/// Makes all of these measurements, with files in this folder.
 pub(crate) fn measure<R: Files + Clock + Print + Alloc<A = Global>>(
     rt: &R,
     folder: &str,

@@ -1,4 +1,4 @@
-//! How long the check of a path and its rebuilding take, beside SHA-256 alone on the same bytes.
+//! How long checking a path and rebuilding it take, compared with SHA-256 alone on the same bytes.
 //!
 //! The path is one of depth 16, of buckets with 4 slots of 4,096 bytes.
 

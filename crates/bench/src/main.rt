@@ -1,4 +1,4 @@
-//! Measures the parts of the store, each beside the least time that it could take.
+//! Measures the parts of the store, each compared with the least time that it could take.
 #![tactic(auto)]
 
 mod cores;
@@ -16,7 +16,7 @@ bench store fill FILE DEPTH
 bench store open FILE
 bench store scatter FILE DEPTH STORES";
 
-/// Measures what these words ask for; `None` is a word that isn't there.
+/// Measures what these words ask for; `None` stands for a word that is missing.
 fn run(rt: &HostRuntime, words: [Option<&str>; 5]) -> io::Result<()> {
     match words {
         [Some("hash"), None, ..] => hashes::run(rt),

@@ -1,4 +1,4 @@
-//! How long a bucket server in a file takes, beside the one in memory and a write of the same bytes.
+//! How long a bucket server in a file takes, compared with the one in memory and with a write of the same bytes.
 //!
 //! `run FILE` makes the first device of `bench core` in a new file, one tree of blocks of 4,096 bytes. It prints how
 //! many FETCHes and STOREs a second the store answers, how many the server in memory answers, and how many synced

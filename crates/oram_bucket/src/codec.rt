@@ -1,8 +1,8 @@
 //! The bytes of a bucket.
 //!
-//! A bucket has as many slots as the device says. A slot holds the block's address plus one and its leaf, each in
-//! four bytes, big-endian, and then its data. A slot without a block is a dummy, and all its bytes are zero. The
-//! blocks come first, by rising address.
+//! A bucket has as many slots as the device says. A slot holds the block's address plus one and its leaf, each in four bytes,
+//! big-endian, and then its data. A slot without a block is a dummy, and all its bytes are zero. The blocks come first, in
+//! increasing order of address.
 ghost use Rattle.std.specs.Prelude.{◌≡◌, ◌≢◌, ◌+◌, ◌^◌, ◌<◌, ◌≤◌, ◌++◌, ◌∷◌, [], length, map, List, IfOk, IfErr, OnOk, IsOkAnd, MatchResult, MatchOption, IsOkUnless, Ok, ◌==◌};
 ghost use Rattle.std.specs.List.{list_all};
 ghost use Rattle.oram_geometry.specs.Sizes.{trees_of, bucket_len};
@@ -19,14 +19,15 @@ use std::alloc::{AllocError, Global};
 
 const HEAD_LEN: usize = 8;
 
-/// Why bytes are no bucket: the fault of the first slot that has one, and of that slot's faults the first in this order.
+/// Why bytes aren't a bucket: the fault of the first slot that has one. If that slot has several faults, it is the first of
+/// them in this order.
 #[derive(Clone, Copy, Debug, PartialEq, Eq)]
 pub enum BucketFault {
     /// The number of bytes isn't that of a bucket.
     Length,
     /// An address is too great for a block of the tree.
     Address,
-    /// A block comes after a dummy, or its address isn't greater than the one before.
+    /// A block comes after a dummy, or its address isn't greater than that of the block before.
     Order,
     /// A leaf is too great for the tree.
     Leaf,
@@ -130,7 +131,8 @@ pub fn decode_bucket(
 ) -> Result<Vec<Block>, BucketFault>
     requires { tree < trees_of device.now }
 
-    // The blocks that it returns have this spelling; and it decodes each spelling of blocks, unless memory runs out.
+    // These bytes are the encoding of the blocks that it returns; and it decodes each encoding of blocks, unless memory runs
+    // out.
     ensures ok { IfOk result (λ v. IsSpelling device.now tree v.items bytes.now) }
     ensures only { (cells : List Cell) → IsSpelling device.now tree cells bytes.now →
         MatchResult result (λ v. v.items ≡ cells) (λ f. f ≡ BucketFault.OutOfMemory) }

@@ -61,12 +61,12 @@ fn input_fault(error: &Error) -> InputFault
 }
 
 /// Returns the subcommand that the words name, and the word that they give it. The first of `words` is the program's
-/// name. Nobody can ask for help here.
+/// name. A request for help is refused like any other words that name no subcommand.
 pub fn read_named<'a>(
     command: Command<'a>,
     words: &'a [&'a str],
 ) -> Result<(&'a str, &'a str), InputFault>
-    // For such a command clap says which words it takes.
+    // clap's contracts say which words such a command takes.
     requires { is_simple_and_free (app_of command) ≡ true }
     ensures ok { IfOk result (λ p. named_in (app_of command.entry) (texts words.now) ≡ Some (p.0.now, p.1.now)) }
     // `Bad` comes only if the words name no subcommand, or give it no word or more than one.

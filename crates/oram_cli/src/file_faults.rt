@@ -73,7 +73,7 @@ pub fn file_fault(name: String, error: &io::Error) -> FileFault
     }
 }
 
-/// Returns the same fault for a name that stays with the caller. It is `OutOfMemory` also if there is no memory for a copy of
+/// Returns the same fault for a name that stays with the caller. It is also `OutOfMemory` if there is no memory for a copy of
 /// the name.
 pub fn call_fault(alloc: Global, name: &str, error: &io::Error) -> FileFault
     ensures { IsFaultOf name.now (error_kind error.now) result }

@@ -28,15 +28,15 @@ pub fn text_in<R: Files + AllocGlobal>(rt: &R, name: &str) -> Result<Option<Stri
     Ok(String::from_utf8(bytes_in(rt, name)?).ok())
 }
 
-/// Returns the name of the file that a link leads to, or `name` itself if it isn't a link. A file with a lock, or one that is
-/// replaced as a whole, has to be named like this: the lock and the new file are beside the name.
+/// Returns the name of the file that a link leads to, or `name` itself if it isn't a link. A file that is locked, or replaced
+/// as a whole, has to be used under this name: its lock and its new file are made beside the name.
 pub fn linked_name<R: Files + AllocGlobal>(rt: &R, name: String) -> Result<String, FileFault> {
     if !Path::new(name.as_str()).is_symlink(rt) {
         return Ok(name);
     }
     match rt.canonicalize(rt.alloc(), name.as_str()) {
         Ok(path) => Ok(path.into_string()),
-        // What it leads to is missing, as on a disk that isn't mounted.
+        // What it leads to is missing, for example because its disk isn't mounted.
         Err(error) if error.kind() == ErrorKind::NotFound => Ok(name),
         Err(error) => Err(call_fault(rt.alloc(), name.as_str(), &error)),
     }
@@ -117,7 +117,7 @@ impl AtomicFile {
         self.check_presence(rt, true, ErrorKind::NotFound)
     }
 
-    /// Fails with an error of the kind `otherwise` unless the file exists exactly if that is `wanted`.
+    /// Fails with an error of the kind `otherwise` if the file exists but isn't `wanted`, or is `wanted` but doesn't exist.
     fn check_presence<R: Files + AllocGlobal>(
         &self,
         rt: &R,

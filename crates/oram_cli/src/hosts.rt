@@ -13,6 +13,6 @@ pub enum HostFault {
     NoDisk,
     /// The host keeps a disk already, although a new one should be formatted there.
     Taken,
-    /// The host refused a message of a formatting, or didn't keep what it was sent.
+    /// The host refused a message of the formatting, or didn't keep what it was sent.
     Refused,
 }

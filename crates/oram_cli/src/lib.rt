@@ -1,11 +1,10 @@
 //! What the programs share at their edge: reading command lines and settings, writing texts, files and sockets.
 //!
-//! [`read_named`] reads a command line of subcommands with a word each. [`table_of`] reads a TOML document, and the
-//! functions that are named after what they find at a key, such as [`address_at`], read its table. [`put`] and the
-//! functions named after it write texts; their contracts say that a writer which fails has taken a beginning of the
-//! text. A [`AtomicFile`] is replaced as a whole, and [`lock_state`] keeps other processes away from a state. [`listen`],
-//! [`connect`], [`connect_within`] and [`buffered`] are for sockets. A [`HostFault`] says why a disk can't use its
-//! host.
+//! [`read_named`] reads a command line of subcommands with a word each. [`table_of`] reads a TOML document, and the functions
+//! that are named after what they find at a key, such as [`address_at`], read its table. [`put`] and the functions named after
+//! it write texts; their contracts say that a writer which fails has taken a beginning of the text. An [`AtomicFile`] is
+//! replaced as a whole, and [`lock_state`] keeps other processes away from a state. [`listen`], [`connect`], [`connect_within`]
+//! and [`buffered`] are for sockets. A [`HostFault`] says why a disk can't use its host.
 #![tactic(auto)]
 
 mod command_line;

@@ -84,7 +84,7 @@ pub fn begins_number(text: &str) -> bool
     matches!(text.as_bytes(), [b'1'..=b'9', ..])
 }
 
-/// Returns whether a text is a port from 1 on, in decimal without leading zeros.
+/// Returns whether a text is a port number of at least 1, in decimal without leading zeros.
 fn is_port(text: &str) -> bool
     ensures { IsTrue result ↔ IsPort text.now }
 {

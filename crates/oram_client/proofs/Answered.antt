@@ -27,7 +27,7 @@ module _ {R W : Type 0} (remaining : R → Option (List ℕ)) (contents : W → 
     read = subst (λ (r : R). Consumes (remaining a.reader) (remaining r) []) (sym same) (Consumes-nil (remaining a.reader));
   }
 
-  -- one answer more
+  -- one more answer
   pub drained_more : (a b c : ToHost R W) (n : ℕ) → IsDrained remaining contents a n b → Consumes (remaining b.reader) (remaining c.reader) (frame (128 ∷ []))
       → c.due + 1 ≡ b.due → c.writer ≡ b.writer → IsDrained remaining contents a (n + 1) c
   drained_more a b c n before read due same = record {

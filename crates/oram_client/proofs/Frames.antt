@@ -12,7 +12,7 @@ use Rattle.oram_client.specs.StreamBatches.{AreUnframed}
 pub frames_more : (front : List (List ℕ)) (body : List ℕ) → flat_map frame (front ++ body ∷ []) ≡ flat_map frame front ++ frame body
 frames_more front body = flat_map-append frame front (body ∷ []) ∙ ap (λ (t : List ℕ). flat_map frame front ++ t) (append-nil (frame body))
 
--- the frames of `next`, which is `front` and one more body, behind some bytes
+-- the frames of `next`, which is `front` and one more body, after some bytes
 pub framed_next : (start : List ℕ) (front next : List (List ℕ)) (body before after : List ℕ) → next ≡ front ++ body ∷ [] → before ≡ start ++ flat_map frame front
     → after ≡ before ++ frame body → after ≡ start ++ flat_map frame next
 framed_next start front next body before after is framed more =

@@ -84,7 +84,7 @@ module _ {P : Type 0} (does : P → FileDeed → Bool → P → Type 0) (may_be 
     | inr old ↦ inr old
   ]
 
-  -- the file is found behind the head of either keeper
+  -- the file is found after the head of either keeper
   of_head : (k m : FileKeeperState P) (bytes : List ℕ) (file : Option (List ℕ)) → m.head ≡ k.head → file ≡ Some (kept_file m.head bytes) → file ≡ Some (kept_file k.head bytes)
   of_head k m bytes file same is = is ∙ ap (λ (h : Head). Some (kept_file h bytes)) same
 

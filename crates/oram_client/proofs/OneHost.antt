@@ -54,7 +54,7 @@ ok_same answers others e = cc
 err_same : (fault other : LinkFault) → (let o : BatchOutcome = Err fault in o) ≡ Err other → fault ≡ other
 err_same fault other e = cc
 
--- a trouble that is only a want of memory is reported as that
+-- a trouble that is only a lack of memory is reported as such
 memory_fault : (why : Trouble) (fault : LinkFault) → fault ≡ fault_of why → lacks_memory why ≡ true → fault ≡ OutOfMemory
 memory_fault (OutOfReach Io) fault e lacks = cc
 memory_fault (OutOfReach Closed) fault e lacks = cc

@@ -34,7 +34,7 @@ unheard [] fault host after answers given = sym given.1
 unheard (b ∷ bodies) fault host after answers (inl none) = not_received (b ∷ bodies) fault host after none.1
 unheard (b ∷ bodies) fault host after answers (inr more) = (more.1, inr (more.0, more.5), unheard bodies fault more.1 after more.2 more.7)
 
--- the first answer that was read is the host's, and so are those behind it
+-- the first answer that was read is the host's, and so are those after it
 next_answer : (expected rest bytes lost answer others left all : List ℕ) → IsBody expected → IsBody answer → all ≡ frame expected ++ rest → bytes ++ lost ≡ all
     → bytes ≡ (frame answer ++ others) ++ left → (answer ≡ expected) × ((others ++ left) ++ lost ≡ rest)
 next_answer expected rest bytes lost answer others left all fits read is come gives =

@@ -14,7 +14,7 @@ use Rattle.oram_client.proofs.NamesNow.{names_all, names_broken}
 use Rattle.oram_client.proofs.PowerLoss.{done_all, lost_in, synced_files_last}
 use Rattle.oram_client.proofs.Whole.{files_are_kept, files_outlast_failures}
 
--- A kept file has one process behind its head.
+-- A kept file has one process after its head.
 pub only_process : (head : Head) (a b : List ℕ) → Some (kept_file head a) ≡ Some (kept_file head b) → a ≡ b
 only_process head a b same =
     let whole : kept_file head a ≡ kept_file head b = ap (λ (file : Option (List ℕ)). unwrap_or file []) same in

@@ -29,7 +29,7 @@ same_frame b c u v b_fits c_fits e =
       sym (drop_at b u (length b) refl) ∙ ap (drop (length b)) behind ∙ drop_at c v (length b) (sym count),
     )
 
--- the frame of the first answer, and those behind it
+-- the frame of the first answer, and those after it
 first_of : (bytes : List ℕ) (new : Option (List ℕ)) (answer : List ℕ) (answers : List (List ℕ)) (expected rest : List ℕ) → IsBody expected → bytes ≡ frame expected ++ rest
     → GivesFrames (Some bytes) new (answer ∷ answers) → (answer ≡ expected) × GivesFrames (Some rest) new answers
 first_of bytes None answer answers expected rest fits is gives = absurd gives.1

@@ -18,13 +18,13 @@ pub record ToHost (R W : Type 0) : Type 0 where
   pub reader : R
   pub writer : W
   pub due : ℕ  -- how many messages have no answer yet
-  pub refusal : Option Refusal  -- the meaning of the answer that wasn't done, if there was one
+  pub refusal : Option Refusal  -- what the answer other than done meant, if there was one
 
 -- the most messages that may be without an answer
 abbrev pub most_due : ℕ
 most_due = 256
 
--- `count` answers that the host is done
+-- the frames of `count` answers, each of which says that the host is done
 abbrev pub dones : ℕ → List ℕ
 dones count = flat_map frame (replicate count done_answer)
 
@@ -40,7 +40,7 @@ Means answer Taken = answer ≡ refusal_answer (code_of host.ShapeTaken)
 Means answer NoRoom = answer ≡ refusal_answer (code_of host.OutOfMemory)
 Means answer Other = (answer ≢ refusal_answer (code_of host.ShapeTaken)) × (answer ≢ refusal_answer (code_of host.OutOfMemory))
 
--- An answer is read, and it is not that the host is done.
+-- An answer is read, and it doesn't say that the host is done.
 pub record GivesOther (old new : Option (List ℕ)) (refusal : Option Refusal) (fault : SinkFault) : Type 0 where
   pub answer : List ℕ
   pub other : answer ≢ done_answer
@@ -52,20 +52,20 @@ pub record GivesOther (old new : Option (List ℕ)) (refusal : Option Refusal) (
 
 -- for readers and writers whose bytes `remaining` and `contents` give
 module _ {R W : Type 0} (remaining : R → Option (List ℕ)) (contents : W → Option (List ℕ)) where
-  -- `count` answers were read, each that the host is done, and nothing was written.
+  -- `count` answers were read, each of which says that the host is done, and nothing was written.
   pub record IsDrained (a : ToHost R W) (count : ℕ) (b : ToHost R W) : Type 0 where
     pub due : b.due + count ≡ a.due
     pub wrote : Appends (contents a.writer) (contents b.writer) []
     pub read : Consumes (remaining a.reader) (remaining b.reader) (dones count)
 
-  -- The next answer is not that the host is done, or can't be read. Nothing was written.
+  -- The next answer doesn't say that the host is done, or can't be read. Nothing was written.
   pub record IsUndone (a : ToHost R W) (fault : SinkFault) (b : ToHost R W) : Type 0 where
     pub due : b.due ≡ a.due
     pub wrote : b.writer ≡ a.writer
     pub read : GivesNone (remaining a.reader) (remaining b.reader) fault ⊎ GivesOther (remaining a.reader) (remaining b.reader) b.refusal fault
 
-  -- `count` answers should have been read. Fewer were, each that the host is done, and the next one is not; or what was
-  -- written before couldn't be flushed, and nothing was read.
+  -- `count` answers should have been read. Fewer were, each of which says that the host is done, and the next one doesn't or
+  -- can't be read; or what was written before couldn't be flushed, and nothing was read.
   abbrev pub IsStopped : ToHost R W → ℕ → SinkFault → ToHost R W → Type 0
   IsStopped a count fault b =
       ((done : ℕ) × (mid : ToHost R W) × (done < count) × IsDrained a done mid × IsUndone mid fault b) ⊎ (IsDrained a 0 b × (b.reader ≡ a.reader) × (fault ≡ Link))
@@ -85,7 +85,7 @@ module _ {R W : Type 0} (remaining : R → Option (List ℕ)) (contents : W → 
     pub unread : b.reader ≡ a.reader
     pub reported : fault ≡ Link
 
-  -- A message wasn't put. Either the most answers were due, and reading half of them stopped; or the message wasn't
+  -- A message wasn't put. Either as many answers were due as may be, and reading half of them stopped; or the message wasn't
   -- written, perhaps after some answers were read.
   abbrev pub IsUnput : ToHost R W → List ℕ → SinkFault → ToHost R W → Type 0
   IsUnput a body fault b =
@@ -103,11 +103,12 @@ module _ {R W : Type 0} (remaining : R → Option (List ℕ)) (contents : W → 
     pub wrote : Appends (contents a.writer) (contents b.writer) (frame body)
     pub read : GivesNone (remaining a.reader) (remaining b.reader) fault
 
-  -- A message wasn't written, or not answered.
+  -- A message wasn't written, or wasn't answered.
   abbrev pub HasNoAnswer : ToHost R W → List ℕ → SinkFault → ToHost R W → Type 0
   HasNoAnswer a body fault b = IsUnsent a body fault b ⊎ IsUnanswered a body fault b
 
-  -- Messages were written one after another, and meanwhile `count` answers were read, each that the host is done.
+  -- Messages were written one after another, and meanwhile `count` answers were read, each of which says
+  -- that the host is done.
   pub record ArePut (a : ToHost R W) (bodies : List (List ℕ)) (b : ToHost R W) : Type 0 where
     pub count : ℕ
     pub due : b.due + count ≡ a.due + length bodies

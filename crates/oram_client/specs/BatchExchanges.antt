@@ -1,4 +1,5 @@
--- The exchanges of a batch over a connection, and over a link that tries until its host answers, are those of a batch.
+-- The exchanges of a batch over a connection, and those of a batch over a link that tries until its host answers, are such as
+-- `IsBatch` allows.
 use Rattle.std.proofs.Common.{◌≡◌, ℕ, Bool, true, false, List, [], ◌∷◌, ◌++◌, Option, None, Some, Ok, Err, MatchOption, MatchResult, inl, inr, refl, sym, ap, ◌∙◌, subst, append_assoc}
 use Rattle.std.specs.List.{FoldsTo, flat_map}
 use Rattle.std.specs.Prelude.{MatchBool}
@@ -15,7 +16,7 @@ use Rattle.oram_client.specs.declared.dialer.Trouble.TheVariants.{OutOfReach}
 use Rattle.oram_client.specs.Reconnect.{Attempt, DialerKind, IsDelayed, IsGivenUp, IsTried, MakesTries, NextTry, ReconnectBatch, ReconnectState, VainTry, link_outcome}
 use Rattle.oram_client.specs.StreamBatches.{Carries, Connection, IsClosed, StreamBatch, cut_short}
 
--- the messages of two lists of exchanges
+-- if the messages of two lists of exchanges are among these bodies, so are those of both lists together
 pub among_both : (bodies : List (List ℕ)) (first second : List Exchange) → AreAmong (bodies_of first) bodies → AreAmong (bodies_of second) bodies
     → AreAmong (bodies_of (first ++ second)) bodies
 among_both bodies [] second one two = two
@@ -32,7 +33,7 @@ cut_among all [] answers fault inside = tt
 cut_among all (b ∷ bodies) [] fault inside = (inside b (inl refl), cut_among all bodies [] fault (λ x k. inside x (inr k)))
 cut_among all (b ∷ bodies) (a ∷ answers) fault inside = (inside b (inl refl), cut_among all bodies answers fault (λ x k. inside x (inr k)))
 
--- the messages of a batch's exchanges
+-- each message in a batch's exchanges is one of the batch's messages
 pub batch_among : (bodies : List (List ℕ)) (o : BatchOutcome) (exchanges : List Exchange) → IsBatch bodies o exchanges → AreAmong (bodies_of exchanges) bodies
 batch_among bodies (Ok answers) exchanges h =
     subst (λ (es : List Exchange). AreAmong (bodies_of es) bodies) (sym h.3)
@@ -53,7 +54,7 @@ module _ {R W : Type 0} (remaining : R → Option (List ℕ)) (contents : W → 
   carried false l m bodies (Err fault) exchanges h =
       faulty bodies (Err fault) fault exchanges (cut_short bodies h.0 fault) refl h.1 (cut_among bodies bodies h.0 fault (λ x k. k))
 
-  -- A batch over a connection has the exchanges of a batch.
+  -- A batch over a connection has exchanges such as `IsBatch` allows.
   pub streams_are_batches : (l m : Connection R W) (bodies : List (List ℕ)) (o : BatchOutcome) (exchanges : List Exchange)
       → StreamBatch remaining contents l bodies o exchanges m → IsBatch bodies o exchanges
   streams_are_batches l m bodies o exchanges h = carried l.closed l m bodies o exchanges h.carried
@@ -113,7 +114,7 @@ module _ {D L : Type 0} (kind : DialerKind D L) (law : AreBatches kind.batches) 
   passed None l m bodies o exchanges h = made l m bodies o exchanges h
   passed (Some why) l m bodies o exchanges h = faulty bodies o Closed exchanges [] h.says h.unsent tt
 
-  -- A batch over a link that tries again has the exchanges of a batch: those of its earlier tries may have come to anything.
+  -- So has a batch over a link that tries again: the exchanges of its earlier tries may have any outcomes.
   pub reconnects_are_batches : (l m : ReconnectState D L) (bodies : List (List ℕ)) (o : BatchOutcome) (exchanges : List Exchange)
       → ReconnectBatch kind l bodies o exchanges m → IsBatch bodies o exchanges
   reconnects_are_batches l m bodies o exchanges h = passed l.trouble l m bodies o exchanges h.passed

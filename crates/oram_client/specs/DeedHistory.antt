@@ -32,9 +32,9 @@ deed_of kind sync file =
     if kind == 1 then Writes sync file
     else (if kind == 2 then SetsAside else (if kind == 3 then Renames else (if kind == 4 then SyncsFolder else Clears)))
 
--- What is noted with these numbers and bytes. The first number says what it is: a deed, or 6 for a file that was found and 7
--- if none was. The others are 1 if the deed was done, 1 if the file was synced, and the sealer's byte. The last bytes are the
--- file that was found, or what was written behind the head.
+-- What is noted with these numbers and bytes. The first number says what it is: the number of a deed, or 6 for a file that was
+-- found, or 7 if none was. The other numbers are 1 if the deed was done, 1 if the file was synced, and the sealer's byte.
+-- `file` is the file that was found, or what was written after the head.
 abbrev pub noted_of : List ℕ → List ℕ → List ℕ → List ℕ → PlaceNote
 noted_of numbers salt key_check file =
     if slice_index numbers 0 == 6 then Found (Some file)

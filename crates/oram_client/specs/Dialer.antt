@@ -26,7 +26,7 @@ abbrev pub link_fault : SocketFault → LinkFault
 link_fault socket.Failed = Io
 link_fault socket.OutOfMemory = OutOfMemory
 
--- whether it is only that this program has no memory for what it sends or receives
+-- whether the trouble is only that this program has no memory for what it sends or receives
 abbrev pub lacks_memory : Trouble → Bool
 lacks_memory (OutOfReach Io) = false
 lacks_memory (OutOfReach Closed) = false

@@ -8,9 +8,9 @@ use Rattle.oram_client.specs.declared.file_step.FileFailure.{FileFailure}
 
 pub record FileKeeperState (P : Type 0) : Type 0 where
   pub place : P
-  pub head : Head  -- stands in each file, in front of the process
+  pub head : Head  -- is in each file, before the process
   pub sync : Bool
-  pub failure : Option FileFailure  -- why the last process was not kept, if it was not
+  pub failure : Option FileFailure  -- why the last process was not kept, if it wasn't
 
 -- for places where deeds are done, or fail, by `does`
 module _ {P : Type 0} (does : P → FileDeed → Bool → P → Type 0) where

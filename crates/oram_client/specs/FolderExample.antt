@@ -25,12 +25,12 @@ old_left = record { kept = Some old_file; fresh = None; aside = None }
 abbrev pub new_left : Names
 new_left = record { kept = Some new_file; fresh = None; aside = None }
 
--- what a process leaves that ends once it has set the old file aside
+-- what is left by a process that ends once it has set the old file aside
 abbrev pub set_aside : Names
 set_aside = record { kept = None; fresh = Some new_file; aside = Some old_file }
 
--- The process ends when the folder is to be synced, or that fails, or the machine loses its power then; or without sync the
--- process ends once the old file is set aside; or all deeds are done.
+-- With sync, the process ends when the folder is to be synced, or that sync fails, or the machine loses its power then, or all
+-- deeds are done. Without sync, the process ends once the old file is set aside.
 abbrev pub FolderExample : Type 0
 FolderExample = EndsIn (names_now old_folder) (deeds_of true new_file) (names_now renamed)
     × EndsIn (names_now old_folder) (deeds_of false new_file) set_aside

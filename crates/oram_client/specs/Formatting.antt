@@ -1,4 +1,4 @@
--- A disk is formatted by messages that go ahead of their answers.
+-- How a disk is formatted by messages that are sent ahead of their answers.
 use Rattle.std.specs.Prelude.{◌≡◌, ℕ, ◌+◌, ◌<◌, ◌⊎◌, List, [], ◌∷◌, ◌++◌, Option, length, map, slice_index_or}
 use Rattle.std.specs.Io.KnownBytes.{Appends, Consumes}
 use Rattle.std.specs.List.{flat_map, range_with_len}
@@ -19,7 +19,7 @@ use Rattle.oram_client.specs.Ahead.{ToHost, ArePut, AreTaken, HasAnswer, HasNoAn
 use Rattle.oram_client.specs.Faults.{formatting_fault}
 use Rattle.oram_client.specs.Identity.{IsUnnamed, IsUnrecognized, identity_messages}
 
--- one message more
+-- one more message
 abbrev pub Collects : List (List ℕ) → List ℕ → List (List ℕ) → Type 0
 Collects messages body more = more ≡ messages ++ body ∷ []
 
@@ -67,8 +67,8 @@ module _ {R W : Type 0} (remaining : R → Option (List ℕ)) (contents : W → 
     pub ended : ((fault ≡ OutOfMemory) × (b ≡ mid))
         ⊎ ((count < trees_of v.device) × IsUnheld v.device v.cipher.overhead (slice_index_or s.trees count no_tree).root count mid fault b)
 
-  -- The messages that make the device's trees were written, and then those that fetch a path of each. The host is done
-  -- with the former, and the paths are genuine.
+  -- The messages that make the device's trees were written, and then those that fetch a path of each. The host answered
+  -- the former with done, and the paths are genuine.
   pub record AreTreesMade (v : Scheme) (a : ToHost R W) (s : State) (b : ToHost R W) : Type 0 where
     pub messages : List (List ℕ)
     pub new : IsNew v Collects [] s messages
@@ -103,8 +103,8 @@ module _ {R W : Type 0} (remaining : R → Option (List ℕ)) (contents : W → 
     pub ended : IsUnmade v messages mid fault b ⊎ ((s : State) × IsNew v Collects [] s messages × IsUnchecked v s mid fault b)
 
   -- The messages of the identity were written, then those that make the device's trees, those that fetch a path of
-  -- each, and the one that fetches the identity. The host is done with those that put something, the paths are genuine,
-  -- and the host gave back the identity.
+  -- each, and the one that fetches the identity. The host answered those that put something with done, the paths are
+  -- genuine, and the host gave back the identity.
   pub record IsFormattedAhead (v : Scheme) (identity : List ℕ) (a : ToHost R W) (s : State) (b : ToHost R W) : Type 0 where
     pub messages : List (List ℕ)
     pub new : IsNew v Collects [] s messages

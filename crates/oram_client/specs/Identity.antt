@@ -14,8 +14,7 @@ identity_messages identity = shape_body IDENTITY_TREE 0 IDENTITY_LEN ∷ put_bod
 
 -- for readers and writers whose bytes `remaining` and `contents` give
 module _ {R W : Type 0} (remaining : R → Option (List ℕ)) (contents : W → Option (List ℕ)) where
-  -- Memory ran out before anything was sent, or one of the identity's messages wasn't put or not
-  -- answered with done.
+  -- Memory ran out before anything was sent, or one of the identity's messages wasn't put, or wasn't answered with done.
   abbrev pub IsUnnamed : List ℕ → ToHost R W → FormattingFault → ToHost R W → Type 0
   IsUnnamed identity a fault b =
       ((fault ≡ OutOfMemory) × (b ≡ a))

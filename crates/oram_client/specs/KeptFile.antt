@@ -25,7 +25,7 @@ pub record IsHead (head : Head) : Type 0 where
 abbrev pub BeginsWith : List ℕ → List ℕ → Type 0
 BeginsWith letters file = (rest : List ℕ) × (file ≡ letters ++ rest)
 
--- A file of an older format: the first one had no key check and no sealer, the second one kept the core alone, and the third
--- one had a digest of the core.
+-- A file of an older format: the first format had no key check and no sealer, the second kept the core alone, and the third had
+-- a digest of the core.
 abbrev pub IsOlder : List ℕ → Type 0
 IsOlder file = BeginsWith (codes "VIDLAQE1") file ⊎ (BeginsWith (codes "VIDLAQE2") file ⊎ BeginsWith (codes "VIDLAQE3") file)

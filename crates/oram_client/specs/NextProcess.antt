@@ -22,12 +22,12 @@ use Rattle.oram_client.specs.Replacement.{FileDeed, Writes, Renames, SyncsFolder
 -- what is kept of a disk
 pub record KeptDisk : Type 0 where
   pub head : Head
-  pub overhead : ℕ  -- of the buckets that the head's sealer seals
+  pub overhead : ℕ  -- how many bytes the head's sealer adds to a bucket
   pub device : Sizes
   pub stores : List (List ℕ)  -- those that wait, the oldest first
   pub core : State
 
--- A file tells of this disk: `read_kept_file` takes it apart into the head and the bytes behind it, and `decode_kept` decodes
+-- A file tells of this disk: `read_kept_file` takes it apart into the head and the bytes after it, and `decode_kept` decodes
 -- these.
 pub record TellsOf (file : List ℕ) (disk : KeptDisk) : Type 0 where
   pub is_head : IsHead disk.head
@@ -35,7 +35,7 @@ pub record TellsOf (file : List ℕ) (disk : KeptDisk) : Type 0 where
   pub whole : file ≡ kept_file disk.head process
   pub decoded : IsFileOf disk.overhead disk.device process disk.stores disk.core
 
--- It is no file of an older format either, and tells of no other disk.
+-- A file tells of this disk and of no other, and its format is not an older one.
 pub record TellsOnlyOf (file : List ℕ) (disk : KeptDisk) : Type 0 where
   pub tells : TellsOf file disk
   pub newest : ¬ IsOlder file
@@ -54,7 +54,7 @@ module _ {P : Type 0} (does : P → FileDeed → Bool → P → Type 0) (may_be 
   KeptIsFound = (k m : FileKeeperState P) (process : List ℕ) (disk : KeptDisk) → TellsOf (kept_file k.head process) disk → KeepsFile does k process true m
       → (d : FolderHistory) → may_be m.place d → FindsDisk (names_now d) disk
 
-  -- A keeper could not keep it. Then a reader finds it, or what a reader might have found before.
+  -- A keeper has failed to keep a disk. Then a reader finds that disk, or what a reader might have found before.
   abbrev pub UnkeptMayBeFound : Type 0
   UnkeptMayBeFound = (k m : FileKeeperState P) (process : List ℕ) (disk : KeptDisk) → TellsOf (kept_file k.head process) disk → KeepsFile does k process false m
       → (d : FolderHistory) → may_be m.place d
@@ -65,7 +65,8 @@ module _ {P : Type 0} (does : P → FileDeed → Bool → P → Type 0) (may_be 
   KeptOutlastsLoss = (k m : FileKeeperState P) (process : List ℕ) (disk : KeptDisk) → TellsOf (kept_file k.head process) disk → k.sync ≡ true → KeepsFile does k process true m
       → (d : FolderHistory) → may_be m.place d → (n : Names) → IsLeftByLoss d n → FindsDisk n disk
 
-  -- If it could not be kept, a loss of power leaves it or the one before, if that would have been found after a loss.
+  -- If a disk could not be kept, a loss of power leaves that disk or the one before, provided that a loss before would have
+  -- left the latter.
   abbrev pub UnkeptLeavesOne : Type 0
   UnkeptLeavesOne = (k m : FileKeeperState P) (before process : List ℕ) (old disk : KeptDisk) → TellsOf (kept_file k.head before) old → IsLasting may_be k before
       → TellsOf (kept_file k.head process) disk → k.sync ≡ true → KeepsFile does k process false m
@@ -75,13 +76,13 @@ module _ {P : Type 0} (does : P → FileDeed → Bool → P → Type 0) (may_be 
 abbrev pub first_keeper : FilePlaceState → Head → Bool → FileKeeperState FilePlaceState
 first_keeper place head sync = record { place = place; head = head; sync = sync; failure = None }
 
--- Nothing else is read back than what the place has found.
+-- What is read back is what the place has found, and nothing else.
 abbrev pub FoundIsReadBack : Type 0
 FoundIsReadBack = (p q : FilePlaceState) (head : Head) (sync : Bool) (bytes : List ℕ) → NotesFound p (Some (kept_file head bytes)) q
     → MayReadBack PlaceMayBe (first_keeper q head sync) bytes
     × ((other : List ℕ) → MayReadBack PlaceMayBe (first_keeper q head sync) other → other ≡ bytes)
 
--- So the process begins as the laws about processes want it, and is as safe as the one before.
+-- So the process begins as the laws about processes require, and is as safe as the one before.
 abbrev pub FoundBegins : Type 0 → Type 0
 FoundBegins B = (p q : FilePlaceState) (head : Head) (sync : Bool) (bytes : List ℕ) → NotesFound p (Some (kept_file head bytes)) q
     → (v : Scheme) (stores : List (List ℕ)) (core : State) (inner : B) → IsFile v bytes stores core
@@ -90,8 +91,8 @@ FoundBegins B = (p q : FilePlaceState) (head : Head) (sync : Bool) (bytes : List
     → IsSafe may_lie v (MayReadBack PlaceMayBe) (begun inner v stores core (first_keeper q head sync)) host before before
     ⊎ IsSafe may_lie v (MayReadBack PlaceMayBe) (begun inner v stores core (first_keeper q head sync)) host array array)
 
--- Of a loss of power nothing is known yet: the file may be only in the system's cache, so a loss may leave none. A keeper that has
--- kept itself with sync knows more (KeptOutlastsLoss).
+-- Nothing is known yet of what a loss of power leaves: the file may be only in the system's cache, so a loss may leave none.
+-- More is known once a keeper has kept a process with sync (KeptOutlastsLoss).
 abbrev pub FoundMayBeLost : Type 0
 FoundMayBeLost = (p q : FilePlaceState) (head : Head) (sync : Bool) (bytes : List ℕ) → NotesFound p (Some (kept_file head bytes)) q
     → ¬ IsLasting PlaceMayBe (first_keeper q head sync) bytes

@@ -1,4 +1,4 @@
--- What a batch over a link that tries again is to the one host to which its connections lead.
+-- What a batch over a link that tries again means for the host, if all connections of the link lead to one host.
 use Rattle.std.specs.Prelude.{◌≡◌, ◌⊎◌, ◌↔◌, ℕ, zero, suc, Bool, true, false, List, [], ◌∷◌, ◌++◌, Option, None, Some, Ok, Err, is_ok, if◌then◌else◌, bytes_eq, replicate}
 use Rattle.std.specs.List.{AllByRecursion, FoldsTo}
 use Rattle.oram_wire.specs.FrameStream.{IsBody, frame}
@@ -22,17 +22,17 @@ use Rattle.oram_client.specs.StreamBatches.{Connection, StreamBatch, connection}
 use Rattle.oram_client.specs.declared.dialer.Limits.{Limits}
 use Rattle.oram_client.specs.declared.dialer.Trouble.{Trouble}
 
--- a host stands beside these tries, one after the other, and is honest in each or may lie
+-- a host goes through the exchanges of these tries, one after the other, and is honest in each or may lie
 abbrev pub TriesRun : Bool → Scheme → Host → List (List Exchange) → Host → Type 0
 TriesRun may_lie v host tries after = FoldsTo {P = Host} {A = List Exchange} (PlainRun may_lie v) host tries after
 
--- each try has the exchanges of a batch of these messages over a connection, or, where none was open, no exchanges
+-- each try has the exchanges of a batch of these messages over a connection, or no exchanges if no connection was open
 abbrev pub AreTries : {L : Type 0} → (L → List (List ℕ) → BatchOutcome → List Exchange → L → Type 0) → List (List ℕ) → List (List Exchange) → Type 0
 AreTries {L} batches bodies tries = AllByRecursion (λ exchanges. (exchanges ≡ []) ⊎ ((from to : L) × (o : BatchOutcome) × batches from bodies o exchanges to)) tries
 
 -- for dialers and connections with these relations
 module _ {D L : Type 0} (kind : DialerKind D L) where
-  -- The exchanges are those of the tries, and no others: a host stands beside the one exactly where it stands beside the
+  -- The exchanges of a batch are those of its tries, and no others: a host goes through the one exactly if it goes through the
   -- other.
   abbrev pub ExchangesAreOfTheTries : Type 0
   ExchangesAreOfTheTries = (l m : ReconnectState D L) (bodies : List (List ℕ)) (o : BatchOutcome) (exchanges : List Exchange)
@@ -41,7 +41,7 @@ module _ {D L : Type 0} (kind : DialerKind D L) where
       × ((may_lie : Bool) (v : Scheme) (host after : Host) → TriesRun may_lie v host tries after ↔ PlainRun may_lie v host exchanges after)
 
   -- The answers that the caller receives are the host's, to all messages in their order, after the host received any of the
-  -- messages in tries that failed. None of them is that the host has no room, unless the link has given up.
+  -- messages in tries that failed. None of them says that the host has no room, unless the link has given up.
   abbrev pub AnswersAreTheHosts : Type 0
   AnswersAreTheHosts = AreBatches kind.batches
       → (may_lie : Bool) (v : Scheme) (l m : ReconnectState D L) (bodies answers : List (List ℕ)) (exchanges : List Exchange) (host after : Host)
@@ -50,14 +50,14 @@ module _ {D L : Type 0} (kind : DialerKind D L) where
       × ((mid : Host) × PlainRun may_lie v host vain mid × PlainRun may_lie v mid (answered bodies answers) after)
       × (m.trouble ≡ None → ¬ IsAmong no_room_answer answers)
 
-  -- A link that returns a fault and hasn't given up has no memory.
+  -- If a link returns a fault and hasn't given up, memory ran out.
   abbrev pub FaultsAreOfMemory : Type 0
   FaultsAreOfMemory = (l m : ReconnectState D L) (bodies : List (List ℕ)) (fault : LinkFault) (exchanges : List Exchange)
       → ReconnectBatch kind l bodies (Err fault) exchanges m → l.trouble ≡ None → m.trouble ≡ None → fault ≡ OutOfMemory
 
   -- All connections lead to one host. `host_of` gives that host as it is now, for a dialer and the open connection if there is
   -- one; it gives `None` for a dialer and a connection that don't lead to it. Whatever happens to the link while it carries
-  -- these messages, what it has then leads to the host again, as the host is then.
+  -- these messages, its dialer and its connection lead to the host afterwards too, as the host is then.
   pub record LeadToOneHost (may_lie : Bool) (v : Scheme) (bodies : List (List ℕ)) (host_of : D → Option L → Option Host) : Type 0 where
     pub opened : (d e : D) (limits : Limits) (line : L) (host : Host) → host_of d None ≡ Some host → kind.opens d limits line e → host_of e (Some line) ≡ Some host
     pub unopened : (d e : D) (limits : Limits) (trouble : Trouble) (host : Host) → host_of d None ≡ Some host → kind.fails d limits trouble e → host_of e None ≡ Some host
@@ -76,8 +76,8 @@ module _ {D L : Type 0} (kind : DialerKind D L) where
       → ReconnectBatch kind l bodies o exchanges m
       → (after : Host) × PlainRun may_lie v host exchanges after × (host_of m.dialer m.line ≡ Some after)
 
--- If the reader's bytes are known to be a server's answers to the messages, then, whatever the outcome of a batch, also a
--- fault, that server is honest in its exchanges.
+-- If the reader's bytes are known to be a server's answers to the messages, then that server is honest in the exchanges of a
+-- batch, whatever the outcome of the batch, even a fault.
 abbrev pub StreamBatchesAreRun : {R W : Type 0} → (R → Option (List ℕ)) → (W → Option (List ℕ)) → Type 0
 StreamBatchesAreRun {R} {W} remaining contents = (l m : Connection R W) (bodies : List (List ℕ)) (o : BatchOutcome) (exchanges : List Exchange) (host : Host) (bytes : List ℕ)
     → remaining l.reader ≡ Some bytes → Supplies host bodies bytes → StreamBatch remaining contents l bodies o exchanges m
@@ -106,7 +106,7 @@ StreamBatchesReachTheHost {R} {W} remaining contents = (l m : Connection R W) (b
     → HostRun host exchanges after × (is_ok o ≡ true → remaining m.reader ≡ Some [])
 
 -- An example: the host of a device of one block, to which a STORE of ones and a FETCH of its only path are sent. The dialer
--- opens connections in memory, and is the number of those that it has opened. Its clock can't be read.
+-- opens connections in memory, and its value is the number of those that it has opened. Its clock can't be read.
 abbrev pub ones : List ℕ
 ones = replicate 88 1
 
@@ -151,8 +151,8 @@ PausesBetween count milliseconds more = more ≡ count
 abbrev pub ReadsNoClock : ℕ → Option ℕ → ℕ → Type 0
 ReadsNoClock count now more = (now ≡ None) × (more ≡ count)
 
--- The host to which the newest connection leads, which is closed or not and still has these bytes to be read: the host as it
--- was when the connection was opened, and once all was read, as it is after that connection.
+-- The host to which the newest connection leads, given whether that connection is closed and which bytes are still to be read:
+-- the host as it was when the connection was opened, or once all was read, as it is after that connection.
 abbrev pub host_over : ℕ → Bool → List ℕ → Option Host
 host_over count true unread = None
 host_over count false [] = Some (host_after (suc count))
@@ -171,7 +171,7 @@ abbrev pub two_tries : List Exchange
 two_tries = (store_body 0 0 ones, Ok done_answer) ∷ (fetch_body 0 0, Err Closed)
     ∷ (store_body 0 0 ones, Ok done_answer) ∷ (fetch_body 0 0, Ok (payload_answer ones)) ∷ []
 
--- a link with one second to try, before it opened a connection
+-- a link with a reconnect timeout of one second, before it has opened a connection
 abbrev pub fresh : ReconnectState ℕ Bytes
 fresh = record { dialer = 0; line = None; reconnect_timeout = 1000; trouble = None }
 

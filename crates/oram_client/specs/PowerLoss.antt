@@ -31,7 +31,7 @@ abbrev pub MayRead : Option File → Option (List ℕ) → Type 0
 MayRead None read = read ≡ None
 MayRead (Some file) read = MatchBool file.synced (read ≡ Some file.bytes) ⊤
 
--- A name has the file that it had at one of these moments.
+-- After a loss, a name has the file that it had at one of these moments.
 abbrev pub MayStand : (Folder → Option File) → List Folder → Option (List ℕ) → Type 0
 MayStand name [] read = ⊥
 MayStand name (moment ∷ moments) read = MayRead (name moment) read ⊎ MayStand name moments read
@@ -54,7 +54,7 @@ abbrev pub first_file : Option File → Option File → Option File
 first_file None aside = aside
 first_file (Some file) aside = Some file
 
--- a disk after a deed
+-- a folder after a deed
 abbrev pub after_deed : FolderHistory → FileDeed → FolderHistory
 after_deed d (Writes sync bytes) = changed d (record d.now { fresh = Some (record { synced = sync; bytes = bytes }) })
 after_deed d SetsAside = changed d (record d.now { kept = None; aside = first_file d.now.kept d.now.aside })
@@ -83,7 +83,7 @@ DoesToFolder d deed done e = MatchBool done (e ≡ after_deed d deed) (LeavesFol
 abbrev pub FoldersAfter : (FolderHistory → Type 0) → FileDeed → Bool → FolderHistory → Type 0
 FoldersAfter before deed done e = (d : FolderHistory) × before d × DoesToFolder d deed done e
 
--- a disk during a deed: a file isn't synced before it is whole
+-- a folder during a deed: a file isn't synced before it is whole
 abbrev pub during_deed : FolderHistory → FileDeed → FolderHistory
 during_deed d (Writes sync bytes) = after_deed d (Writes false bytes)
 during_deed d deed = d
@@ -99,11 +99,11 @@ pub record AreLasting (file : List ℕ) (deeds : List FileDeed) : Type 0 where
   pub meanwhile : (old : Option (List ℕ)) (d : FolderHistory) → IsSure d old → (m : Names) → LosesPowerIn d deeds m → (found m ≡ old) ⊎ (found m ≡ Some file)
   pub afterwards : (d : FolderHistory) → IsSure (after_deeds d deeds) (Some file)
 
--- The deeds that write a file with sync do so.
+-- The deeds that write a file with sync keep it in this way.
 abbrev pub SyncedFilesLast : Type 0
 SyncedFilesLast = (file : List ℕ) → AreLasting file (deeds_of true file)
 
--- Without one of the two syncs they don't.
+-- If either of the two syncs is left out, they don't.
 abbrev pub SyncsAreNeeded : Type 0
 SyncsAreNeeded = (file : List ℕ) → (¬ AreLasting file (Writes false file ∷ Renames ∷ SyncsFolder ∷ Clears ∷ []))
     × (¬ AreLasting file (Writes true file ∷ Renames ∷ Clears ∷ []))

@@ -28,8 +28,8 @@ abbrev pub attempt_of : Result (Vec (Vec ℕ)) Trouble → Attempt
 attempt_of (Ok answers) = Ok (texts answers.items)
 attempt_of (Err trouble) = Err trouble
 
--- Why an attempt has to be made again: not all messages were answered, or the host had no room for one of them. `None` where
--- it brought something to give to the caller: the answers, or that memory ran out.
+-- Why an attempt has to be made again: not all messages were answered, or the host had no room for one of them. `None` if
+-- the attempt has something for the caller: the answers, or that memory ran out.
 abbrev pub IsTroubleIn : Attempt → Option Trouble → Type 0
 IsTroubleIn (Ok answers) None = ¬ IsAmong no_room_answer answers
 IsTroubleIn (Ok answers) (Some trouble) = IsAmong no_room_answer answers × (trouble ≡ NoRoom)
@@ -41,7 +41,7 @@ abbrev pub link_outcome : Attempt → BatchOutcome
 link_outcome (Ok answers) = Ok answers
 link_outcome (Err trouble) = Err (fault_of trouble)
 
--- what a program learns that asks whether its host is there: that the host has answered, or why it hasn't
+-- what a program learns when it asks whether its host is there: that the host has answered, or why it hasn't
 abbrev pub IsReached : {A : Type 0} → BatchOutcome → Option Trouble → Result A Trouble → Type 0
 IsReached outcome None result = MatchResult outcome (λ answers. IsOk result) (λ fault. result ≡ Err (OutOfReach fault))
 IsReached outcome (Some trouble) result = result ≡ Err trouble
@@ -57,14 +57,14 @@ most_pause = 5000
 abbrev pub limits : ℕ → ℕ → Limits
 limits reconnect_timeout left = record { opening = max left 1; silence = max 1000 (min reconnect_timeout 60000) }
 
--- the time between two readings of the clock, or 0 where one of them failed
+-- the time between two readings of the clock, or 0 if one of them failed
 abbrev pub elapsed : Option ℕ → Option ℕ → ℕ
 elapsed (Some from) (Some to) = to - from
 elapsed (Some from) None = 0
 elapsed None to = 0
 
--- The time that is left of the reconnect timeout after a trouble, when the clock reads `now`. Pauses count even where
--- the clock can't be read, and no time is left where the trouble won't pass.
+-- The time that is left of the reconnect timeout after a trouble, when the clock reads `now`. Pauses count even if
+-- the clock can't be read, and no time is left if the trouble won't pass.
 abbrev pub time_left : (reconnect_timeout : ℕ) (begin : Option ℕ) (left : ℕ) → Trouble → (now : Option ℕ) → ℕ
 time_left reconnect_timeout begin left trouble now = cond (may_pass trouble) (min left (reconnect_timeout - elapsed begin now)) 0
 
@@ -151,8 +151,8 @@ module _ {D L : Type 0} (kind : DialerKind D L) where
     pub shows : IsTroubleIn came (Some vain.trouble)
     pub paused : IsPaused kind.pauses kind.reads reconnect_timeout begin mid w.pause w.left vain.trouble x.dialer x.pause x.left
 
-  -- All messages are tried again and again, with a pause after each try but the last. The last one brings answers to give, or
-  -- memory ran out in it, or no time is left after it.
+  -- All messages are tried again and again, with a pause after each try but the last. The last try has answers for the
+  -- caller, or memory ran out in it, or no time is left after it.
   pub record MakesTries (l : ReconnectState D L) (bodies : List (List ℕ)) (outcome : BatchOutcome) (exchanges : List Exchange) (m : ReconnectState D L) : Type 0 where
     pub begin : Option ℕ
     pub first : D

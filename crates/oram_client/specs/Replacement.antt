@@ -5,11 +5,11 @@ use Rattle.oram_client.specs.declared.file_step.FileStep.TheVariants as step
 
 -- what is done to a file, to the new one beside it, and to the one that was set aside
 pub data FileDeed : Type 0 where
-  Writes : Bool → List ℕ → FileDeed  -- the new one; true where it is synced too
-  SetsAside : FileDeed  -- the file, if there is one
-  Renames : FileDeed  -- the new one takes the file's place, if there is one
+  Writes : Bool → List ℕ → FileDeed  -- the new file; true if it is synced too
+  SetsAside : FileDeed  -- the old file, if there is one
+  Renames : FileDeed  -- the new file, if there is one, takes the old file's place
   SyncsFolder : FileDeed
-  Clears : FileDeed  -- the one that was set aside goes
+  Clears : FileDeed  -- the file that was set aside is removed
 
 -- Without sync, no rename replaces the old file: some file systems would then write the new one to the disk first, and
 -- each keeping would wait for that.

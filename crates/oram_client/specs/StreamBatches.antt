@@ -18,7 +18,7 @@ pub record Connection (R W : Type 0) : Type 0 where
   pub writer : W
   pub closed : Bool  -- whether a fault has closed it
 
--- a new one
+-- a new connection
 abbrev pub connection : {R W : Type 0} → R → W → Connection R W
 connection reader writer = record { reader = reader; writer = writer; closed = false }
 

@@ -78,7 +78,7 @@ impl<R, W, P> Ahead<R, W, P> {
         }
     }
 
-    /// Returns what the last answer other than done meant, if there was one.
+    /// Returns what the last answer meant that didn't say that the host is done, if there was one.
     pub(crate) fn refusal(&self) -> Option<Refusal>
         ensures { result ≡ self.now.refusal }
     {

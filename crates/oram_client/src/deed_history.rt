@@ -26,8 +26,8 @@ const NOT_FOUND: u64 = 7;
 /// The deeds that were done in a place, those that failed there, and the files that were found there, the newest first.
 /// It takes no bytes at run time.
 ///
-/// A [`Place`](crate::Place) whose files no contract knows notes all this here, so that it defines what the folder may
-/// be.
+/// A [`Place`](crate::Place) whose files no contract describes notes all this here, so that the notes define what the
+/// folder may be.
 #[derive(Drop)]
 pub struct DeedHistory {
     marker: PhantomData<u8>,
@@ -55,7 +55,7 @@ impl DeedHistory {
         }
     }
 
-    /// Notes that the new file was written with this head and process, or that it failed.
+    /// Notes that the new file was written with this head and process, or that this failed.
     pub fn note_write(&mut self, head: &Head, process: &[u8], sync: bool, is_done: bool)
         ensures { IsNoted self.old.notes (Writes sync (kept_file head.now process.now)) is_done self.new.notes }
     {
@@ -64,28 +64,28 @@ impl DeedHistory {
         self.note(&numbers, &head.salt.0, &head.key_check.0, process);
     }
 
-    /// Notes that the file was set aside, or that it failed.
+    /// Notes that the file was set aside, or that this failed.
     pub fn note_set_aside(&mut self, is_done: bool)
         ensures { IsNoted self.old.notes SetsAside is_done self.new.notes }
     {
         self.note(&[SET_ASIDE, u64::from(is_done)], &[], &[], &[]);
     }
 
-    /// Notes that the new file took the file's place, or that it failed.
+    /// Notes that the new file took the file's place, or that this failed.
     pub fn note_rename(&mut self, is_done: bool)
         ensures { IsNoted self.old.notes Renames is_done self.new.notes }
     {
         self.note(&[RENAME, u64::from(is_done)], &[], &[], &[]);
     }
 
-    /// Notes that the folder was synced, or that it failed.
+    /// Notes that the folder was synced, or that this failed.
     pub fn note_sync_folder(&mut self, is_done: bool)
         ensures { IsNoted self.old.notes SyncsFolder is_done self.new.notes }
     {
         self.note(&[SYNC_FOLDER, u64::from(is_done)], &[], &[], &[]);
     }
 
-    /// Notes that the file that was set aside was removed, or that it failed.
+    /// Notes that the file that was set aside was removed, or that this failed.
     pub fn note_clear(&mut self, is_done: bool)
         ensures { IsNoted self.old.notes Clears is_done self.new.notes }
     {
@@ -106,7 +106,7 @@ impl DeedHistory {
         self.note(&[NOT_FOUND], &[], &[], &[]);
     }
 
-    /// Makes a note: `noted_of` says what the numbers and the bytes stand for.
+    /// Makes a note: `noted_of` says what the numbers and the bytes mean.
     fn note(&mut self, _numbers: &[u64], _salt: &[u8], _key_check: &[u8], _file: &[u8])
         ensures { self.new.notes ≡ noted_of _numbers.now _salt.now _key_check.now _file.now ∷ self.old.notes }
     {}

@@ -8,7 +8,7 @@ use oram_session::LinkFault;
 use std::alloc::Global;
 use std::io;
 
-/// Why a host gives no answer that is of use.
+/// Why a host gives no useful answer.
 #[derive(Clone, Copy, Debug, PartialEq, Eq)]
 pub enum Trouble {
     /// No connection could be opened, or it broke, or the host was silent for too long; or memory ran out here.
@@ -35,7 +35,7 @@ impl Trouble {
         }
     }
 
-    /// Returns whether the host is well, and this program has no memory for what it sends or receives.
+    /// Returns whether nothing is wrong with the host, but this program has no memory for what it sends or receives.
     pub fn lacks_memory(self) -> bool
         ensures { result ≡ lacks_memory self }
     {
@@ -150,8 +150,7 @@ pub trait Dial {
     fn pause(&mut self, milliseconds: u64)
         ensures { pauses self.old milliseconds self.new };
 
-    /// Returns the milliseconds since some fixed moment, by a clock that nobody sets; `None` if the clock can't be
-    /// read.
+    /// Returns the milliseconds since some fixed moment, by a monotonic clock; `None` if the clock can't be read.
     fn now(&mut self) -> Option<u64>
         ensures { reads self.old result self.new };
 }

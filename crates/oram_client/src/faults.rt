@@ -18,7 +18,7 @@ pub enum FormattingFault {
     /// The host has no room for a message.
     #[error("the host has no room")]
     NoRoom,
-    /// The host gave any other answer than that it is done.
+    /// The host gave an answer other than that it is done.
     #[error("the host refused a message of the formatting")]
     Refused,
     #[error("the connection to the host failed")]

@@ -10,8 +10,8 @@ use std::marker::Model;
 /// Keeps a process in a file, after the disk's head. It writes a new file beside the old one, and renames it into place
 /// once it is whole.
 ///
-/// With `sync`, a kept process is on the disk, so that it outlives the machine. After a failure the keeper keeps nothing
-/// more, since the file may then hold the process that failed or the one before it.
+/// With `sync`, a kept process is on the disk, so that it outlasts a crash of the machine. After a failure the keeper keeps
+/// nothing more, since the file may then hold the process that failed or the one before it.
 #[derive(Debug, Drop)]
 pub struct FileKeeper<P> {
     place: P,
@@ -41,7 +41,7 @@ impl<P> FileKeeper<P> {
         }
     }
 
-    /// Returns why a process was not kept, once one wasn't.
+    /// Returns why a process could not be kept, once one couldn't.
     pub fn failure(&self) -> Option<FileFailure>
         ensures { result ≡ self.now.failure }
     {

@@ -36,7 +36,7 @@ fn aside_name(alloc: Global, name: &str) -> Result<String, AllocError>
     Ok(aside)
 }
 
-/// Returns `Ok` if the only trouble was that the file doesn't exist.
+/// Returns `done`, but `Ok` if it failed only because the file doesn't exist.
 fn ignore_missing(done: io::Result<()>) -> io::Result<()> {
     match done {
         Err(error) if error.kind() == ErrorKind::NotFound => Ok(()),
@@ -102,8 +102,8 @@ impl<R: Files + AllocGlobal> FilePlace<R> {
         Ok(file)
     }
 
-    /// Returns the name under which the file is found now, as [`kept_name`] does. If both were looked up and it has neither,
-    /// the place notes that readers find no file. Nobody else may make one from then on.
+    /// Returns the name under which the file is found now, as [`kept_name`] does. If both names were looked up and the file has
+    /// neither, the place notes that readers find no file. Nobody else may make one from then on.
     pub fn kept_name(&mut self) -> Result<Option<String>, FileFault>
         ensures ok { IfOk result (λ name. MatchOption name (NotesFound self.old None self.new) (λ _. self.new ≡ self.old)) }
         ensures err { OnErr result (self.new ≡ self.old) }
@@ -190,8 +190,8 @@ impl<R: Files> Place for FilePlace<R> {
     }
 }
 
-/// Returns whether there is a file of the name that was looked up, from what the system gave for it. Only the error
-/// `NotFound` says that there is none. After any other one, as that its folder may not be searched, nothing is known of the
+/// Returns whether there is a file of the name that was looked up, from what the system gave for it. Only the error `NotFound`
+/// says that there is none. After any other error, for example that its folder may not be searched, nothing is known of the
 /// file.
 fn is_there(alloc: Global, looked_up: io::Result<Metadata>, name: &str) -> Result<bool, FileFault>
     ensures ok { IfOk result (λ there. MatchResult looked_up (λ _. there ≡ true) (λ error. (there ≡ false) × (error_kind error ≡ ErrorKind.NotFound))) }
@@ -211,7 +211,7 @@ fn is_there(alloc: Global, looked_up: io::Result<Metadata>, name: &str) -> Resul
 }
 
 /// Returns the name under which the kept file `name` is found now: its own, or that of the file that was set aside. A link
-/// counts as the file even if what it leads to is missing, as on a disk that isn't mounted.
+/// counts as the file even if what it leads to is missing, for example because its disk isn't mounted.
 ///
 /// Fails if one of the two names can't be looked up, with the system's reason, or if memory runs out.
 pub fn kept_name<R: Files + AllocGlobal>(rt: &R, name: &str) -> Result<Option<String>, FileFault>

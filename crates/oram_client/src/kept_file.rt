@@ -56,7 +56,7 @@ impl SealerKind {
     }
 }
 
-/// What a kept file says of a disk, in front of what is kept of its process.
+/// What a kept file says of a disk, before what is kept of its process.
 #[derive(Clone, Copy, Debug, PartialEq, Eq)]
 pub struct Head {
     pub salt: Salt,

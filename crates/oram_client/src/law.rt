@@ -6,15 +6,16 @@ use crate::dialer::Dial;
 use std::io::{Read, Write};
 
 /// A law about definitions: the exchanges of a batch over a [`ReconnectLink`](crate::ReconnectLink) are those of its tries,
-/// each a batch over one connection. So if all connections lead to one host, which stands beside the tries one after the
-/// other, that host stands beside the whole batch, and the laws about links and their hosts hold of it.
+/// each a batch over one connection. So if all connections lead to one host, which takes part in the exchanges of the tries,
+/// one after the other, then that host takes part in those of the whole batch, and the laws about links and their hosts hold of
+/// it.
 pub fn exchanges_are_of_the_tries<D: Dial>()
     ensures { ExchangesAreOfTheTries (dialer_kind D.opens D.fails D.pauses D.reads D.Line.batches) }
 {}
 
-/// A law about definitions: the answers that such a link gives are those of the host beside it, to all messages of the
-/// batch in their order. In the tries before, the host may have received any of these messages, and no others. No answer
-/// is that the host has no room, unless the link has given up.
+/// A law about definitions: the answers that such a link gives are those of the host beside it, to all messages of the batch in
+/// their order. In the tries before, the host may have received any of these messages, and no others. None of these answers
+/// says that the host has no room, unless the link has given up.
 pub fn answers_are_the_hosts<D: Dial>()
     ensures { AnswersAreTheHosts (dialer_kind D.opens D.fails D.pauses D.reads D.Line.batches) }
 {}
@@ -24,22 +25,22 @@ pub fn faults_are_of_memory<D: Dial>()
     ensures { FaultsAreOfMemory (dialer_kind D.opens D.fails D.pauses D.reads D.Line.batches) }
 {}
 
-/// A law about definitions: all connections that a [`ReconnectLink`](crate::ReconnectLink) opens lead to one host, also
+/// A law about definitions: all connections that a [`ReconnectLink`](crate::ReconnectLink) opens lead to one host, including
 /// those that break off. Then the exchanges of a batch over it are those of that host, from connection to connection, and
 /// afterwards the link leads to the host again.
 pub fn exchanges_are_of_one_host<D: Dial>()
     ensures { ExchangesAreOfOneHost (dialer_kind D.opens D.fails D.pauses D.reads D.Line.batches) }
 {}
 
-/// A law about definitions: a batch goes over a [`StreamBatches`](crate::StreamBatches) whose reader is known to give a
-/// host's answers to the first messages, or a beginning of them. Then that host is honest in the exchanges of the batch,
-/// whatever comes of it. So a connection that breaks off leads to its host as [`exchanges_are_of_one_host`] wants it.
+/// A law about definitions: a batch goes over a [`StreamBatches`](crate::StreamBatches) whose reader is known to give a host's
+/// answers to the first messages, or a beginning of them. Then that host is honest in the exchanges of the batch, however the
+/// batch ends. So a connection that breaks off leads to its host as [`exchanges_are_of_one_host`] requires.
 pub fn stream_batches_reach_the_host<R: Read, W: Write>()
     ensures { StreamBatchesReachTheHost R.remaining W.contents }
 {}
 
 /// A law about definitions: a batch goes over a [`StreamBatches`](crate::StreamBatches) whose reader is known to give a
-/// server's answers to the messages. Then that server is honest in the exchanges of the batch, also if it has a fault.
+/// server's answers to the messages. Then that server is honest in the exchanges of the batch, even if the batch has a fault.
 pub fn stream_batches_are_run<R: Read, W: Write>()
     ensures { StreamBatchesAreRun R.remaining W.contents }
 {}

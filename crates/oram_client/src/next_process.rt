@@ -16,12 +16,13 @@ pub fn next_process_finds_what_was_kept<P: Place>()
     ensures unkept_lasts { UnkeptLeavesOne P.does P.may_be }
 {}
 
-/// A law about definitions: a process has read its file with [`FilePlace::read`](crate::FilePlace::read) and keeps itself
-/// in that place. Then nothing else is read back at its beginning, as `oram_rounds::begun_is_safe` wants it. So that law
-/// and those about the lives of processes hold of `oramdisk`'s own keeper.
+/// A law about definitions: a process has read its file with [`FilePlace::read`](crate::FilePlace::read) and keeps itself in
+/// that place. Then nothing else is read back at its beginning, as `oram_rounds::begun_is_safe` requires. So that law and those
+/// about the lives of processes hold of `oramdisk`'s own keeper.
 ///
-/// That holds while the machine keeps its power. Of a loss of power nothing is known at this beginning, since the file may be only
-/// in the system's cache. It is known once the process has kept itself with `sync` ([`next_process_finds_what_was_kept`]).
+/// That holds as long as the machine doesn't lose power. What a loss of power leaves isn't known at this beginning, since the
+/// file may be only in the system's cache. It is known once the process has kept itself with `sync`
+/// ([`next_process_finds_what_was_kept`]).
 pub fn found_file_is_read_back<B: BatchLink>()
     ensures only { FoundIsReadBack }
     ensures begins { FoundBegins B }

@@ -47,7 +47,7 @@ pub trait Place {
         ensures ok { OnOk result (does self.old Clears true self.new) }
         ensures err { IfErr result (λ why. does self.old Clears false self.new × IsStepOf Clears why.step) };
 
-    /// There is always some folder, be it without files.
+    /// There is always some folder, even if it has no files.
     ghost some_folder: { (place : Self) → (folder : FolderHistory) × may_be place folder };
 
     /// After a deed, done or failed, the folder may be what the deed makes of one that there might have been before, and
@@ -55,7 +55,7 @@ pub trait Place {
     ghost folders_after: { (old : Self) (deed : FileDeed) (done : Bool) (new : Self) → does old deed done new → (folder : FolderHistory) → may_be new folder ↔ FoldersAfter (may_be old) deed done folder };
 }
 
-/// Replaces the old file by the new one in a single rename. The new one is on the disk afterwards.
+/// Replaces the old file with the new one in a single rename. The new one is on the disk afterwards.
 fn put_synced<P: Place>(place: &mut P, head: &Head, process: &[u8]) -> Result<(), FileFailure>
     ensures ok { OnOk result (DoesAll P.does place.old (deeds_of true (kept_file head.now process.now)) place.new) }
     ensures err { IfErr result (λ why. IsBrokenOff P.does place.old (deeds_of true (kept_file head.now process.now)) why.step place.new) }
@@ -66,8 +66,8 @@ fn put_synced<P: Place>(place: &mut P, head: &Head, process: &[u8]) -> Result<()
     place.clear()
 }
 
-/// Sets the old file aside before it renames the new one. If the new one were renamed over the old one, some file
-/// systems would write it to the disk at once, and each keeping would wait for that.
+/// Sets the old file aside before it renames the new one. If the new one were renamed over the old one, some file systems would
+/// write it to the disk at once, and each save would wait for that.
 fn put_unsynced<P: Place>(place: &mut P, head: &Head, process: &[u8]) -> Result<(), FileFailure>
     ensures ok { OnOk result (DoesAll P.does place.old (deeds_of false (kept_file head.now process.now)) place.new) }
     ensures err { IfErr result (λ why. IsBrokenOff P.does place.old (deeds_of false (kept_file head.now process.now)) why.step place.new) }

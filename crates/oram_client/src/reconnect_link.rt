@@ -26,7 +26,7 @@ const LEAST_SILENCE: u64 = 1_000;
 /// The longest time for which a host may be silent over a connection, in milliseconds.
 const MOST_SILENCE: u64 = 60_000;
 
-/// Reports to the watch, and each trouble only once until the host has answered again.
+/// Reports each trouble to the watch only once until the host has answered again.
 #[derive(Debug, Drop)]
 struct TroubleReporter<W> {
     watch: W,
@@ -62,7 +62,7 @@ impl<W: HostWatch> TroubleReporter<W> {
     }
 }
 
-/// How messages without their answers go on waiting, in milliseconds.
+/// How long messages that have no answers yet go on waiting, in milliseconds.
 #[derive(Clone, Copy, Debug)]
 struct Wait {
     /// The next pause.
@@ -73,15 +73,14 @@ struct Wait {
 
 /// A link that opens its connection again after losing it.
 ///
-/// A batch is tried until all of it is answered, or until the reconnect timeout. If a batch over a connection has a
-/// fault, the link closes that connection and sends the whole batch over a new one; if the host has no room for one of
-/// the messages, it sends the whole batch again over the same one. So a STORE that was refused is sent again before the
-/// messages behind it count. If memory runs out, that isn't tried again: the link returns this fault at once, and goes
-/// on being usable. The link pauses before each try but the first. Sending a batch again changes nothing at an
-/// honest host, which carries it out once more, in the same order and with the same result; a session repeats a message
-/// after a fault in the same manner. The reconnect timeout is time by the clock from the beginning of the batch: while
-/// nobody uses the link, it doesn't run. Once it has passed, or the host turned out to keep another disk or none, later
-/// batches try nothing.
+/// A batch is tried until all of it is answered, or until the reconnect timeout has passed. If a batch over a connection has a
+/// fault, the link closes that connection and sends the whole batch over a new one; if the host has no room for one of the
+/// messages, it sends the whole batch again over the same connection. So a STORE that was refused is sent again before the
+/// messages after it count. If memory runs out, the batch isn't tried again: the link returns this fault at once, and stays
+/// usable. The link pauses before each try but the first. Sending a batch again changes nothing at an honest host, which
+/// carries it out once more, in the same order and with the same result; a session repeats a message after a fault in the same
+/// manner. The reconnect timeout is time by the clock from the beginning of the batch: while nobody uses the link, it doesn't
+/// run. Once it has passed, or the host turned out to keep another disk or none, later batches try nothing.
 #[derive(Debug, Drop)]
 pub struct ReconnectLink<D: Dial, W> {
     dialer: D,
@@ -147,7 +146,7 @@ fn link_outcome(came: Result<Vec<Vec<u8>>, Trouble>) -> Result<Vec<Vec<u8>>, Lin
     }
 }
 
-/// Returns what [`ReconnectLink::reach`] tells of the answers to its message, if the link hasn't given up.
+/// Returns what [`ReconnectLink::reach`] returns for the answers to its message, if the link hasn't given up.
 fn reached(answers: Result<Vec<Vec<u8>>, LinkFault>) -> Result<(), Trouble>
     ensures { IsReached (batch_outcome_of answers) None result }
 {

@@ -15,14 +15,14 @@ use std::alloc::Global;
 use std::io::{Read, Write};
 use std::marker::Model;
 
-/// A connection to a host at the other end of a reader and a writer. A batch is written at once, each message as a
+/// A connection to a host at the other end of a reader and a writer. A batch is written in one piece, each message as a
 /// frame, and flushed; then its answers are read, a frame each. Any fault closes the connection: from then on each
 /// batch fails with `Closed`, and nothing is read or written.
 ///
 /// All messages are written before the first answer is read. This doesn't block both sides: of a client's messages only
 /// the STOREs are long, and a host answers each of them with a frame of five or six bytes, which its socket holds for
-/// it while it reads on. A FETCH, whose answer is long, is a short message. So no STORE should stand behind a FETCH in
-/// a batch.
+/// it while it reads on. A FETCH, whose answer is long, is a short message. So no STORE should come after a FETCH in a
+/// batch.
 #[derive(Debug, Drop)]
 pub struct StreamBatches<R, W> {
     reader: R,
@@ -61,7 +61,7 @@ impl<R, W> StreamBatches<R, W> {
 /// The length in bytes of the number before a frame's body.
 const HEAD_LEN: usize = 4;
 
-/// Returns how many bytes the frames of bodies take, or the greatest number.
+/// Returns how many bytes the frames of bodies take, or `usize::MAX` if they take more.
 fn frames_len(bodies: &[Vec<u8>]) -> usize {
     let mut len: usize = 0;
     for body in bodies {

@@ -13,7 +13,7 @@ use std::marker::Model;
 use std::rc::Rc;
 use std::rt::Clock;
 
-/// Returns the milliseconds since some fixed moment, by a clock that nobody sets; `None` if the clock can't be read.
+/// Returns the milliseconds since some fixed moment, by a monotonic clock; `None` if the clock can't be read.
 pub(crate) fn milliseconds<C: Clock>(clock: &C) -> Option<u64> {
     let since_start = clock.monotonic().ok()?;
     u64::try_from(since_start.as_millis()).ok()
@@ -72,15 +72,15 @@ impl<S: Write, C: Clock> Write for Timed<S, C> {
 
 /// Batches over both halves of a connection. Each batch has a time limit, until [`TimedLink::lift_limit`] lifts it.
 ///
-/// The greeting is such a batch: a host that sends its answer byte by byte can't hold it for longer than the limit, except
-/// for the time that it may be silent before the last byte. Once the limit is lifted, a batch takes as long as bytes go
-/// on moving, since it may be long and the way to the host slow. Then only silence ends it: the sockets' own timeouts
-/// say for how long a read or a write may move no byte.
+/// The greeting is such a batch: a host that sends its answer byte by byte can't hold it for longer than the limit, except for
+/// the time that it may be silent before the last byte. Once the limit is lifted, a batch takes as long as bytes go on moving,
+/// since it may be long and the connection to the host slow. Then only silence ends it: the sockets' own timeouts say for how
+/// long a read or a write may move no byte.
 #[derive(Drop)]
 pub struct TimedLink<S, C> {
     line: StreamBatches<Timed<S, C>, Timed<S, C>>,
     clock: C,
-    /// How long a batch may take, in milliseconds. The greatest number stands for no limit.
+    /// How long a batch may take, in milliseconds. `u64::MAX` means that there is no limit.
     limit: u64,
     ends: Rc<Cell<u64>>,
 }

@@ -233,7 +233,7 @@ nothing : (bytes : List ℕ) → length bytes ≡ 0 → bytes ≡ []
 nothing [] none = refl
 nothing (x ∷ bytes) none = absurd (omega arith)
 
--- byte 80 alone is a good answer to a STORE,
+-- byte 0x80 alone is a good answer to a STORE,
 pub stored_means : (v : Scheme) (s : State) (w : World) (records : List ℕ) → IsSound v.device v.cipher.overhead s → status_in s ≡ Waiting → s.entry_number % 2 ≡ 1 → length records ≡ 0 → outcome_of v w.records (requested s.message) (128 ∷ records) ≡ Good
 stored_means v s w records h now odd none = stored_is v w.records (requested s.message) (128 ∷ records) (store_out v s h now odd) (ap (λ r. 128 ∷ r) (nothing records none))
 
@@ -248,7 +248,7 @@ other_means v s w bytes none first = malformed_is v w.records (requested s.messa
 pub empty_means : (v : Scheme) (s : State) (w : World) (bytes : List ℕ) → refusal_in bytes ≡ None → length bytes ≡ 0 → outcome_of v w.records (requested s.message) bytes ≡ Fails Malformed
 empty_means v s w bytes none empty = other_means v s w bytes none (λ first. absurd (let zero : slice_index bytes 0 ≡ 0 = ap (λ xs. slice_index xs 0) (nothing bytes empty) in omega arith))
 
--- byte 80 and the bytes after it
+-- byte 0x80 and the bytes after it
 pub payload_means : (v : Scheme) (s : State) (bytes xs : List ℕ) (r : Verdict) → ((w : World) → Fits v s w → pair_in v w.records (requested s.message) (128 ∷ xs) ≡ false → Means v s w (128 ∷ xs) r) → xs ≡ drop 1 bytes → slice_index bytes 0 ≡ 128 →
     (w : World) → Fits v s w → pair_in v w.records (requested s.message) bytes ≡ false → Means v s w bytes r
 payload_means v s [] xs r meant is first = absurd (omega arith)

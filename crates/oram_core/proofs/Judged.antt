@@ -118,7 +118,7 @@ payload_tells v s (x ∷ bytes) xs r tells is first =
     let whole : 128 ∷ xs ≡ x ∷ bytes = cc in
     subst (λ (ys : List ℕ). Tells v s ys r) whole tells
 
--- byte 80 begins no refusal
+-- byte 0x80 begins no refusal
 payload_is_none : (xs : List ℕ) → is_refusal (128 ∷ xs) ≡ false
 payload_is_none xs = elim (length (128 ∷ xs) == 2) as (λ a. (a && (128 == 129) && nat_le 1 (slice_index (128 ∷ xs) 1) && nat_le (slice_index (128 ∷ xs) 1) 7) ≡ false) [ true ↦ refl | false ↦ refl ]
 

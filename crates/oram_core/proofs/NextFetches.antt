@@ -46,7 +46,7 @@ entry_behind d table queue from at block y low high is inside same =
     ∙ ap (λ (k : ℕ). slice_index (slice_set (table_after d table before) k (new_leaf d (trees_of d - 1) y + 1)) block) same
     ∙ get_or-set_same (table_after d table before) block (new_leaf d (trees_of d - 1) y + 1) 0 (omega (arith, long))
 
--- and else as before
+-- and otherwise as before
 pub entry_kept : (d : Sizes) (table : List ℕ) (queue : List Submission) (from at block : ℕ) (y : Submission) → from ≤ at → at < length queue
     → y ≡ slice_index_or queue at y → block_of d (trees_of d - 1) y ≢ block
     → slice_index (table_after d table (between from (at + 1) queue)) block ≡ slice_index (table_after d table (between from at queue)) block

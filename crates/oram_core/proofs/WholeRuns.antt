@@ -24,7 +24,7 @@ use Rattle.oram_core.specs.Formatting.{IsNew}
 use Rattle.oram_core.specs.Runs.{IsCutShort, MakeAllTrees}
 use Rattle.oram_core.specs.declared.outcome.Run.{Run}
 
--- The steps so far lead to a state, and any further steps from it make one list with them.
+-- The steps so far lead to a state, and any further steps from it continue them to one list of steps.
 pub record Along (v : Scheme) (s : State) (events rest : List Event) (xs : List Shown) (t : State) : Type 0 where
   pub whole : (ys : List Shown) → StepsAlong v t rest ys → StepsAlong v s events (xs ++ ys)
 

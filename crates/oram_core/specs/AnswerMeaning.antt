@@ -50,7 +50,7 @@ pub record IsChecked {A : Type 0} (v : Scheme) (s : State) (records : List ℕ) 
 abbrev pub answer_len : Scheme → State → ℕ
 answer_len v s = if s.entry_number % 2 == 0 then (depth_of v.device (entry_tree v.device s.entry_number) + 1) * record_len v else 0
 
--- the answer is byte 80 and the right number of bytes
+-- the answer is byte 0x80 and the right number of bytes
 abbrev pub is_formed : Scheme → State → List ℕ → Bool
 is_formed v s [] = false
 is_formed v s (first ∷ rest) = (first == GOOD) && (length rest == answer_len v s)

@@ -18,7 +18,7 @@ use Rattle.oram_semantics.specs.declared.events.Reason.TheVariants.{Malformed, T
 use Rattle.oram_semantics.specs.declared.events.Submission.{Submission}
 use Rattle.oram_core.specs.PlainSteps.{fetch_of}
 
--- a core, as clauses see it
+-- a core, as the clauses of contracts see it
 pub record CoreValue (S : Type 0) : Type 0 where
   pub device : Sizes
   pub sealer : S

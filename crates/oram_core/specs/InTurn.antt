@@ -15,12 +15,12 @@ pub record IsFirstFetch (d : Sizes) (m : List ℕ) : Type 0 where
   pub leaf_in : leaf < 2 ^ depth_of d (trees_of d - 1)
   pub named : m ≡ fetch_body (trees_of d - 1) leaf
 
--- The first of the next FETCHes is outstanding, or no FETCH of the last tree is, and all of them are FETCHes of paths of the
--- last tree.
+-- While a command waits, the first of the next FETCHes is outstanding, or no FETCH of the last tree is. And all of the next
+-- FETCHes ask for paths of the last tree.
 pub record IsInTurn (d : Sizes) (s : State) : Type 0 where
   pub asks : AsksInTurn d s
   pub fetches : All (IsFirstFetch d) (fetch_bodies (next_fetches d s))
 
--- Every core is sound, also one that was read back.
+-- Every core is sound, even one that was read back, so this holds of every core.
 abbrev pub SoundCoresAreInTurn : Type 0
 SoundCoresAreInTurn = (d : Sizes) (overhead : ℕ) (s : State) → IsSound d overhead s → IsInTurn d s

@@ -145,7 +145,7 @@ retried_by s Idle = noted s Unexpected
 retried_by s Waiting = noted s Unexpected
 retried_by s Over = noted s Unexpected
 
--- an answer that the core doesn't wait for, or the answer that the host has no room; none for any other
+-- an answer that the core doesn't wait for, or the answer that the host has no room; `None` for any other answer
 abbrev pub unheard_by : State → Bool → Status → Option Done
 unheard_by s no_room Waiting = if no_room then Some (stalled_by s) else None
 unheard_by s no_room Idle = Some (noted s Unexpected)

@@ -31,7 +31,7 @@ pub record AreWaiting (p : Parts) : Type 0 where
   pub begun : length p.waiting ≤ p.tickets
   pub allowed : All (λ x. IsAllowed p.device (submission_at 0 x)) p.waiting
 
--- the parts have everything that a core has which hasn't failed, except for the stashes
+-- the parts have everything that a core has if it hasn't failed, except for the stashes
 pub record IsWorking (overhead : ℕ) (p : Parts) : Type 0 where
   pub table : HasTable p.device p.table
   pub count : length p.trees ≡ trees_of p.device

@@ -28,7 +28,7 @@ Tells v s bytes verdict.Stored = (s.entry_number % 2 ≡ 1) × (bytes ≡ done_a
 Tells v s bytes verdict.NoRoom = bytes ≡ no_room_answer
 Tells v s bytes (verdict.Bad e) = IsReasonFor v s bytes e
 
--- the code of a refusal: byte 81 and a code from 1 to 8
+-- the code of a refusal: byte 0x81 and a code from 1 to 8
 abbrev pub refusal_in : List ℕ → Option ℕ
 refusal_in bytes =
     if not (length bytes == 2) then None

@@ -54,8 +54,8 @@ fn kept_for_reply(alloc: Global, tree: u8, before: Vec<u8>) -> Bytes
 }
 
 impl<S: Sealer> Core<S> {
-    /// Takes the path that the oldest command fetched: reads or changes its block, gives the block a new leaf, and
-    /// sends the path back. Fails the device if the path can't be read, or the map has led astray.
+    /// Takes the path that the oldest command fetched: reads or changes its block, gives the block a new leaf, and sends the
+    /// path back. Fails the device if the path can't be read, or the position map is wrong.
     pub(crate) fn store(
         &mut self,
         alloc: Global,
@@ -106,7 +106,7 @@ impl<S: Sealer> Core<S> {
         }
     }
 
-    /// Returns whether the map has led astray: it names a block that wasn't found, or the entry that it has for the tree
+    /// Returns whether the position map is wrong: it names a block that wasn't found, or the entry that it has for the tree
     /// below is no leaf there.
     fn is_misled(&self, path_access: &PathAccess, found: bool, map_entry: u32) -> bool
         requires healthy { self.now.state.failure ≡ None }
@@ -127,7 +127,7 @@ impl<S: Sealer> Core<S> {
         is_missing || is_no_leaf
     }
 
-    /// Goes on after an access to a tree: stores the path, or fails the device if the map has led astray.
+    /// Goes on after an access to a tree: stores the path, or fails the device if the position map is wrong.
     fn adopt_access(
         &mut self,
         alloc: Global,

@@ -53,8 +53,8 @@ impl<S: Sealer> Core<S> {
         }
     }
 
-    /// Fails the device: forgets the trees and the commands, and returns the given replies, which say of each command
-    /// that it failed.
+    /// Fails the device: forgets the table, the trees and the commands, and returns the given replies, which say of
+    /// each command that it failed.
     pub(crate) fn fail(&mut self, alloc: Global, reason: Reason, replies: Vec<Reply>) -> Reaction
         requires replies { replies.items ≡ map failed_reply self.old.state.queue }
         requires reason { IsReasonOf self.old.device reason }

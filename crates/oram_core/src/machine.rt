@@ -110,6 +110,13 @@ impl<S: Sealer> Core<S> {
         self.next
     }
 
+    /// Returns the nonce for the next bucket to be sealed, which is the number of buckets sealed so far.
+    pub fn next_nonce(&self) -> u64
+        ensures { result ≡ self.now.state.nonce }
+    {
+        self.nonce
+    }
+
     /// Returns the number of accepted commands that have no reply.
     pub fn waiting(&self) -> usize
         ensures { result ≡ length self.now.state.queue }

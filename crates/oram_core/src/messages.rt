@@ -58,7 +58,7 @@ pub fn begun_store(
     Ok(bytes)
 }
 
-/// Room for everything that a step shows, allocated before anything changes, so that nothing can fail afterwards.
+/// Room for everything that a step outputs, allocated before anything changes, so that nothing can fail afterwards.
 #[derive(Drop)]
 pub struct Room {
     sent: Vec<u8>,

@@ -1,4 +1,4 @@
-//! The FETCHes with which the commands that wait begin.
+//! The first FETCHes of the commands that wait.
 ghost use Rattle.std.specs.Prelude.{◌≡◌, ◌+◌, ◌-◌, ◌<◌, ◌≤◌, ◌^◌, All, IfOk, drop, length, slice_index, take};
 ghost use Rattle.oram_geometry.specs.Sizes.{blocks_in, depth_of, trees_of};
 ghost use Rattle.oram_wire.specs.ListOfBodies.{bodies_in};
@@ -91,9 +91,10 @@ fn first_bodies(
 }
 
 impl<S: Sealer> Core<S> {
-    /// Returns the bodies of the FETCHes with which the commands that wait begin, in their order. The oldest command's is
-    /// the first of them until its answer has come. The core will send each of these in its turn unless it fails, so a
-    /// caller may ask the host for them ahead. Takes time that grows with the square of the number of these commands.
+    /// Returns the bodies of the first FETCHes of the commands that wait, in the order of the commands. The first of them is
+    /// that of the oldest command, until its answer has come. The core will send each of these FETCHes in its turn unless it
+    /// fails, so a caller may ask the host for them ahead. Takes time that grows with the square of the number of these
+    /// commands.
     pub fn next_fetches(&self, alloc: Global) -> Result<Vec<Vec<u8>>, AllocError>
         ensures { IfOk result (λ v. bodies_in v.items ≡ fetch_bodies (next_fetches self.now.device self.now.state)) }
     {
@@ -105,9 +106,9 @@ impl<S: Sealer> Core<S> {
     }
 }
 
-/// A law about definitions: every core is in turn. While a command waits, the first of the core's next FETCHes is
-/// outstanding, or no FETCH of the last tree is, and the next FETCHes are FETCHes of paths of the last tree.
-/// [`Core::device`] tells that a core is sound.
+/// A law about definitions: every core is in turn. While a command waits, the first of the core's next FETCHes is outstanding,
+/// or no FETCH of the last tree is, and the next FETCHes are FETCHes of paths of the last tree. [`Core::device`] says that a
+/// core is sound.
 pub fn sound_cores_are_in_turn()
     ensures { SoundCoresAreInTurn }
 {}

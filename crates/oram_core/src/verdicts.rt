@@ -72,7 +72,7 @@ impl<S: Sealer> Core<S> {
         self.payload_verdict(&bytes[1..])
     }
 
-    /// Judges an answer that begins with [`GOOD`], by the bytes behind it.
+    /// Judges an answer that begins with [`GOOD`], by the bytes after it.
     fn payload_verdict<'a>(&self, records: &'a [u8]) -> Verdict<'a>
         requires { status_in self.now.state ≡ Waiting }
         ensures means { let v = scheme_of S.cipher self.now in let s = self.now.state in

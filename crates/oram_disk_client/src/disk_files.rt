@@ -75,8 +75,9 @@ fn is_missing(fault: &FileFault) -> bool
     matches!(fault, FileFault::File(_, FileReason::Missing))
 }
 
-/// Returns the bytes that were read of the kept file `state` of the disk whose settings are in the file `settings`. Fails
-/// with [`FaultKind::Unformatted`] if there is no kept file, and with the system's reason if that can't be found out.
+/// Returns the bytes in `read`, the result of reading the kept file `state` of the disk whose settings are in the file
+/// `settings`. Fails with [`FaultKind::Unformatted`] if there is no kept file, and with the system's reason if that can't be
+/// found out.
 pub fn state_bytes<R: Files + AllocGlobal>(
     rt: &R,
     read: Result<Vec<u8>, FileFault>,
@@ -91,7 +92,7 @@ pub fn state_bytes<R: Files + AllocGlobal>(
         Err(fault) => fault,
     };
     let alloc = rt.alloc();
-    // A link has the file's name even if what it leads to is missing, as on a disk that isn't mounted.
+    // A link has the file's name even if what it leads to is missing, for example because its disk isn't mounted.
     if is_missing(&fault) && kept_name(rt, state)?.is_none() {
         Err(named(alloc, FaultKind::Unformatted, settings))
     } else {
@@ -119,7 +120,7 @@ pub fn named(alloc: Global, kind: FaultKind, name: &str) -> Fault
 }
 
 /// Decodes the core and the STOREs that wait in `process`, which the file `name` holds. Fails with [`FaultKind::NotADisk`] if
-/// `process` is the file of no process with this sealer.
+/// `process` isn't the file of a process with this sealer.
 fn process_in<S: Sealer>(
     alloc: Global,
     sealer: S,
@@ -216,9 +217,8 @@ fn check_settings(
     }
 }
 
-/// Decodes the process of the kept file of a disk, which `sealer` seals. Fails with
-/// [`FaultKind::NotADisk`] if it is no such process, and if the settings in the file `name` aren't those that the disk was formatted
-/// with.
+/// Decodes the process of the kept file of a disk, which `sealer` seals. Fails with [`FaultKind::NotADisk`] if it is no such
+/// process, and with [`FaultKind::Changed`] if the settings in the file `name` aren't those that the disk was formatted with.
 pub fn process_for<S: Sealer>(
     alloc: Global,
     settings: &DiskSettings,
@@ -229,9 +229,12 @@ pub fn process_for<S: Sealer>(
     ensures sealer { IfOk result (λ process. process.core.sealer ≡ sealer) }
     ensures ok { IfOk result (λ process. IsFile (scheme_of S.cipher process.core) kept.now.process.now (texts process.stores.items) process.core.state) }
     ensures agrees { IfOk result (λ process. IsFirstDifference (AgreeAt settings.now process.core.device (spec.sealing_of kept.now.head.sealer)) fixed_keys None) }
+    // Only the settings of a process can have changed. The fault names the first key at which they differ.
     ensures fault { IfErr result (λ fault. IsAbout FaultKind.NotADisk (string_bytes settings.now.state) fault
-        ⊎ ((key : FixedKey) × (fault ≡ Fault.About (FaultKind.Changed key) name))) }
-    // Of a process that was kept it returns all, unless memory runs out or the settings differ; the fault names the first key.
+        ⊎ ((process : KeptCore S) × (key : FixedKey) × (fault ≡ Fault.About (FaultKind.Changed key) name)
+        × IsFile (scheme_of S.cipher process.core) kept.now.process.now (texts process.stores.items) process.core.state
+        × IsFirstDifference (AgreeAt settings.now process.core.device (spec.sealing_of kept.now.head.sealer)) fixed_keys (Some key))) }
+    // It returns all of a process that was kept, unless memory runs out or the settings differ.
     ensures same { (d : Sizes) (stores : List (List ℕ)) (core : State) → IsFileOf (S.cipher sealer).overhead d kept.now.process.now stores core
         → IfOk result (λ process. (texts process.stores.items ≡ stores) × (process.core.device ≡ d) × (process.core.state ≡ core)) }
     ensures changed { (d : Sizes) (stores : List (List ℕ)) (core : State) → IsFileOf (S.cipher sealer).overhead d kept.now.process.now stores core

@@ -1,5 +1,5 @@
-//! Keeps why a disk failed, in a file beside its state. The state itself stays as it was kept, so that the disk can be
-//! tried again.
+//! Records why a disk failed, in a file beside its state. The state itself stays as it was kept, so that the disk can
+//! be tried again.
 
 use oram_cli::{AtomicFile, FileFault, FileReason, bytes_in, file_fault};
 use oram_core::Reason;

@@ -24,8 +24,8 @@ use std::random::RandomSource;
 use std::rt::{Clock, Files};
 use std::time::{Duration, Instant};
 
-/// Prints on standard error how far a formatting is: on a terminal in one line that it overwrites, else in a new line
-/// for each tenth.
+/// Prints on standard error how far a formatting has come: on a terminal in one line that it overwrites, else in a new line for
+/// each tenth.
 #[derive(Drop)]
 struct ProgressPrinter<'a, R> {
     rt: &'a R,
@@ -70,7 +70,7 @@ impl<'a, R: Clock + Eprint + AllocGlobal> ProgressPrinter<'a, R> {
         let line = if !self.on_terminal {
             format!(in alloc; "oramdisk: {text}\n")?
         } else if messages < of {
-            // The next line, be it a fault's, is written over this one.
+            // The next line, even that of a fault, is written over this one.
             format!(in alloc; "{text}\x1b[K\r")?
         } else {
             format!(in alloc; "{text}\x1b[K\n")?
@@ -164,7 +164,7 @@ fn format_with<S: Sealer>(
     let file = encode_kept(alloc, &[], &core)?;
     match keeper.keep(file.as_slice()) {
         Ok(()) => Ok(()),
-        Err(_) => Err(named(alloc, FaultKind::StateNotKept, settings.state.as_str())),
+        Err(_) => Err(named(alloc, FaultKind::StateNotMade, settings.state.as_str())),
     }
 }
 
@@ -188,8 +188,8 @@ fn free_place<R: Files + AllocGlobal + Drop>(mut place: FilePlace<R>) -> Result<
     }
 }
 
-/// Formats the disk whose settings are in the file `name`. Refuses a disk that already has a kept file, and leaves that
-/// as it is. Refuses also a disk whose kept file can't be looked up.
+/// Formats the disk whose settings are in the file `name`. Refuses a disk that already has a kept file, and leaves that as it
+/// is. Also refuses a disk whose kept file can't be looked up.
 pub fn format_disk(rt: &HostRuntime, name: String) -> Result<(), Fault> {
     let alloc = rt.alloc();
     let (settings, device) = disk_in(rt, name.as_str())?;

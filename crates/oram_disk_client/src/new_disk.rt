@@ -58,7 +58,7 @@ fn write_settings<R: Files + AllocGlobal>(rt: &R, name: &str, text: &str) -> Res
     }
 }
 
-/// Syncs a new folder and the one that it lies in, so that a loss of power takes no name from either.
+/// Syncs a new folder and the one that it lies in, so that a loss of power removes no name from either.
 fn sync_folders<R: Files + AllocGlobal>(rt: &R, folder: &str) -> Result<(), FileFault> {
     for place in [folder, folder_of(folder)] {
         if let Err(error) = sync_folder(rt, place) {

@@ -1,4 +1,4 @@
-//! Reports how a disk is, and lets a failed one be tried again.
+//! Reports the status of a disk, and lets a failed one be tried again.
 
 use crate::disk_files::{disk_in, kept_in, keys_in, process_for, state_bytes, take_lock};
 use crate::failures::{forget_failure, kept_failure};

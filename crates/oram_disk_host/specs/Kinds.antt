@@ -7,7 +7,7 @@ use Rattle.oram_cli.specs.declared.hosts.HostFault.TheVariants as host
 use Rattle.oram_settings.specs.declared.differences.FixedKey.{FixedKey}
 use Rattle.oram_settings.specs.declared.differences.FixedKey.TheVariants as fixed
 use Rattle.oram_disk_host.specs.declared.kinds.FaultKind.{FaultKind}
-use Rattle.oram_disk_host.specs.declared.kinds.FaultKind.TheVariants.{CommandLine, Settings, File, Unformatted, Address, NotABucketFile, OlderFile, NewerFile, WithoutLog, LogOfAnotherFile, LogWithoutFile, Damaged, Busy, NoFile, FileExists, Exists, Formatted, NotADisk, OlderState, ReplacedState, WrongKey, Changed, Host, StateNotKept, UsedUp, InUse, Failed, NotFailed}
+use Rattle.oram_disk_host.specs.declared.kinds.FaultKind.TheVariants.{CommandLine, Settings, File, Unformatted, Address, NotABucketFile, OlderFile, NewerFile, WithoutLog, LogOfAnotherFile, LogWithoutFile, Damaged, Busy, NoFile, FileExists, Exists, Formatted, NotADisk, OlderState, ReplacedState, WrongKey, Changed, Host, StateNotKept, StateNotMade, UsedUp, InUse, Failed, NotFailed}
 
 -- the text before the name of the settings with a changed value
 abbrev pub changed : FixedKey → List ℕ
@@ -35,6 +35,7 @@ front (Host host.Taken) = codes "oramdisk: the host at "
 front (Host host.Refused) = codes "oramdisk: the host at "
 front (Host host.OutOfReach) = codes "oramdisk: can't reach the host at "
 front StateNotKept = codes "oramdisk: can't keep the state in "
+front StateNotMade = codes "oramdisk: can't keep the state in "
 front UsedUp = codes "oramdisk: the disk of "
 front InUse = codes "oramdisk: the disk of "
 front Failed = codes "oramdisk: the disk of "
@@ -56,7 +57,7 @@ host_rest host.NoRoom = codes " has no room: make room on its disk, and start ag
 host_rest host.AnotherDisk = codes " keeps another disk, and nothing was sent to it: see that the settings name the right host, and that it was started with its own file\n"
 host_rest host.NoDisk = codes " keeps no disk, and nothing was sent to it: see that the settings name the right host, and that it was started with its own file\n"
 host_rest host.Taken = codes " keeps a disk already: name a new file at the host\n"
-host_rest host.OutOfReach = codes ": see that it runs and that the way to it is open, and start again\n"
+host_rest host.OutOfReach = codes ": see that it runs there, and no other program, and that the way to it is open, and start again\n"
 host_rest host.Refused = codes " doesn't take this disk: name a new file at the host\n"
 
 -- what happened, or to what, and what to do
@@ -69,9 +70,9 @@ rest Address = codes ": see that no other program listens there, that it is a pl
 rest NotABucketFile = codes " isn't a file of buckets, and is left as it is: name another file\n"
 rest OlderFile = codes " is a SQLite file, which an older version may have written, and is left as it is: serve it with that version, or name another file, and format anew\n"
 rest NewerFile = codes " is a file of buckets of a newer version, and is left as it is: serve it with that version\n"
-rest WithoutLog = codes ", the file beside it with -log behind its name, isn't there: put back the one that it was served with last\n"
-rest LogOfAnotherFile = codes ", the file beside it with -log behind its name, is another file's: put back the one that it was served with last\n"
-rest LogWithoutFile = codes ", but its log, the file beside it with -log behind its name, holds records of it: put the file back, or take the log away\n"
+rest WithoutLog = codes ", the file beside it with -log after its name, isn't there: put back the one that it was served with last\n"
+rest LogOfAnotherFile = codes ", the file beside it with -log after its name, is another file's: put back the one that it was served with last\n"
+rest LogWithoutFile = codes ", but its log, the file beside it with -log after its name, holds records of it: put the file back, or take the log away\n"
 rest Damaged = codes " is damaged, and is left as it is: name another file, and format anew\n"
 rest Busy = codes " is held by another process: end that one first\n"
 rest NoFile = codes ": see that the settings are those of the right host, or say oramdisk host --new to make it\n"
@@ -80,22 +81,23 @@ rest Exists = codes " is there already, and is left as it is: name another folde
 rest Formatted = codes " is there already, and is left as it is: to format anew, take it away, and name a new file at the host\n"
 rest NotADisk = codes " isn't the state of a disk, and is left as it is: see that the settings name the right file\n"
 rest OlderState = codes " is the state of a disk of an older version, and is left as it is: serve it with that version, and copy what is in it to a new disk\n"
-rest ReplacedState = codes " is an older state of its disk, and nothing was stored by it: put the newest one back\n"
+rest ReplacedState = codes " is an older state of its disk, and nothing was stored by it: put the newest one back; if a loss of power with sync = false took that one, the disk is lost\n"
 rest WrongKey = codes " isn't this disk's: put the one back that it was formatted with\n"
 rest (Changed key) = codes " isn't what it was when the disk was formatted: put it back\n"
 rest (Host why) = host_rest why
 rest StateNotKept = codes ": see that its folder may be written and has room, and start again\n"
+rest StateNotMade = codes ": see that its folder may be written and has room, name a new file at the host, and format again\n"
 rest UsedUp = codes " has made all its accesses, and can't be read any more: restore a backup of it to a new one\n"
 rest InUse = codes " is in use by another process: end that one first\n"
 rest Failed = codes " has failed, and oramdisk status says why: see that its own host is reached, with its own file, and then say oramdisk retry\n"
 rest NotFailed = codes " has not failed, and is left as it is: oramdisk serve serves it\n"
 
--- 2: words or settings; 4: a file; 5: a socket; 6 to 8: a host's file that isn't one, is damaged, or is held; 9:
--- something that exists already; 10: a state that isn't one; 11, 12: a host that is out of reach, or that refuses; 13:
--- a state that can't be kept; 14: no access left; 16: a disk in use; 17: a disk that has failed; 18: a disk that
--- hasn't; 19: a host's file that is missing; 20 to 22: a host with another disk, with none, or without room; 23, 24: a
--- key or another value that isn't the one of the formatting; 25: a host's file of another version; 26: a file without
--- its log, or a log without its file; 27: a state that was replaced by a newer one
+-- 2: words or settings; 4: a file; 5: a socket; 6 to 8: a host's file that isn't one, is damaged, or is held; 9: something that
+-- exists already; 10: a state that isn't one, or is of an older version; 11, 12: a host that is out of reach, or that refuses;
+-- 13: a state that can't be kept; 14: no access left; 16: a disk in use; 17: a disk that has failed; 18: a disk that hasn't
+-- failed; 19: a host's file that is missing; 20 to 22: a host with another disk, with none, or without room; 23, 24: a key or
+-- another value that isn't the one of the formatting; 25: a host's file of another version; 26: a file without its log, or a
+-- log without its file; 27: a state that was replaced by a newer one
 abbrev pub status : FaultKind → ℕ
 status CommandLine = 2
 status Settings = 2
@@ -114,6 +116,7 @@ status (Host host.OutOfReach) = 11
 status (Host host.Taken) = 12
 status (Host host.Refused) = 12
 status StateNotKept = 13
+status StateNotMade = 13
 status UsedUp = 14
 status InUse = 16
 status Failed = 17

@@ -48,7 +48,7 @@ fn ending(ended: Option<EarlyEnd>) -> &'static str
     }
 }
 
-/// Returns what the line says of a file that had no room.
+/// Returns what the line says of why the store had no room, if it had none.
 fn failing(failure: Option<StoreFault>) -> &'static str
     ensures { result.now ≡ spec.failing failure }
 {
@@ -58,7 +58,7 @@ fn failing(failure: Option<StoreFault>) -> &'static str
         Some(StoreFault::Io) => ", the disk failed",
         Some(StoreFault::Closed) => ", the disk had failed",
         Some(StoreFault::OutOfMemory) => ", there was no memory",
-        // The others are reported when a file is opened.
+        // The other faults are reported when a file is opened.
         Some(_) => ", the file wasn't as it has to be",
     }
 }

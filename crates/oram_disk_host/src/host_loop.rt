@@ -1,4 +1,4 @@
-//! The host, which serves connections one after the other, out of a store in a file.
+//! The host, which serves connections one after the other, from a store in a file.
 
 ghost use Rattle.std.specs.Prelude.{◌≡◌, ◌⊎◌, [], IsSome};
 
@@ -29,7 +29,7 @@ const RETRY_AFTER: u64 = 1;
 /// Reads the settings in the file `name`. In the result, the path of the file of buckets is as seen from the working
 /// directory, not from the folder of `name`.
 ///
-/// `disk_in` of `oram_disk_client` reads a disk's settings. It also makes a device of them.
+/// `disk_in` of `oram_disk_client` does the same for a disk's settings, and also makes the device that they describe.
 fn settings_in<R: Files + AllocGlobal>(rt: &R, name: &str) -> Result<HostSettings, Fault> {
     let alloc = rt.alloc();
     let text = settings_text(rt, name)?;
@@ -190,7 +190,7 @@ where
     }
 }
 
-/// Refuses a file that is missing and, if a new one is asked for, a file that exists. So a host that was started in the
+/// Refuses a file that is missing or, if a new one is asked for, a file that exists. So a host that was started in the
 /// wrong folder says so, instead of serving an empty file.
 fn check_presence<R: Files + AllocGlobal>(rt: &R, file: &str, is_new: bool) -> Result<(), Fault> {
     let alloc = rt.alloc();

@@ -9,8 +9,8 @@ use oram_settings::FixedKey;
 /// Why the program ends, if that is about something with a name.
 #[derive(Clone, Copy, Debug)]
 pub enum FaultKind {
-    /// The command line asks for nothing. Instead of a name, it comes with what is wrong with the words, and how the
-    /// program is used.
+    /// The command line asks for nothing that the program can do. Instead of a name, it comes with what is wrong with the
+    /// words, and how the program is used.
     CommandLine,
     /// A file doesn't have the settings that it must have. Instead of a name, it comes with which file it is, and what
     /// is wrong with it.
@@ -45,9 +45,10 @@ pub enum FaultKind {
     Formatted,
     /// The file of this name isn't a disk's state.
     NotADisk,
-    /// The file of this name is the state of a disk, in an older form.
+    /// The file of this name is the state of a disk, in an older format.
     OlderState,
-    /// The file of this name is a state of its disk that was replaced by a newer one since, with which the host's records go.
+    /// The file of this name is an old state of its disk. A newer one has replaced it, and the host's records belong to that
+    /// one.
     ReplacedState,
     /// The key in the settings of this name isn't the one that the disk was formatted with.
     WrongKey,
@@ -57,6 +58,8 @@ pub enum FaultKind {
     Host(HostFault),
     /// The state can't be kept in the file of this name.
     StateNotKept,
+    /// The state of a new disk can't be kept in the file of this name. Its host has the disk's buckets already.
+    StateNotMade,
     /// The disk whose state is in the file of this name has made all its accesses.
     UsedUp,
     /// Another process uses the disk whose state is in the file of this name.
@@ -107,7 +110,7 @@ fn host_rest(why: HostFault) -> &'static str
             " keeps no disk, and nothing was sent to it: see that the settings name the right host, and that it was started with its own file\n",
         HostFault::Taken => " keeps a disk already: name a new file at the host\n",
         HostFault::OutOfReach =>
-            ": see that it runs and that the way to it is open, and start again\n",
+            ": see that it runs there, and no other program, and that the way to it is open, and start again\n",
         HostFault::Refused => " doesn't take this disk: name a new file at the host\n",
     }
 }
@@ -132,7 +135,8 @@ impl FaultKind {
             | FaultKind::Host(HostFault::Taken)
             | FaultKind::Host(HostFault::Refused) => "oramdisk: the host at ",
             FaultKind::Host(HostFault::OutOfReach) => "oramdisk: can't reach the host at ",
-            FaultKind::StateNotKept => "oramdisk: can't keep the state in ",
+            FaultKind::StateNotKept | FaultKind::StateNotMade =>
+                "oramdisk: can't keep the state in ",
             FaultKind::UsedUp | FaultKind::InUse | FaultKind::Failed | FaultKind::NotFailed =>
                 "oramdisk: the disk of ",
             _ => "oramdisk: ",
@@ -155,11 +159,11 @@ impl FaultKind {
             FaultKind::NewerFile =>
                 " is a file of buckets of a newer version, and is left as it is: serve it with that version\n",
             FaultKind::WithoutLog =>
-                ", the file beside it with -log behind its name, isn't there: put back the one that it was served with last\n",
+                ", the file beside it with -log after its name, isn't there: put back the one that it was served with last\n",
             FaultKind::LogOfAnotherFile =>
-                ", the file beside it with -log behind its name, is another file's: put back the one that it was served with last\n",
+                ", the file beside it with -log after its name, is another file's: put back the one that it was served with last\n",
             FaultKind::LogWithoutFile =>
-                ", but its log, the file beside it with -log behind its name, holds records of it: put the file back, or take the log away\n",
+                ", but its log, the file beside it with -log after its name, holds records of it: put the file back, or take the log away\n",
             FaultKind::Damaged =>
                 " is damaged, and is left as it is: name another file, and format anew\n",
             FaultKind::Busy => " is held by another process: end that one first\n",
@@ -175,7 +179,7 @@ impl FaultKind {
             FaultKind::OlderState =>
                 " is the state of a disk of an older version, and is left as it is: serve it with that version, and copy what is in it to a new disk\n",
             FaultKind::ReplacedState =>
-                " is an older state of its disk, and nothing was stored by it: put the newest one back\n",
+                " is an older state of its disk, and nothing was stored by it: put the newest one back; if a loss of power with sync = false took that one, the disk is lost\n",
             FaultKind::WrongKey =>
                 " isn't this disk's: put the one back that it was formatted with\n",
             FaultKind::Changed(_) =>
@@ -183,6 +187,8 @@ impl FaultKind {
             FaultKind::Host(why) => host_rest(why),
             FaultKind::StateNotKept =>
                 ": see that its folder may be written and has room, and start again\n",
+            FaultKind::StateNotMade =>
+                ": see that its folder may be written and has room, name a new file at the host, and format again\n",
             FaultKind::UsedUp =>
                 " has made all its accesses, and can't be read any more: restore a backup of it to a new one\n",
             FaultKind::InUse => " is in use by another process: end that one first\n",
@@ -208,7 +214,7 @@ impl FaultKind {
             FaultKind::NotADisk | FaultKind::OlderState => 10,
             FaultKind::Host(HostFault::OutOfReach) => 11,
             FaultKind::Host(HostFault::Taken) | FaultKind::Host(HostFault::Refused) => 12,
-            FaultKind::StateNotKept => 13,
+            FaultKind::StateNotKept | FaultKind::StateNotMade => 13,
             FaultKind::UsedUp => 14,
             FaultKind::InUse => 16,
             FaultKind::Failed => 17,

@@ -2,9 +2,9 @@
 //! program, those of the client's side included.
 //!
 //! [`host`] serves a file of buckets; [`read_host_settings`] reads its settings. [`TalliedStore`] is a store that is served,
-//! with the [`Tally`] of a connection, and [`line`] is the line that is printed for a [`ConnectionReport`]. A [`Fault`] says why
-//! the program ends: mostly by a [`FaultKind`] and the name of what it is about. [`report_fault`] writes its line, and returns
-//! its exit status.
+//! with the [`Tally`] of a connection, and [`line`] is the line that is printed for a [`ConnectionReport`]. A [`Fault`] says
+//! why the program ends: mostly by a [`FaultKind`] and the name of what it is about. [`report_fault`] writes its line, and
+//! returns its exit status.
 #![tactic(auto)]
 
 mod attendant;

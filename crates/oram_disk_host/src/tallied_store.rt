@@ -57,7 +57,7 @@ impl<F: FilePair> TalliedStore<F> {
         self.tally
     }
 
-    /// Makes the records durable that a formatting has put so far. If that fails, the tally says why.
+    /// Makes durable the records that a formatting has put so far. If that fails, the tally says why.
     pub fn commit_puts(&mut self)
         ensures none_pending_or_why { (self.new.store.pending ≡ []) ⊎ IsSome self.new.tally.failure }
         ensures calm { self.old.store.pending ≡ [] → self.new ≡ self.old }

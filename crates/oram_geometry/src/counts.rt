@@ -5,7 +5,7 @@ ghost use Rattle.oram_geometry.specs.Sizes.{IsDevice, blocks_in, trees_of, level
 
 use crate::{MOST_TREES, ShapeFault, Sizes};
 
-/// Returns whether `number` lies between `low` and `high`, both included.
+/// Returns whether `number` is between `low` and `high`, both included.
 fn is_between(low: u64, high: u64, number: u64) -> bool
     ensures { result ≡ is_between low high number }
 {
@@ -31,7 +31,7 @@ pub(crate) fn shape_fault(sizes: &Sizes) -> Option<ShapeFault>
     }
 }
 
-/// Returns the number of blocks of each tree, also of trees that this device doesn't need.
+/// Returns the number of blocks of each tree, including trees that this device doesn't need.
 pub(crate) fn block_counts(sizes: &Sizes) -> [u32; MOST_TREES]
     requires { IsDevice sizes.now }
     ensures { (i : ℕ) → i < 13 → slice_index result i ≡ blocks_in sizes.now i }

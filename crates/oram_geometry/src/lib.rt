@@ -35,7 +35,7 @@ pub struct Sizes {
     pub lifetime: u64,
 }
 
-/// Why five numbers define no device: names the first number that is out of its range.
+/// Why five numbers define no device: the first number that is out of its range.
 #[derive(Clone, Copy, Debug, PartialEq, Eq)]
 pub enum ShapeFault {
     Blocks,
@@ -207,7 +207,7 @@ impl Device {
         self.slots() * (8 + self.block_bytes()) + overhead + 64
     }
 
-    /// Returns the address in `tree` of the block that leads to the device's block `address`, in tree 0 that block
+    /// Returns the address in `tree` of the block that leads to the device's block `address`. In tree 0 it is that block
     /// itself.
     pub fn address_in(&self, tree: u8, address: u32) -> u32
         requires tree { tree < trees_of self.now }

@@ -13,14 +13,14 @@ use Rattle.oram_host.specs.Host.{Kept}
 use Rattle.oram_host.specs.Image.{record_text, tree_text}
 use Rattle.oram_host.specs.Trees.{is_there, kept_by}
 
--- one record more is written
+-- one more record is written
 pub record_more : (written : List ℕ) (e : ℕ × List ℕ) (es : List (ℕ × List ℕ)) (total : List ℕ) → 0 < length e.1 → written ++ flat_map record_text (filter (λ x. is_there x.1) (e ∷ es)) ≡ total
     → (written ++ record_text e) ++ flat_map record_text (filter (λ x. is_there x.1) es) ≡ total
 record_more written e es total long so_far =
     append_assoc written (record_text e) (flat_map record_text (filter (λ x. is_there x.1) es))
     ∙ ap (λ (b : Bool). written ++ flat_map record_text (cond b (e ∷ filter (λ x. is_there x.1) es) (filter (λ x. is_there x.1) es))) (sym (lt-ltb 0 (length e.1) long)) ∙ so_far
 
--- one tree more is written
+-- one more tree is written
 pub tree_more : (written : List ℕ) (e : ℕ × Tree) (es : List (ℕ × Tree)) (total : List ℕ) → written ++ flat_map tree_text (map {B = ℕ × Kept} (λ x. (x.0, kept_by x.1)) (e ∷ es)) ≡ total
     → (written ++ tree_text (e.0, kept_by e.1)) ++ flat_map tree_text (map {B = ℕ × Kept} (λ x. (x.0, kept_by x.1)) es) ≡ total
 tree_more written e es total so_far = append_assoc written (tree_text (e.0, kept_by e.1)) (flat_map tree_text (map {B = ℕ × Kept} (λ x. (x.0, kept_by x.1)) es)) ∙ so_far

@@ -13,7 +13,7 @@ use Rattle.oram_host.specs.Host.{Host, IsHost, IsKept, IsKeptTree, IsRecordOf, K
 use Rattle.oram_host.specs.Trees.{AreNodes, AreTrees, IsRecord, IsTree, host_of, is_there, kept_by}
 use Rattle.oram_host.proofs.RisingEntries.{RisesFrom-filter, RisesFrom-values, insert_entry-last, least_after, least_after-values, rises_before, rises_from_sorted, rises_next}
 
--- ---- one entry more
+-- ---- one more entry
 
 pub all_push : {X : Type 0} (P : X → Type 0) (xs : List X) (x : X) → AllByRecursion P xs → P x → AllByRecursion P (xs ++ x ∷ [])
 all_push P [] x all h = (h, tt)
@@ -99,7 +99,7 @@ are_whole nodes record_len es all = All-from_recursion (IsRecord record_len) (va
 
 -- ---- a copy
 
--- one entry more is copied
+-- one more entry is copied
 pub copied_more : {X : Type 0} (old new : BTreeMap ℕ X) (left rest all : List (ℕ × X)) (number : ℕ) (x copy : X) → left ≡ (number, x) ∷ rest → copy ≡ x → new.entries ≡ insert_entry nat_cmp old.entries number copy → RisesFrom 0 all
     → old.entries ++ left ≡ all → new.entries ++ rest ≡ all
 copied_more {X} old new left rest all number x copy split same inserted rises so_far =
@@ -113,7 +113,7 @@ copied_more {X} old new left rest all number x copy split same inserted rises so
 abbrev pub kept_trees : List (ℕ × Tree) → Host
 kept_trees trees = map {B = ℕ × Kept} (λ e. (e.0, kept_by e.1)) trees
 
--- one tree more is copied
+-- one more tree is copied
 pub host_copied_more : (old new : BTreeMap ℕ Tree) (left rest : List (ℕ × Tree)) (all : Host) (number : ℕ) (tree copy : Tree) → left ≡ (number, tree) ∷ rest → kept_by copy ≡ kept_by tree → new.entries ≡ insert_entry nat_cmp old.entries number copy
     → AreTrees old → RisesFrom 0 all → host_of old ++ kept_trees left ≡ all → host_of new ++ kept_trees rest ≡ all
 host_copied_more old new left rest all number tree copy split same inserted trees rises so_far =

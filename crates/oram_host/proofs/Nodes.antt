@@ -1,5 +1,5 @@
--- The nodes of a path. A host knows the depth of a tree and no device, and uses none of the client's crates: so it has `node_on`, and what
--- it needs to know of it, of its own.
+-- The nodes of a path. A host knows the depth of a tree and no device, and uses none of the client's crates: so it has its own
+-- `node_on`, and its own proofs about it.
 use Rattle.std.proofs.Common.{◌≡◌, ℕ, ◌+◌, ◌-◌, ◌*◌, ◌/◌, ◌^◌, ◌<◌, ◌≤◌, ◌⊎◌, inl, inr, refl, sym, arith, zero, suc, ap, subst, ◌∙◌}
 use Rattle.std.proofs.lemmas.Bool.{cases_order}
 use Rattle.std.proofs.lemmas.Nat.{pow_pos, pow-add, shr-shr, shr_below}

@@ -35,7 +35,7 @@ record_at-last len bytes record_bytes level whole long =
     let step = step_is level len in
     ap (take ((level + 1) * len - level * len)) (drop_at bytes record_bytes (level * len) whole) ∙ take_all ((level + 1) * len - level * len) record_bytes (omega arith)
 
--- one record more of a path
+-- one more record of a path
 pub path_more : (kept : Kept) (depth leaf len level : ℕ) (bytes record_bytes : List ℕ) → length bytes ≡ level * len → length record_bytes ≡ len → record_of kept (node_on depth leaf level) ≡ Some record_bytes
     → ((k : ℕ) → k < level → record_of kept (node_on depth leaf k) ≡ Some (record_at len bytes k))
     → (k : ℕ) → k < level + 1 → record_of kept (node_on depth leaf k) ≡ Some (record_at len (bytes ++ record_bytes) k)

@@ -8,7 +8,7 @@ use Rattle.oram_wire.specs.FrameStream.{IsBody, frame}
 abbrev pub frames_of : {X : Type 0} → (X → List ℕ) → List X → List ℕ
 frames_of body xs = flat_map (λ x. frame (body x)) xs
 
--- What answers frames, and the bytes of its reader and of its writer, where they are known.
+-- The state of what answers frames, and the bytes of its reader and of its writer, if they are known.
 pub record Answering (P : Type 0) : Type 0 where
   pub state : P
   pub unread : Option (List ℕ)  -- what the reader will give
@@ -18,8 +18,8 @@ pub record Answering (P : Type 0) : Type 0 where
 pub record AnsweredRun (P X : Type 0) : Type 0 where
   pub before : Answering P
   pub things : List X
-  pub part : List ℕ  -- what was read behind the frames of their requests
-  pub more : List ℕ  -- what was written behind the frames of their answers
+  pub part : List ℕ  -- what was read after the frames of their requests
+  pub more : List ℕ  -- what was written after the frames of their answers
   pub after : Answering P
 
 -- for things that lead from one state to another, each with a body that is read and one that is written

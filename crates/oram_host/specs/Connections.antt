@@ -35,7 +35,7 @@ module _ {H : Type 0} (serves : H → List ℕ → HostAnswer → H → Type 0) 
 
   -- How a connection that began at `p` ends at `q`: the server has answered some requests.
   abbrev pub EndsConnection : Answering H → Answering H → Result ℕ ServeFault → Type 0
-  -- The input ended behind their frames.
+  -- The input ended after their frames.
   EndsConnection p q (Ok count) = (xs : List Exchange) × (length xs ≡ count)
       × HasHosted (record { before = p; things = xs; part = []; more = []; after = q }) × IsAtEnd q.unread
   -- A frame began with a length that no frame has, or the input ended inside a frame, or the reader failed.

@@ -1,4 +1,4 @@
--- Which requests a host refuses, and why: of several reasons the one that is checked first.
+-- Which requests a host refuses, and why: if there are several reasons, the one that is checked first.
 use Rattle.std.specs.Prelude.{◌≡◌, ◌≢◌, ℕ, ◌+◌, ◌-◌, ◌*◌, ◌^◌, ◌<◌, ◌≤◌, List, length, Option, None, IsSome, MatchOption}
 use Rattle.oram_wire.specs.declared.host_messages.HostRequest.{HostRequest}
 use Rattle.oram_wire.specs.declared.host_messages.HostRequest.TheVariants as request

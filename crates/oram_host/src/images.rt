@@ -35,7 +35,7 @@ const MAGIC: [u8; 8] = *b"ORAMHOST";
 
 const VERSION: u32 = 1;
 
-/// A text of bytes is read as a host if and only if it is the image of that host.
+/// A list of bytes is read as a host if and only if it is the image of that host.
 pub fn images_are_exact()
     ensures { (text : List ℕ) (host : Host) → All (λ b. b < 256) text
         → (host_in text ≡ Ok host) ↔ (IsHost host × (text ≡ image host)) }

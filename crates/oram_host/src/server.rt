@@ -36,7 +36,7 @@ pub struct Server {
 
 /// The outcome of a request that was carried out.
 enum Served {
-    /// The bytes that stand in front, and then the records that the request asks for.
+    /// The bytes that come first, and then the records that the request asks for.
     Records(Vec<u8>),
     Done,
 }
@@ -203,8 +203,8 @@ impl Server {
         }
     }
 
-    /// Returns the bytes of the answer that `handle` would give to the body of a request. The records stand in one
-    /// vector with the byte before them, so they are copied once.
+    /// Returns the bytes of the answer that `handle` would give to the body of a request. The records are in one vector
+    /// with the byte before them, so they are copied only once.
     ///
     /// It allocates a short answer before it serves the request; if that fails, it serves nothing.
     pub fn answer(&mut self, alloc: Global, body: &[u8]) -> Result<Vec<u8>, AllocError>
@@ -288,7 +288,7 @@ impl Server {
         Ok(Server { alloc, trees })
     }
 
-    /// Writes the image of what the server keeps. Allocates nothing. It repeats an interrupted write; a writer that
+    /// Writes the image of what the server keeps. Allocates nothing. It retries an interrupted write; a writer that
     /// takes no byte has failed.
     pub fn save_image<W: Write>(&self, writer: &mut W) -> Result<(), ImageFault>
         ensures ok { OnOk result (Appends (W.contents writer.old) (W.contents writer.new)

@@ -37,7 +37,7 @@ use Rattle.oram_host_laws.proofs.Handed.{fetch_leaves}
 use Rattle.oram_host_laws.proofs.Honest.{IsBusy, busy_by, served_on}
 use Rattle.oram_host_laws.proofs.Receipt.{Met, met, met_hosts}
 
--- two tests that both pass, each by itself
+-- if two tests pass together, each of them passes
 
 both : (a b : Bool) → (a && b) ≡ true → (a ≡ true) × (b ≡ true)
 both true b h = (refl, h)

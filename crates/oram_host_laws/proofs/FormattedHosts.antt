@@ -58,7 +58,7 @@ pub record HasShape (v : Scheme) (i : ℕ) (host : Host) : Type 0 where
   pub depth : kept.depth ≡ depth_of v.device i
   pub record_len : kept.record_len ≡ record_len v
 
--- it has the shapes of the trees before tree n, and of no others
+-- the host has the shapes of the trees before tree n, and of no others
 pub record HasShapes (v : Scheme) (n : ℕ) (host : Host) : Type 0 where
   pub shaped : (i : ℕ) → i < n → HasShape v i host
   pub free : (i : ℕ) → n ≤ i → tree_at host i ≡ None

@@ -34,7 +34,7 @@ pub record IsNewer (bytes : List ℕ) : Type 0 where
   pub fits : version < 2 ^ 64
   pub begins : take LETTERS_LEN bytes ≡ bucket_name ++ eight_bytes version
 
--- where the file is one of ours, this holds of its identity
+-- if the file is one of ours, this holds of its identity
 abbrev pub IfOurs : Front → (Identity → Type 0) → Type 0
 IfOurs (Ours identity) P = P identity
 IfOurs NewerVersion P = Unit {0}

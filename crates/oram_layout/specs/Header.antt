@@ -20,7 +20,7 @@ unfoldable pub eight_bytes : ℕ → List ℕ
 eight_bytes n = to_le_bytes w64 n
 
 -- A tree's entry: 1, the depth, two bytes of 0, the length of a record in 4 bytes, and the place of its first cell in 8.
--- 16 bytes of 0 where there is no tree.
+-- It is 16 bytes of 0 if there is no tree.
 abbrev pub entry_bytes : Option Tree → List ℕ
 entry_bytes None = 0 ∷ 0 ∷ 0 ∷ 0 ∷ 0 ∷ 0 ∷ 0 ∷ 0 ∷ 0 ∷ 0 ∷ 0 ∷ 0 ∷ 0 ∷ 0 ∷ 0 ∷ 0 ∷ []
 entry_bytes (Some tree) = 1 ∷ tree.shape.depth ∷ 0 ∷ 0 ∷ (four_bytes tree.shape.record_len ++ eight_bytes tree.base)

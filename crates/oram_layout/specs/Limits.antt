@@ -1,4 +1,4 @@
--- The shape of a tree, and the length of its cells. Which shapes a tree may have, `is_shape` says in oram_host.
+-- The shape of a tree, and the length of its cells. `is_shape` in oram_host says which shapes a tree may have.
 use Rattle.std.specs.Prelude.{ℕ, ◌+◌, ◌*◌, ◌-◌, ◌^◌, ◌/◌}
 
 pub record TreeShape : Type 0 where

@@ -9,7 +9,7 @@ use Rattle.oram_layout.specs.declared.trees.Tree.{Tree}
 abbrev pub sizes_of : Shape → TreeShape
 sizes_of shape = record { depth = shape.depth; record_len = shape.record_len }
 
--- the trees by number, from tree 0 on; None where a number has no tree
+-- the trees by number, from tree 0 on; `None` if a number has no tree
 abbrev pub Trees : Type 0
 Trees = List (Option Tree)
 

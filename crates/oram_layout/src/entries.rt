@@ -16,7 +16,7 @@ pub const TREES: usize = 256;
 /// Where the header's entries begin.
 pub(crate) const ENTRIES_AT: u64 = 4096;
 
-/// Returns the place of a tree's entry in the header.
+/// Returns the offset of a tree's entry in the header.
 pub fn entry_place(number: u8) -> u64
     ensures { result ≡ entry_at number }
 {
@@ -38,7 +38,7 @@ pub fn read_trees(alloc: Global, bytes: &[u8]) -> Result<Vec<Option<Tree>>, Layo
     Ok(trees)
 }
 
-/// Returns the place where the cells of the next tree will begin.
+/// Returns the offset at which the cells of the next tree will begin.
 pub fn next_base(trees: &[Option<Tree>]) -> u64
     ensures place { result ≡ next_of trees.now }
     ensures within { result ≤ 2 ^ 62 }
@@ -104,7 +104,7 @@ fn are_apart(trees: &[Option<Tree>]) -> bool
     true
 }
 
-// Returns whether the tree's cells are after the header, begin at an even place, and share no byte with `others`.
+// Returns whether the tree's cells are after the header, begin at an even offset, and share no byte with `others`.
 fn is_placed(tree: &Tree, others: &[Option<Tree>]) -> bool
     ensures { IsTrue result ↔ IsPlaced tree.now others.now }
 {

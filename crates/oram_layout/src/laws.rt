@@ -26,7 +26,7 @@ pub fn the_path_is_put()
     ensures { PathIsPut }
 {}
 
-/// Patches off the records change no record, whatever a crash leaves of them.
+/// Patches that write outside of the records change no record, whatever a crash leaves of them.
 pub fn loose_patches()
     ensures kept { LooseKeepsRecords }
     ensures off { UnmarkedIsOff }

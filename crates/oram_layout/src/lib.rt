@@ -1,7 +1,7 @@
 //! The layout of a bucket file: a header that lists the trees, and a cell for the record of each node.
 //!
 //! A tree has a known number of records of one length, so each record has its place, as in a disk image: a sparse file
-//! grows with what is stored, and to find a record nothing has to be read. The first byte of a cell, its mark, is 1 if
+//! grows with what is stored, and nothing has to be read to find a record. The first byte of a cell, its mark, is 1 if
 //! the cell has a record. The mark is a byte of its own, so that a torn write never touches another cell.
 //! `specs/Header.antt` and `specs/Limits.antt` define the layout to the byte.
 //!

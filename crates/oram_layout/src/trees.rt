@@ -3,10 +3,10 @@ ghost use Rattle.std.specs.Prelude.{◌≡◌, ◌<◌, ◌≤◌, ◌+◌, ◌-
 
 use crate::shapes::Shape;
 
-/// The place by which the cells of all trees must end. Operating systems allow no longer files.
+/// The offset in the file by which the cells of all trees must end. Operating systems allow no longer files.
 pub const CELLS_END: u64 = 1 << 62;
 
-/// The place where the first tree's cells begin.
+/// The offset at which the first tree's cells begin.
 pub const CELLS_AT: u64 = 8192;
 
 /// The length of an entry of the header, in bytes.
@@ -16,7 +16,7 @@ pub const ENTRY_LEN: usize = 16;
 #[derive(Clone, Copy, Debug, PartialEq, Eq)]
 pub struct Tree {
     pub shape: Shape,
-    /// The place of the tree's first cell.
+    /// The offset of the tree's first cell.
     pub base: u64,
     ghost within: { base + (2 ^ (shape.depth + 1) - 1) * (2 * ((shape.record_len + 2) / 2)) ≤ 2 ^ 62 },
 }
@@ -37,7 +37,7 @@ impl Tree {
         Some(Tree { shape, base })
     }
 
-    /// Returns the place of a node's cell.
+    /// Returns the offset of a node's cell.
     pub fn cell_at(&self, node: u32) -> u64
         requires { node < nodes_of (sizes_of self.now.shape) }
         ensures place { result ≡ cell_at self.now node }
@@ -46,7 +46,7 @@ impl Tree {
         self.base + u64::from(node) * cell_len_of(self.shape.record_len)
     }
 
-    /// Returns the place where the tree's cells end.
+    /// Returns the offset at which the tree's cells end.
     pub fn end(&self) -> u64
         ensures place { result ≡ end_of self.now }
         ensures within { result ≤ CELLS_END }

@@ -101,7 +101,7 @@ pub resent_stores_leave_one_host : ResentStoresLeaveOneHost
 resent_stores_leave_one_host host once part again begun rest are is_once is_again to_once to_part to_again =
     same_host once again is_once is_again (resent_stores_leave_the_same host once part again begun rest are to_once to_part to_again)
 
--- the answer with the one byte 80 (in hexadecimal) says that the message was carried out
+-- the answer with the one byte 0x80 says that the message was carried out
 done_by : (answer : HostAnswer) → IsAnswer answer → 128 ∷ [] ≡ answer_body answer → answer ≡ Done
 done_by Done is e = refl
 done_by (Payload bytes) is e =

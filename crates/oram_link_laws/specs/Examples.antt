@@ -39,7 +39,7 @@ store_right = store_body 0 1 (30 ∷ 31 ∷ [])
 abbrev pub both_stores : List (List ℕ)
 both_stores = store_left ∷ store_right ∷ []
 
--- The host carried out both STOREs once; or the first one, and then both. It answered each of them that it carried it out.
+-- The host carried out both STOREs once; or the first one, and then both. It answered each of them with done.
 abbrev pub ResendingExample : Type 0
 ResendingExample = AreStores both_stores × IsHost (small_host 30 21 31)
     × TakesEach (small_host 10 11 12) both_stores (small_host 30 21 31)
@@ -61,7 +61,7 @@ MendingExample = AreStores both_stores × AreAmong (bodies_of heard_twice) both_
     × ((may_lie : Bool) (v : Scheme) → HeardRun may_lie v (small_host 10 11 12) heard_twice (small_host 20 21 12))
     × TakesEach (small_host 20 21 12) both_stores (small_host 30 21 31)
 
--- The path of leaf 0 was fetched, and then the host carried out the STORE to leaf 1. The two paths share the root alone.
+-- The path of leaf 0 was fetched, and then the host carried out the STORE to leaf 1. The two paths share only the root.
 abbrev pub OverlayExample : Type 0
 OverlayExample = (are : AreStores (store_right ∷ [])) × (fetched : IsFetched (small_host 10 11 12) 0 0 (10 ∷ 11 ∷ []))
     × TakesEach (small_host 10 11 12) (store_right ∷ []) (small_host 30 11 31)

@@ -28,7 +28,7 @@ abbrev pub ResentStoresMend : Type 0
 ResentStoresMend = (host once part again : Host) (bodies heard : List (List ℕ)) → AreStores bodies → AreAmong heard bodies
     → TakesEach host bodies once → HearsEach host heard part → TakesEach part bodies again → IsSameHost once again
 
--- The same where the host received them in exchanges of a link. The host beside these exchanges is honest, or receives
+-- The same, if the host received them in exchanges of a link. The host beside these exchanges is honest, or receives
 -- each message and may lie.
 abbrev pub ResentStoresMendRuns : Type 0
 ResentStoresMendRuns = (may_lie : Bool) (v : Scheme) (host once part again : Host) (bodies : List (List ℕ)) (exchanges : List Exchange) → AreStores bodies

@@ -55,7 +55,7 @@ abbrev pub ResentStoresGoThrough : Type 0
 ResentStoresGoThrough = (host once part : Host) (begun rest : List (List ℕ)) → AreStores (begun ++ rest)
     → TakesEach host (begun ++ rest) once → TakesEach host begun part → (again : Host) × TakesEach part (begun ++ rest) again
 
--- The first law, where the host stands beside exchanges in which each STORE was acknowledged.
+-- The first law, for a host that goes through exchanges in which each STORE was acknowledged.
 abbrev pub ResentExchangesLeaveTheSame : Type 0
 ResentExchangesLeaveTheSame = (host once part again : Host) (begun rest : List (List ℕ)) → AreStores (begun ++ rest)
     → HostRun host (acknowledged (begun ++ rest)) once → HostRun host (acknowledged begun) part → HostRun part (acknowledged (begun ++ rest)) again

@@ -1,5 +1,5 @@
--- A host that stands beside the exchanges of a link, and isn't a function of the link's value. A link over sockets may
--- give any answer, so no function of its value is the host at its other end.
+-- A host beside a link: it goes through the exchanges of the link, and isn't a function of the link's value. A link over
+-- sockets may give any answer, so no function of its value is the host at its other end.
 use Rattle.std.specs.Prelude.{ℕ, ◌≤◌, Bool, List, [], map, replicate, Ok}
 use Rattle.std.specs.List.{FoldsTo, flat_map}
 use Rattle.oram_geometry.specs.Sizes.{IsDevice}
@@ -30,7 +30,7 @@ HeardRun may_lie v host exchanges after = FoldsTo {P = Host} {A = Exchange} (λ 
 abbrev pub bodies_of : List Exchange → List (List ℕ)
 bodies_of exchanges = map {A = Exchange} (λ e. e.0) exchanges
 
--- the exchanges in which each of these bodies was answered with the one byte 80 (in hexadecimal)
+-- the exchanges in which each of these bodies was answered with the one byte 0x80
 abbrev pub acknowledged : List (List ℕ) → List Exchange
 acknowledged bodies = map {B = Exchange} (λ body. (body, Ok done_answer)) bodies
 
@@ -38,7 +38,7 @@ acknowledged bodies = map {B = Exchange} (λ body. (body, Ok done_answer)) bodie
 abbrev pub exchanges_of : Delivery → List Exchange
 exchanges_of x = map {B = Exchange} (λ o. (x.message, o)) (outcomes_of x)
 
--- the exchanges of all calls in a session, also of those that stalled
+-- the exchanges of all calls in a session, including those that stalled
 abbrev pub exchanges_in : List Turn → List Exchange
 exchanges_in turns = flat_map (λ t. flat_map exchanges_of t.sendings) turns
 
@@ -90,7 +90,8 @@ pub record TurnsBeside (L : Type 0) : Type 0 where
   pub left : Host  -- the host after the turns
 
 -- A session beside a host that receives each message and may lie is a session over one link, the pair of the link and that
--- host. The host is a function of the pair's value, so every law about links to such a host holds of the host beside.
+-- host. The host is a function of the pair's value, so every law about links to such a host holds of the host
+-- beside the link.
 pub record IsSessionBeside (may_lie : Bool) (v : Scheme) {L : Type 0} (calls : L → List ℕ → Outcome → L → Type 0) (words : ℕ → ℕ → List ℕ) (session : ℕ)
     (t : TurnsBeside L) : Type 0 where
   pub heard : IsHeardLink may_lie v {L = L × Host} (Beside calls (IsHeardCall may_lie v)) (λ l. l.1)

@@ -24,8 +24,8 @@ Supplies host (body ∷ bodies) bytes =
 
 -- over a reader and a writer; these functions give the bytes still to be read and those written, if they are known
 module _ {R W : Type 0} (remaining : R → Option (List ℕ)) (contents : W → Option (List ℕ)) where
-  -- If the reader's bytes are known to be a server's answers to the messages, then, whatever outcomes the link's calls had,
-  -- also faults, that server is honest in these exchanges.
+  -- If the reader's bytes are known to be a server's answers to the messages, then that server is honest in the exchanges of
+  -- the link's calls, whatever outcomes these had, even faults.
   abbrev pub StreamsAreRun : Type 0
   StreamsAreRun = (l m : ToStreams R W) (exchanges : List Exchange) (host : Host) (bytes : List ℕ) → remaining l.reader ≡ Some bytes
       → Supplies host (bodies_of exchanges) bytes → LinkRun (StreamCall remaining contents) l exchanges m

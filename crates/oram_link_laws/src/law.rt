@@ -16,8 +16,8 @@ pub fn resent_stores_leave_the_same()
     ensures { ResentStoresLeaveTheSame }
 {}
 
-/// A law about definitions: as in [`resent_stores_leave_the_same`], and the two hosts are equal if the entries of both
-/// are by rising number, as a server keeps them. Use it to compare hosts as values.
+/// A law about definitions: as in [`resent_stores_leave_the_same`], and the two hosts are equal if the entries of both are
+/// sorted by number, as a server keeps them. Use it to compare hosts as values.
 pub fn resent_stores_leave_one_host()
     ensures { ResentStoresLeaveOneHost }
 {}
@@ -29,8 +29,8 @@ pub fn resent_stores_are_taken()
     ensures { ResentStoresAreTaken }
 {}
 
-/// A law about definitions: a host that carried out a beginning of a list of STOREs can carry out the whole list, if a
-/// host could do so before. Use it where the host after the list has to exist, so that another law isn't empty.
+/// A law about definitions: a host that carried out a beginning of a list of STOREs can carry out the whole list, if a host
+/// could do so before. Use it where the host after the list has to exist, so that another law isn't vacuous.
 pub fn resent_stores_go_through()
     ensures { ResentStoresGoThrough }
 {}
@@ -89,9 +89,9 @@ pub fn beside_gives_inside<L: Link>()
     ensures { BesideGivesInside L.calls }
 {}
 
-/// A law about definitions: a session beside a host that receives each message and may lie is a session over the pair of
-/// the link and that host, and the host is a function of this pair. Use it to apply a law about links to such a host,
-/// which asks for that function, to a host beside the link.
+/// A law about definitions: a session beside a host that receives each message and may lie is a session over the pair of the
+/// link and that host, and the host is a function of this pair. Use it to apply a law about links that asks for such a function
+/// to a host beside the link.
 pub fn sessions_beside_heard_hosts<L: Link>()
     ensures { SessionsBesideHeardHosts L.calls }
 {}

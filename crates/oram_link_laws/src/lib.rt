@@ -1,10 +1,10 @@
-//! Laws about a host that stands beside the exchanges of a link, and about STOREs that are sent again.
+//! Laws about a host that takes part in the exchanges of a link, and about STOREs that are sent again.
 //!
-//! The laws of `oram_session` ask for a function that gives the host behind a link's value. A link over sockets has no
-//! such function, since its calls may give any answer. Here the host stands beside the link: a session has a list of
-//! exchanges, each a message and the outcome of the call with it, and the host is honest in these exchanges, or may lie
-//! in them ([`new_devices_hold_zeros_beside`], [`sessions_are_the_arrays_beside`], [`sessions_beside_heard_hosts`]). A
-//! link over a reader whose bytes are known is an instance ([`streams_are_run`]).
+//! The laws of `oram_session` ask for a function that gives the host behind a link's value. A link over sockets has no such
+//! function, since its calls may give any answer. Here the host is a value of its own beside the link: a session has a list of
+//! exchanges, each a message and the outcome of the call with it, and the host is honest in these exchanges, or may lie in them
+//! ([`new_devices_hold_zeros_beside`], [`sessions_are_the_arrays_beside`], [`sessions_beside_heard_hosts`]). A link over a
+//! reader whose bytes are known is an instance ([`streams_are_run`]).
 //!
 //! After a crash a client may send a list of STOREs again, whichever of them the host received before. The host then has
 //! the records that it has if each STORE arrives once ([`resent_stores_mend`]). A client may also send a FETCH ahead of

@@ -5,7 +5,7 @@ use Rattle.std.proofs.lemmas.List.{append-nil}
 use Rattle.std.specs.List.{FoldsTo, flat_map}
 use Rattle.oram_nbd.specs.Beside.{GoesOn, HadWithin}
 
--- Two lists of steps, one after the other. The same stands in oram_link_laws, which a connection has nothing to do with.
+-- Two lists of steps, one after the other. oram_link_laws has the same lemmas, but a connection uses none of that crate.
 module _ {P A : Type 0} (R : P → A → P → Type 0) where
   pub folds_join : (xs ys : List A) (p q r : P) → FoldsTo R p xs q → FoldsTo R q ys r → FoldsTo R p (xs ++ ys) r
   folds_join [] ys p q r same more = subst (λ (k : P). FoldsTo R k ys r) (sym same) more

@@ -113,7 +113,7 @@ after_at bytes p q e rest m few same =
 pub rest_of : (n : ℕ) (all : List ℕ) → take (length all - n) (drop n all) ≡ drop n all
 rest_of n all = take_all (length all - n) (drop n all) (let long : length (drop n all) ≡ length all - n = length-drop n all in omega (arith, long))
 
--- where a range ends with its blocks, nothing lies behind it
+-- where a range ends with its blocks, nothing lies after it
 pub after_none : (bytes : List ℕ) (p e n : ℕ) → n ≡ e → [] ≡ drop e (bytes_at bytes p n)
 after_none bytes p e n same = sym (ap (λ (k : ℕ). drop e (take k (drop p bytes))) (same ∙ sym (add-zero e)) ∙ drop-take e 0 (drop p bytes))
 

@@ -413,7 +413,7 @@ module _ {D W E : Type 0} {kind : DeviceKind D W E} (block size : ℕ) (old new 
         ));
   }
 
--- a device that isn't called, where all requests are refused for want of memory
+-- a device that isn't called, where all requests are refused for lack of memory
 pub refused_at_rest : {D W E : Type 0} {kind : DeviceKind D W E} (size : ℕ) (d : D) (arrived : List WholeRequest)
     → ((may_lie : Bool) (world : W) (bytes : List ℕ) → kind.holds may_lie d world bytes → length bytes ≡ size) → All IsWholeRequest arrived
     → HasRepliedToAll kind size d d arrived (refused_requests size arrived NoMemory)
@@ -428,7 +428,7 @@ refused_at_rest {kind = kind} size d arrived sized are = record {
   reported = λ says. absurd (let none : NoMemory ≡ Io = refused_tell size arrived NoMemory says in cc);
 }
 
--- the same of a device whose size is written in another way
+-- the same, with the size of the device written in another way
 pub at_size : {D W E : Type 0} {kind : DeviceKind D W E} {n m : ℕ} {old new : D} {arrived : List WholeRequest} {answered : List AnsweredRequest} → n ≡ m → HasRepliedToAll kind n old new arrived answered
     → HasRepliedToAll kind m old new arrived answered
 at_size {kind = kind} {old = old} {new = new} {arrived = arrived} {answered = answered} same h = subst (λ (k : ℕ). HasRepliedToAll kind k old new arrived answered) same h
@@ -451,7 +451,7 @@ behind_cut fault.TooManyOptions part new h = absurd h
 behind_cut fault.OutOfMemory part new h = absurd h
 behind_cut fault.Stopped part new h = absurd h
 
--- what is left behind a batch
+-- what is left after a batch
 pub behind_ends : (close : Close) (part : List ℕ) (new : Option (List ℕ)) → EndsBy close part new → IsBehind part
 behind_ends Waits part new none = inl none
 behind_ends (NoRoom r) part new h = inr (inl (h.0, h.1, h.3))

@@ -29,12 +29,12 @@ part_none (Read at count) bytes = refl
 part_none (Write at payload) bytes = begun_none bytes at payload
 part_none (Zero at count) bytes = begun_none bytes at _
 
--- nor of several ones
+-- nor of several operations
 pub begun_nothing : (ops : List Operation) (bytes : List ℕ) → AreBegun ops bytes bytes
 begun_nothing [] bytes = refl
 begun_nothing (x ∷ xs) bytes = inl (part_none x bytes)
 
--- the first ones were begun, and so were all
+-- if the first of these operations were begun, all of them count as begun
 pub begun_first : (xs ys : List Operation) (bytes later : List ℕ) → AreBegun xs bytes later → AreBegun (xs ++ ys) bytes later
 begun_first [] ys bytes later same = subst (AreBegun ys bytes) (sym same) (begun_nothing ys bytes)
 begun_first (x ∷ xs) ys bytes later (inl part) = inl part
@@ -104,7 +104,7 @@ whole_place b block at first same some is =
     ap (λ (n : ℕ). at / n) same ∙ ap (λ (n : ℕ). n / b) (is ∙ mul_comm b first ∙ sym (add-zero (first * b))) ∙ div-mul-add first b 0 (subst (λ (n : ℕ). 0 < n) same some) in
     ap (λ (n : ℕ). b * n) number ∙ sym is
 
--- an operation that was done was done as far as its last byte
+-- an operation that was done was done up to its last byte
 pub part_whole : (op : Operation) (bytes : List ℕ) → IsPartOf op bytes (done_by op bytes)
 part_whole (Read at count) bytes = refl
 part_whole (Write at payload) bytes = begun_whole bytes at payload
@@ -184,7 +184,7 @@ front_outcome (Err e) items ops n old new few h k =
     let all = λ (later : List ℕ) (begun : AreBegun (take n ops) old.held later). subst (λ (l : List Operation). AreBegun l old.held later) (take-append-drop n ops) (begun_first (take n ops) (drop n ops) old.held later begun) in
     (all new.held h, part_weaker k all)
 
--- The first `k` operations have their results, which are `given`. These lemmas are about the operations behind them.
+-- The first `k` operations have their results, which are `given`. These lemmas are about the operations after them.
 module _ (ops : List Operation) (given more : List (List ℕ)) (k : ℕ) (here : k ≡ length given) (most : length more ≤ length (take (length ops - k) (drop k ops))) where
   behind : take (length ops - k) (drop k ops) ≡ drop k ops
   behind = take_all (length ops - k) (drop k ops) (let long : length (drop k ops) ≡ length ops - k = length-drop k ops in omega (arith, long))
@@ -215,7 +215,7 @@ carried_slice ops old given now so_far k here more next most gave led =
     subst (λ (n : ℕ). Carried ops old n (given ++ more) next) (sym (length-append given more))
     (carried_more ops old (length given) given now so_far (length more) more next (gave ∙ ap (λ (l : List Operation). all_given l now) same) (led ∙ ap (λ (l : List Operation). all_done l now) same))
 
--- one of some operations touches a byte, or one of the others
+-- if an operation of two lists touches a byte, one of the first list does, or one of the second
 pub touch_split : (xs ys : List Operation) → TouchSomeByte (xs ++ ys) → TouchSomeByte xs ⊎ TouchSomeByte ys
 touch_split [] ys touched = inr touched
 touch_split (x ∷ xs) ys (inl here) = inl (inl here)

@@ -18,7 +18,7 @@ pub skip_more : (old mid new : Option (List ℕ)) (n m k : ℕ) (bytes : List �
 skip_more old mid new n m k bytes (front, long, came) more count all =
     (front ++ bytes, length-append front bytes ∙ ap (λ (x : ℕ). x + length bytes) long ∙ ap (λ (x : ℕ). n + x) count ∙ all, Consumes-trans old mid new front bytes came more)
 
--- a skip passed over some bytes, and then only a part of the rest came
+-- some bytes were skipped, and then only a part of the rest came
 pub skip_short : (old mid new : Option (List ℕ)) (n k : ℕ) (part : List ℕ) → IsSkip old mid n → Consumes mid new part → n + length part < k → ComesShort 0 k fault.Read old new
 skip_short old mid new n k part (front, long, came) more few =
     (front ++ part, (let h : length (front ++ part) < k = omega (arith, length-append front part) in h), Consumes-trans old mid new front part came more)

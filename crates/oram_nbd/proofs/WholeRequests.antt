@@ -5,7 +5,7 @@ use Rattle.oram_nbd.specs.Messages.{payload_len, request_text, IsRequest}
 use Rattle.oram_nbd.specs.Service.{BeginsWithRequest}
 use Rattle.oram_nbd.specs.declared.requests.Request.{Request}
 
--- a head, and as many bytes behind it as its write has
+-- a head, and as many bytes after it as its write has
 pub begins_by : (bytes head : List ℕ) (r : Request) → head ≡ take 28 bytes → IsRequest r → head ≡ request_text r → 28 ≤ length bytes → payload_len r.command r.length ≤ length bytes - 28 → BeginsWithRequest bytes
 begins_by bytes head r front is text least enough =
     let n : ℕ = payload_len r.command r.length in

@@ -59,7 +59,7 @@ pub record AreCollected (block size : ℕ) (arrived : List WholeRequest) (reques
   pub same : map (λ a. a.request) arrived ≡ requests
   pub served : AreServedBy block size arrived operations
 
--- how a batch ends, by what was read behind it
+-- how a batch ends, by what was read after it
 abbrev pub EndsBy : Close → List ℕ → Option (List ℕ) → Type 0
 EndsBy Waits part new = part ≡ []
 EndsBy (NoRoom r) part new = (a : WholeRequest) × IsWholeRequest a × (a.request ≡ r) × (part ≡ request_text a.request ++ a.payload)
@@ -104,7 +104,7 @@ answers_text block size [] given = []
 answers_text block size (r ∷ requests) [] = []
 answers_text block size (r ∷ requests) (bytes ∷ given) = reply_text r.cookie (reply_of block size r bytes) ++ answers_text block size requests given
 
--- all of them are refused, those that aren't refused already with this error
+-- what the client receives if all requests are refused: each with its own error, or with this one if it has none
 abbrev pub refusals_text : ℕ → List Request → NbdError → List ℕ
 refusals_text size requests e = flat_map (λ r. reply_text r.cookie (reply_if (refusal_of size r) (Refused e))) requests
 
@@ -116,7 +116,7 @@ module _ {D W E : Type 0} (kind : DeviceKind D W E) (size : ℕ) (old new : D) (
     pub served : HasServedRequests kind size old new answered
     pub reported : SaysFailed answered → kind.failed new
 
-  -- The device stopped. Some request isn't refused.
+  -- The device stopped at a batch in which at least one request isn't refused.
   pub record HasBegun : Type 0 where
     pub accepted : (before after : List WholeRequest) × (a : WholeRequest) × (arrived ≡ before ++ a ∷ after) × (refusal_of size a.request ≡ None)
     pub begun : GoesOn kind.had kind.hears (HasArrays kind.holds kind.kept) old

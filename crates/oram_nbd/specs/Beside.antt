@@ -10,16 +10,16 @@ module _ {D W E A : Type 0} (had : D → List E → D → Type 0) (hears : Bool 
   abbrev pub GoesThrough : Bool → W → List (List E) → W → Type 0
   GoesThrough may_lie world calls later = FoldsTo {P = W} {A = E} (hears may_lie) world (flat_map (λ events. events) calls) later
 
-  -- The device was called some times, and its calls had some events. Whatever world goes through these: from what was true of
-  -- the device there before, `step` leads to what is true of it there now.
+  -- The device was called any number of times, and its calls had some events. In each world that goes through these events,
+  -- `step` leads from what was true of the device before to what is true of it now.
   pub record GoesOn (old : D) (step : Bool → A → A → Type 0) (new : D) : Type 0 where
     pub calls : List (List E)
     pub made : FoldsTo {P = D} {A = List E} had old calls new
     pub leads : (may_lie : Bool) (world later : W) → GoesThrough may_lie world calls later → (array : A) → holds may_lie old world array
         → (next : A) × step may_lie array next × holds may_lie new later next
 
--- The arrays of a device beside a world: the one that it holds, and perhaps one that is saved. Then the next process would hold
--- the saved one or the one that is held now. If none is saved, nothing is known of the next process.
+-- The arrays of a device beside a world: the one that it holds, and perhaps one that is saved. If one is saved, the next
+-- process would hold it or the one that is held now. If none is saved, nothing is known of the next process.
 pub record Arrays (A : Type 0) : Type 0 where
   pub held : A
   pub saved : Option A

@@ -1,11 +1,11 @@
--- What a call of a device leaves behind.
+-- What a call of a device leaves.
 use Rattle.std.specs.Prelude.{◌≡◌, ◌⊎◌, ℕ, ◌<◌, Bool, true, List, length, Some, Result, IsErrOf, MatchResult, OnErr, OnOk}
 use Rattle.oram_nbd.specs.Beside.{Arrays}
 use Rattle.oram_nbd.specs.Bytes.{IsBegun, written}
 use Rattle.oram_nbd.specs.declared.faults.DiskFault.{DiskFault}
 use Rattle.oram_nbd.specs.declared.faults.DiskFault.TheVariants.{Failed, Stopped}
 
--- only in a world that may lie does a device fail that held an array
+-- a device that held an array fails only in a world that may lie
 abbrev pub FailsByLies : {T : Type 0} → Result T DiskFault → Bool → Type 0
 FailsByLies result may_lie = IsErrOf result Failed → may_lie ≡ true
 
@@ -14,12 +14,12 @@ FailsByLies result may_lie = IsErrOf result Failed → may_lie ≡ true
 pub record SavesAll {A : Type 0} (touched : Type 0) (old new : Arrays A) : Type 0 where
   pub either : (new.saved ≡ Some new.held) ⊎ ((touched → ⊥) × (new ≡ old))
 
--- What is kept of a call that has failed: what was saved before, or else one of the arrays that `begun` gives, those that a
--- beginning of the call leaves.
+-- What is kept of a call that has failed: what was saved before, or else one of the arrays that `begun` gives, which are
+-- those that a beginning of the call leaves.
 pub record SavesPart {A : Type 0} (begun : A → A → Type 0) (old new : Arrays A) : Type 0 where
   pub either : (new.saved ≡ old.saved) ⊎ ((part : A) × begun old.held part × (new.saved ≡ Some part))
 
--- the one or the other, by the result of the call
+-- what is kept of a call, by its result
 abbrev pub Saves : {T A : Type 0} → Result T DiskFault → Type 0 → (A → A → Type 0) → Arrays A → Arrays A → Type 0
 Saves result touched begun old new = MatchResult result (λ _. SavesAll touched old new) (λ _. SavesPart begun old new)
 

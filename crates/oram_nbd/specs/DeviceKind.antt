@@ -1,8 +1,8 @@
--- What the words of a connection need to know of a device.
+-- What the definitions about connections need to know of a device.
 use Rattle.std.specs.Prelude.{ℕ, Bool, List}
 
 -- A kind of device, in the words of the trait `BlockDevice`: the sizes of such a device, whether it has failed, the events of
--- its calls, the way of the world beside it through an event, and the arrays that it holds and keeps beside that world.
+-- its calls, how the world beside it changes at an event, and the arrays that it holds and keeps beside that world.
 pub record DeviceKind (D W E : Type 0) : Type 1 where
   pub block_len : D → ℕ
   pub size : D → ℕ

@@ -35,7 +35,7 @@ export_flags = 0 ∷ 109 ∷ []
 abbrev pub size_text : ℕ → List ℕ
 size_text size = (0 ∷ 0 ∷ []) ++ to_be_bytes w64 size ++ export_flags
 
--- requests of 1 byte at least, preferably of `preferred` bytes, and of as many as one may have at most
+-- the sizes of requests: at least 1 byte, preferably `preferred` bytes, and at most as many as one may have
 abbrev pub block_text : ℕ → List ℕ
 block_text preferred = (0 ∷ 3 ∷ 0 ∷ 0 ∷ 0 ∷ 1 ∷ []) ++ to_be_bytes w32 preferred ++ to_be_bytes w32 LONGEST_PAYLOAD
 

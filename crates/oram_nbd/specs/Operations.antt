@@ -34,7 +34,7 @@ done_by (Read at count) bytes = bytes
 done_by (Write at payload) bytes = written bytes at payload
 done_by (Zero at count) bytes = written bytes at (zeroes count)
 
--- the array if it came as far as some byte of its range
+-- the array if the operation was done up to some byte of its range
 abbrev pub IsPartOf : Operation → List ℕ → List ℕ → Type 0
 IsPartOf (Read at count) old new = new ≡ old
 IsPartOf (Write at payload) old new = IsBegun old at payload new

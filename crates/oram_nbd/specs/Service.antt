@@ -61,7 +61,7 @@ touched_len Write n = n
 touched_len WriteZeroes n = n
 touched_len _ n = 0
 
--- the array if the device failed in the middle: the command came as far as some byte of its range
+-- the array if the device failed in the middle: the command was carried out up to some byte of its range
 abbrev pub IsPartly : Command → List ℕ → ℕ → ℕ → List ℕ → List ℕ → Type 0
 IsPartly Write old at n payload new = IsBegun old at payload new
 IsPartly WriteZeroes old at n payload new = IsBegun old at (zeroes n) new
@@ -85,7 +85,7 @@ pub record WholeRequest : Type 0 where
   pub request : Request
   pub payload : List ℕ
 
--- they can be sent
+-- a request and the bytes after it that can be sent
 pub record IsWholeRequest (a : WholeRequest) : Type 0 where
   pub request : IsRequest a.request
   pub payload : length a.payload ≡ payload_len a.request.command a.request.length
@@ -101,7 +101,8 @@ pub record BeginsWithRequest (bytes : List ℕ) : Type 0 where
 abbrev pub whole_requests_text : List WholeRequest → List ℕ
 whole_requests_text arrived = flat_map (λ a. request_text a.request ++ a.payload) arrived
 
--- the array after a request, and the array if it came as far as some byte of its range: one that is refused leaves it as it is
+-- the array after a request, and the array if the request was carried out up to some byte of its range; a refused request
+-- leaves the array as it is
 abbrev pub left_if : Option NbdError → List ℕ → List ℕ → List ℕ
 left_if (Some e) old new = old
 left_if None old new = new
@@ -153,13 +154,13 @@ pub record IsReplied (size : ℕ) (a : AnsweredRequest) : Type 0 where
   pub payload : length a.payload ≡ payload_len a.request.command a.request.length
   pub reply : IsReply size a.request a.reply
 
--- this array of bytes answers the request so, and is another one afterwards
+-- this array of bytes answers the request with this reply, and becomes `new`
 pub record IsAnsweredBy (old : List ℕ) (a : AnsweredRequest) (new : List ℕ) : Type 0 where
   pub request : IsRequest a.request
   pub payload : length a.payload ≡ payload_len a.request.command a.request.length
   pub answer : IsAnswer old a.request a.payload a.reply new
 
--- the array answers all of them so, one after the other
+-- the array answers all of these requests, one after the other, and becomes `new`
 abbrev pub IsService : List ℕ → List AnsweredRequest → List ℕ → Type 0
 IsService old [] new = new ≡ old
 IsService old (a ∷ answered) new = (mid : List ℕ) × IsAnsweredBy old a mid × IsService mid answered new

@@ -4,7 +4,7 @@ use Rattle.std.specs.Io.KnownBytes.{Appends, Consumes, IsAtEnd}
 use Rattle.oram_nbd.specs.declared.faults.NbdFault.{NbdFault}
 use Rattle.oram_nbd.specs.declared.faults.NbdFault.TheVariants.{Read, Truncated, Magic, Write, OldClient, UnknownExport, TooManyOptions, OutOfMemory, Stopped}
 
--- the two streams of a connection, where their bytes are known
+-- the two streams of a connection, if their bytes are known
 pub record Streams : Type 0 where
   pub unread : Option (List ℕ)  -- what the client has sent and the server hasn't read yet
   pub written : Option (List ℕ)  -- what the server has written

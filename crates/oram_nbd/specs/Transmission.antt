@@ -40,7 +40,7 @@ IsCutOff TooManyOptions part new = ⊥
 IsCutOff OutOfMemory part new = ⊥
 IsCutOff Stopped part new = ⊥
 
--- What was read behind the requests of a batch: nothing, or one more request, whole or in part, or bytes that are none.
+-- What was read after the requests of a batch: nothing, or one more request, whole or in part, or bytes that are none.
 abbrev pub IsBehind : List ℕ → Type 0
 IsBehind part = (part ≡ []) ⊎ (((a : WholeRequest) × IsWholeRequest a × (part ≡ request_text a.request ++ a.payload)) ⊎ (IsUnfinished part ⊎ IsNoRequest part))
 
@@ -60,7 +60,7 @@ module _ {D W E : Type 0} (kind : DeviceKind D W E) (size : ℕ) where
       ⊎ (All (λ a. IsRefusal a.reply) batch
       × (((new ≡ old) × (later ≡ before)) ⊎ (SaysFault batch × SavesPart (AreRequestsBegun (map whole_request_of batch)) before later)))
 
-  -- A batch of requests was served. From each array that was held, they lead to one that is held. Where the world doesn't lie,
+  -- A batch of requests was served. From each array that was held, they lead to one that is held. If the world doesn't lie,
   -- no reply says that the device failed.
   abbrev pub ServesBatch : D → List AnsweredRequest → D → Type 0
   ServesBatch old batch new = GoesOn kind.had kind.hears (HasArrays kind.holds kind.kept) old
@@ -85,9 +85,9 @@ module _ {D W E : Type 0} (kind : DeviceKind D W E) (size : ℕ) where
     pub begun : GoesOn kind.had kind.hears (HasArrays kind.holds kind.kept) mid
         (λ may_lie before later. AreRequestsBegun arrived before.held later.held × SavesPart (AreRequestsBegun arrived) before later) new
 
--- All requests that are served over a connection, together. Whatever world goes through the events of their calls: from the
--- array that was held at first they lead, one after the other, to the one that is held at last, and each reply is that of the
--- array at its request, or an error. Where the world doesn't lie, no reply says that the device failed.
+-- All requests that are served over a connection, together. In each world that goes through the events of their calls, they
+-- lead, one after the other, from the array that was held at first to the one that is held at last, and each reply is that of
+-- the array at its request, or an error. If the world doesn't lie, no reply says that the device failed.
 abbrev pub ConnectionsServeArrays : {D W E : Type 0} → DeviceKind D W E → Type 0
 ConnectionsServeArrays {D} kind = (size : ℕ) (old new : D) (answered : List AnsweredRequest) → HasServedRequests kind size old new answered
     → GoesOn kind.had kind.hears (HasArrays kind.holds kind.kept) old
@@ -105,7 +105,7 @@ module _ {D W E : Type 0} (kind : DeviceKind D W E) (old new : D) where
     pub ended : IsLast after.unread last
 
   -- What is known at a fault. After a failed write, the requests of the last batch were served too, and a beginning of their
-  -- replies was written. If the device stopped, the requests of the last batch have no replies. What was read behind that batch
+  -- replies was written. If the device stopped, the requests of the last batch have no replies. What was read after that batch
   -- wasn't served.
   abbrev pub StopsServing : NbdFault → Streams → Streams → Type 0
   StopsServing Write before after =

@@ -18,7 +18,7 @@ use oram_bytes::Bytes;
 use std::alloc::Global;
 use std::io::Read;
 
-/// The most requests of a batch. A batch is also full once its operations cover this many blocks.
+/// The most requests of a batch. A batch is also full once the ranges of its operations add up to this many blocks.
 const MOST: u64 = 64;
 
 /// Why a batch takes no further request.
@@ -49,7 +49,7 @@ impl From<NbdFault> for Close {
 pub(crate) struct Batch {
     pub(crate) requests: Vec<Request>,
     pub(crate) operations: Vec<Operation>,
-    /// How many bytes the operations lie over.
+    /// The sum of the lengths of the operations' ranges, in bytes.
     weight: u64,
 }
 
@@ -138,7 +138,7 @@ impl Batch {
         }
     }
 
-    /// Reads the next request, with the bytes of its write, and adds it. Returns why there is none, if so.
+    /// Reads the next request, with the bytes of its write, and adds it. If there is none, returns why.
     fn collect<R: Read>(
         &mut self,
         alloc: Global,
@@ -162,7 +162,7 @@ impl Batch {
         self.add(sizes, request, payload)
     }
 
-    /// Returns whether the operations cover 64 blocks or more.
+    /// Returns whether the operations' ranges add up to 64 blocks or more.
     fn is_heavy(&self, sizes: DiskSizes) -> bool {
         self.weight >= sizes.block.saturating_mul(MOST)
     }

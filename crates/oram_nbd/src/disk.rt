@@ -10,7 +10,8 @@ use crate::operations::Operation;
 use oram_bytes::Bytes;
 use std::alloc::Global;
 
-/// A device of whole blocks, all of one length. In the world beside it, it holds the array of its blocks' bytes.
+/// A device of whole blocks, all of one length. Together with the world beside it, such as a host, it holds the array of its
+/// blocks' bytes.
 ///
 /// A call takes a list of operations, so a device may carry out many of them at once. After [`DiskFault::Stopped`] a
 /// connection makes no more calls of it.
@@ -40,7 +41,7 @@ pub trait BlockDevice {
     /// begin with what outlasts this process.
     ghost kept: { Bool → Self → World → List ℕ → List ℕ → Type 0 };
 
-    /// The device has failed, for good: it acknowledges nothing.
+    /// The device has failed for good: it acknowledges nothing more.
     ghost failed: { Self → Type 0 };
 
     /// A call that began at the first state and ended at the second has met what stops the device.

@@ -56,8 +56,8 @@ pub struct Export<'a> {
     pub name: &'a [u8],
     /// The size of the export, in bytes.
     pub size: u64,
-    /// The preferred number of bytes of a request: a power of two from 512 to 32 MiB, because some clients leave at any
-    /// other number.
+    /// The preferred number of bytes of a request: a power of two from 512 to 32 MiB, because some clients leave if it
+    /// is any other number.
     pub preferred: u32,
 }
 

@@ -66,8 +66,8 @@ fn carry_out_alone<D: BlockDevice>(
     }
 }
 
-/// Carries out the first operations: those at the front that are on whole blocks, by one call of the device, or else the
-/// first one alone. Returns what each of them read.
+/// Carries out the first operations: those at the front that are on whole blocks, in one call of the device, or else the first
+/// one alone. Returns what each of them read.
 fn carry_out_front<D: BlockDevice>(
     alloc: Global,
     disk: &mut D,

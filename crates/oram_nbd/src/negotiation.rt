@@ -87,7 +87,8 @@ fn take_option<R: Read, W: Write>(
 {
     if head.length > LONGEST_OPTION {
         skip(reader, u64::from(head.length))?;
-        // The export's name isn't as long. A client would take any reply to EXPORT_NAME for the size of the export.
+        // The option is longer than the export's name, so it asks for another export. A client would take any reply to
+        // EXPORT_NAME for the size of the export.
         if head.option == HandshakeOption::ExportName {
             return Err(NbdFault::UnknownExport);
         }
@@ -105,9 +106,9 @@ fn take_option<R: Read, W: Write>(
 
 /// Agrees with a client on the export.
 ///
-/// It refuses an option that carries more than `LONGEST_OPTION` bytes, and skips these bytes. At an EXPORT_NAME it fails
-/// with `UnknownExport` then, as at each name that isn't the export's. It fails with `TooManyOptions` after `MOST_OPTIONS`
-/// options that don't end the handshake.
+/// It refuses an option that carries more than `LONGEST_OPTION` bytes, and skips these bytes. If such an option is an
+/// EXPORT_NAME, it then fails with `UnknownExport`, as it does for each name that isn't the export's. It fails with
+/// `TooManyOptions` after `MOST_OPTIONS` options that don't end the handshake.
 pub fn negotiate<R: Read, W: Write>(
     alloc: Global,
     reader: &mut R,

@@ -36,7 +36,7 @@ pub(crate) fn front_u64(bytes: &[u8]) -> Option<(u64, &[u8])>
     Some((u64::from_be_bytes([*a, *b, *c, *d, *e, *f, *g, *h]), rest))
 }
 
-/// Returns the number that four bytes spell.
+/// Returns the number that four bytes encode.
 pub(crate) fn number_u32(bytes: [u8; 4]) -> u32
     ensures { to_be_bytes w32 result ≡ bytes }
 {

@@ -12,7 +12,7 @@ use crate::operations::Operation;
 use oram_bytes::Bytes;
 use std::alloc::{AllocError, Global};
 
-/// The blocks over which a range of bytes lies.
+/// The blocks that a range of bytes touches.
 #[derive(Clone, Copy, Debug)]
 pub(crate) struct Cover {
     /// The first of them.
@@ -157,11 +157,11 @@ fn write_covered<D: BlockDevice>(
 struct Edges {
     /// Those of its first block that lie before it.
     before: Bytes,
-    /// Those of its last block that lie behind it.
+    /// Those of its last block that lie after it.
     after: Bytes,
 }
 
-/// Returns two pieces of bytes and what lies between them as one piece.
+/// Returns three pieces of bytes as one piece.
 fn joined(alloc: Global, first: &[u8], middle: &[u8], last: &[u8]) -> Result<Vec<u8>, AllocError>
     ensures { IfOk result (λ v. v.items ≡ first.now ++ middle.now ++ last.now) }
 {
@@ -176,7 +176,7 @@ fn joined(alloc: Global, first: &[u8], middle: &[u8], last: &[u8]) -> Result<Vec
     Ok(whole)
 }
 
-/// Reads two ranges of whole blocks by one call, of `count` and of `more` bytes.
+/// Reads two ranges of whole blocks, of `count` and of `more` bytes, in one call.
 fn read_two<D: BlockDevice>(
     alloc: Global,
     disk: &mut D,
@@ -218,8 +218,8 @@ fn edge_len(block: u64, len: u64) -> u64
     if len > 0 { block } else { 0 }
 }
 
-/// Reads what lies around a range of `len` bytes in the blocks of its cover. Only blocks that lie in part outside of the range
-/// are read, both by one call.
+/// Reads what lies around a range of `len` bytes in the blocks of its cover. Only blocks that lie partly outside of the range
+/// are read, both in one call.
 fn read_edges<D: BlockDevice>(
     alloc: Global,
     disk: &mut D,
@@ -261,7 +261,7 @@ fn read_edges<D: BlockDevice>(
 
 /// Writes a range. No byte outside of it changes. On an error, a beginning of the payload may be written.
 ///
-/// The device is called twice at most: the blocks at the edges are read if they lie in part outside of the range, and then all
+/// The device is called at most twice: the blocks at the edges are read if they lie partly outside of the range, and then all
 /// its blocks are written.
 pub(crate) fn write_range<D: BlockDevice>(
     alloc: Global,
@@ -293,8 +293,8 @@ pub(crate) fn write_range<D: BlockDevice>(
     write_blocks(alloc, disk, cover.first, Bytes::from_vec(whole))
 }
 
-/// Makes a range of `len` bytes zeroes by one call. It has the whole blocks between the edges zeroed, and writes the blocks
-/// at the edges.
+/// Makes a range of `len` bytes zeroes in one call. It has the whole blocks between the edges zeroed, and writes the blocks at
+/// the edges.
 fn zero_between<D: BlockDevice>(
     alloc: Global,
     disk: &mut D,
@@ -343,7 +343,7 @@ fn zero_between<D: BlockDevice>(
 
 /// Makes the bytes of a range zeroes.
 ///
-/// The device is called twice at most: the blocks at the edges are read if they lie in part outside of the range, and then they
+/// The device is called at most twice: the blocks at the edges are read if they lie partly outside of the range, and then they
 /// are written, and the whole blocks between them zeroed.
 pub(crate) fn zero_range<D: BlockDevice>(
     alloc: Global,

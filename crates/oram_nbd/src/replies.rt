@@ -85,7 +85,7 @@ fn error_of(refused: Option<NbdError>, error: NbdError) -> NbdError
     }
 }
 
-/// Refuses requests, with an error where they aren't refused already.
+/// Refuses requests: each for its own reason if it has one, and otherwise with this error.
 pub(crate) fn put_refusals<W: Write>(
     writer: &mut W,
     size: u64,

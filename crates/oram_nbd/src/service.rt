@@ -1,4 +1,4 @@
-//! Which requests are refused, and what others ask for.
+//! Which requests are refused, and what the others ask for.
 
 ghost use Rattle.std.specs.Prelude.{◌≡◌, ◌∷◌, ◌++◌, List, true, false, ◌+◌, ◌<◌, ◌≢◌, All, None, length, nat_le, slice_index_or};
 ghost use Rattle.oram_nbd.specs.Batches.{requested_bytes};
@@ -62,7 +62,7 @@ pub(crate) fn is_any_accepted(requests: &[Request], size: u64) -> bool
     false
 }
 
-/// Returns those bytes that a request asks for, of the bytes of the blocks over which its range lies.
+/// Returns the bytes that a request asks for, out of the bytes of the blocks that its range touches.
 pub(crate) fn requested_bytes<'a>(block: u64, request: &Request, bytes: &'a [u8]) -> &'a [u8]
     requires { 0 < block }
     ensures { result.now ≡ requested_bytes block request.now bytes.now }

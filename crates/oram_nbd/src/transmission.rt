@@ -26,8 +26,8 @@ use std::io::{Read, Write};
 /// The most batches of a connection.
 const MOST_BATCHES: u64 = 1 << 56;
 
-/// Carries out a batch, and writes the replies. Running out of memory, or a failure of the device, refuses all requests of the
-/// batch; some of them may be done all the same. A reply that acknowledges its request says that what the batch did is kept.
+/// Carries out a batch, and writes the replies. If memory runs out or the device fails, all requests of the batch are refused;
+/// some of them may be done all the same. A reply that acknowledges its request says that what the batch did is kept.
 fn carry_out_batch<W: Write, D: BlockDevice>(
     alloc: Global,
     writer: &mut W,
@@ -81,7 +81,7 @@ fn refuse_without_memory<W: Write>(writer: &mut W, size: u64, close: Close) -> R
     }
 }
 
-/// Returns whether further requests may follow a batch that ended so, or the fault of the input.
+/// Returns whether further requests may follow a batch that was closed like this, or the fault of the input.
 fn goes_on(close: Close) -> Result<bool, NbdFault>
     ensures ok { IfOk result (λ more. (rest : List ℕ) (unread : Option (List ℕ)) → LeftBy close rest unread → MatchBool more (rest ≡ []) (IsLast unread rest)) }
     ensures err { IfErr result (λ fault. (rest : List ℕ) (unread : Option (List ℕ)) → LeftBy close rest unread → IsCutOff fault rest unread) }
@@ -95,13 +95,13 @@ fn goes_on(close: Close) -> Result<bool, NbdFault>
 
 /// Answers requests until the client leaves, and returns their number.
 ///
-/// It waits for a request, and carries it out together with those that have arrived behind it, up to 64 of them. All replies of
+/// It waits for a request, and carries it out together with those that have arrived after it, up to 64 of them. All replies of
 /// a batch are written and flushed before the next request is waited for. So a client that reads no replies holds back its own
-/// requests, once the buffers between the two are full. Running out of memory doesn't end the service: the requests are
-/// refused with `NoMemory`, and the bytes of a write for which there is none are skipped. A device that stops ends the
-/// service, and the requests of its batch get no replies. A reply that acknowledges its request says that what its batch did is
-/// kept: the next process would hold it, even if this one ends before the reply is written. It still would if a later batch
-/// fails or the device stops at it, except for bytes that this later batch writes.
+/// requests, once the buffers between the two are full. Running out of memory doesn't end the service: the requests are refused
+/// with `NoMemory`, and the bytes of a write that there is no memory for are skipped. A device that stops ends the service, and
+/// the requests of its batch get no replies. A reply that acknowledges its request says that what its batch did is kept: the
+/// next process would hold it, even if this one ends before the reply is written. It still would if a later batch fails or the
+/// device stops at it, except for bytes that this later batch writes.
 pub fn transmit<R: Read + Arrived, W: Write, D: BlockDevice>(
     alloc: Global,
     reader: &mut R,

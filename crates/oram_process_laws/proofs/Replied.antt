@@ -80,7 +80,7 @@ tickets_are : (past : List Step) → TicketsFrom 0 (accepted past)
 tickets_are [] = no_tickets
 tickets_are (step ∷ past) = subst (TicketsFrom 0) (sym (accepted_cons step past)) (tickets_if step.accepts step.event (accepted past) (tickets_are past))
 
--- where a command stands
+-- the place of a command in the list, which is its ticket
 record Stands (commands : List Submission) (x : Submission) : Type 0 where
   earlier : List Submission
   later : List Submission

@@ -23,8 +23,8 @@ ShowsNoPair v past [] = ⊤
 ShowsNoPair v past (h ∷ run) = (shows_pair v past h.event ≡ false) × ShowsNoPair v (step_of h.event h.shown ∷ past) run
 
 -- In a right run whose answers show no two records with the same digest: if no command is submitted since some moment, all
--- that the run sends, before it and since, are messages of the commands that were accepted by then. And whatever the
--- run goes on with, the paths of these commands stay the same.
+-- that the run sends, before it and since, are messages of the commands that were accepted by then. And however the
+-- run goes on, the paths of these commands stay the same.
 abbrev pub KeptCommandsFixMessages : Type 0
 KeptCommandsFixMessages = (v : Setting) (trees : List Tree) (early since : List Happening) (core : State) → IsRightRun v trees (early ++ since) core → ShowsNoPair v [] (early ++ since)
     → (SubmitsNone since → (body : List ℕ) → IsAmong body (sends_of (early ++ since)) → IsOfAccepted v (past_after [] early) body)

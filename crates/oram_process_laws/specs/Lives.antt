@@ -36,7 +36,7 @@ pub record Happening : Type 0 where
 abbrev pub IsRun : Scheme → State → List Happening → State → Type 0
 IsRun v s run t = FoldsTo {P = State} (λ a h b. Steps v a h.event h.shown b) s run t
 
--- no command is submitted in the run
+-- whether an event submits a command, and a run in which none does
 abbrev pub is_submission : Event → Bool
 is_submission (Submit session c words) = true
 is_submission (Answer bytes) = false
@@ -185,10 +185,10 @@ pub record KeepsToRun (v : Setting) (trees : List Tree) {B K : Type 0} (batches 
   pub kept : (bytes : List ℕ) (exchanges : List Exchange) → Ends v.scheme batches reads_back p bytes exchanges
       → IsKeptOnRun v trees run (left ++ bodies_of exchanges) p.link.kept all_kept bytes
 
--- Each message that leaves a process is one that the run has sent, or will send next: a STORE in the file that is read back, the
--- outstanding FETCH, or the first FETCH of a command that waits. And each STORE that has left any of the processes so far is
--- one that this run has sent, so a nonce seals one record in all of them.
--- What a process has heard since its last keeping is forgotten when it ends, so a FETCH may have left that is of no later
+-- Each message that leaves a process is one that the run has sent, or will send next: a STORE in the file that is read back,
+-- the outstanding FETCH, or the first FETCH of a command that waits. And each STORE that has left any of the processes so far
+-- is one that this run has sent, so a nonce seals one record in all of them.
+-- What a process has heard since its last keeping is forgotten when it ends, so a FETCH may have left that belongs to no later
 -- run. But if no command was submitted since then, as none is in a round, the run of that FETCH has no other commands than
 -- the core that is read back, and these fix its path (KeptCommandsFixMessages).
 abbrev pub MessagesAreOfOneRun : {B K : Type 0} → (B → List (List ℕ) → BatchOutcome → List Exchange → B → Type 0) → (K → List ℕ → Type 0) → Type 0

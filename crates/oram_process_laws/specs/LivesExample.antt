@@ -1,5 +1,5 @@
--- An example that meets the premises of the laws about lives and about kept commands: two processes over a server in memory, with
--- a device of one block.
+-- An example that meets the premises of the laws about lives and about kept commands: two processes over a server in memory,
+-- with a device of one block.
 use Rattle.std.specs.Prelude.{◌≡◌, ℕ, true, List, [], ◌∷◌, ◌++◌, map}
 use Rattle.oram_geometry.specs.Sizes.{IsDevice}
 use Rattle.oram_wire.specs.HostMessages.{fetch_body}

@@ -28,7 +28,7 @@ use Rattle.oram_process_laws.specs.KeptCommands.{ShowsNoPair}
 use Rattle.oram_process_laws.specs.Lives.{IsRightRun, Lives, run_of}
 use Rattle.oram_process_laws.specs.Replied.{IsReplyIn, given_by}
 
--- The record that the STORE brings. Its bucket has the block: the address 0 as 1, the leaf 0, and 16 zeros. Behind it are the
+-- The record that the STORE brings. Its bucket has the block: the address 0 as 1, the leaf 0, and 16 zeros. After it are the
 -- digests of no children.
 abbrev pub stored_record : List ℕ
 stored_record = 0 ∷ 0 ∷ 0 ∷ 1 ∷ replicate 84 0
@@ -59,8 +59,8 @@ stored = record { note = Taken; replies = []; sends = block_store ∷ []; state 
 abbrev pub finished : Done
 finished = finished_by one_block fetched_core one_read []
 
--- The process keeps itself, and sends the FETCH ahead. The core asks for the FETCH and has its answer, then sends the STORE, which
--- the link answers at once.
+-- The process keeps itself, and sends the FETCH ahead. The core asks for the FETCH and has its answer, then sends the STORE,
+-- which the link answers at once.
 abbrev pub whole_acts : List Act
 whole_acts = Keeps true ∷ GoesAhead zeros_fetched ∷ Calls (Ok (payload_answer (replicate 88 0))) [] (shown_in stored)
     ∷ Calls (Ok done_answer) [] (shown_in finished) ∷ []
@@ -71,14 +71,14 @@ whole_process =
     let p : Process ToServer (List (List ℕ) × State) = process_with finished.state reading_core in
     record p { link = record p.link { held = block_store ∷ [] } }
 
--- the same acts, behind the submission
+-- the same acts, after the submission
 abbrev pub whole_steps : List ProcessStep
 whole_steps = Takes reads ∷ map (λ (act : Act). Acts act) whole_acts
 
 -- The command is submitted to the core of the device as it was formatted. The process is safe and goes on with the array of
--- zeros, over a server in memory, and replies with the zeros of the block. The first process of the device does these steps. Its
--- run is right, and no answer in it shows two records with the same digest. The reply is given, and is the array's reply to this
--- command.
+-- zeros, over a server in memory, and replies with the zeros of the block. The first process of the device does these steps.
+-- Its run is right, and no answer in it shows two records with the same digest. The reply is given, and is the array's reply to
+-- this command.
 abbrev pub WholeExample : Type 0
 WholeExample = AreBatches DirectBatches × IsDevice one_block.device × AreSubmitted one_block zero_words 0 new_core (reads ∷ []) reading_core
     × ((may_lie : Bool) → IsSafe may_lie one_block reads_kept (process_with reading_core new_core) new_host zero_array zero_array)

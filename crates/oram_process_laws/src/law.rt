@@ -17,8 +17,7 @@ pub fn lives_are_one_run<B: BatchLink, K: Keeper>()
 
 /// A law about definitions: each message that leaves a process is one that the run has sent, or will send next: a STORE in the
 /// file that is read back, the outstanding FETCH, or the first FETCH of a command that waits. Each STORE that has left any of
-/// them is one that this run has sent. What is read back is a core that the run has led to on its way, with all STOREs that
-/// may leave.
+/// them is one that this run has sent. What is read back is a core that the run has reached, with all STOREs that may leave.
 pub fn messages_are_of_one_run<B: BatchLink, K: Keeper>()
     ensures { MessagesAreOfOneRun B.batches K.reads_back }
 {}
@@ -36,10 +35,10 @@ pub fn one_ticket_has_one_reply()
     ensures { OneTicketHasOneReply }
 {}
 
-/// A law about definitions: if a run has no submission since some moment, all its messages are for the paths that the
-/// commands from before and the tape fix, and a run that goes on from that moment has the same paths for these commands.
-/// In a round nothing is submitted since the keeping. So what a process has fetched when it ends in a round are paths of
-/// the commands that are read back, and the next process has the same ones to fetch.
+/// A law about definitions: if a run has no submission after some moment, all its messages are for the paths that the commands
+/// from before and the tape fix, and a run that goes on from that moment has the same paths for these commands. In a round
+/// nothing is submitted after the keeping. So the paths that a process has fetched when it ends in a round are those of the
+/// commands that are read back, and the next process has the same ones to fetch.
 pub fn kept_commands_fix_messages()
     ensures { KeptCommandsFixMessages }
 {}
@@ -57,9 +56,9 @@ pub fn two_lives_example()
     ensures { TwoLivesExample }
 {}
 
-/// A whole command, over a server in memory, meets the premises of `acts_are_safe` and `replies_are_the_arrays` in `oram_rounds`
-/// and of [`replies_are_of_one_run`]: the read of a block is submitted to the first process of a device, which is safe, and kept,
-/// the host answers its FETCH, the core sends its STORE, and the process gives the array's reply.
+/// A whole command, over a server in memory, meets the premises of `acts_are_safe` and `replies_are_the_arrays` in
+/// `oram_rounds` and of [`replies_are_of_one_run`]: the read of a block is submitted to the first process of a device, which is
+/// safe, and kept, the host answers its FETCH, the core sends its STORE, and the process gives the array's reply.
 pub fn whole_command_example()
     ensures { WholeExample }
 {}

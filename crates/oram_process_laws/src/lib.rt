@@ -1,4 +1,4 @@
-//! Laws about all processes of a device, one after the other, as `oram_rounds` has them.
+//! Laws about all processes of a device, one after the other, as `oram_rounds` defines them.
 //!
 //! Each process begins with the file that is read back where the one before ended. One run of the core goes through all of
 //! them, and all messages that leave are of this run.

@@ -8,7 +8,7 @@ module _ {D : Type 0} (model : FileModel D) where
   pub started : (old : D) (P : Contents → Type 0) → ((c : Contents) → model.left_since old (model.moment old) c → P c) → LeavesOnly model old old P
   started old P here = record { later = omega arith; each = here; before = λ t c le left. inl left }
 
-  -- one call more
+  -- one more call
   pub goes_on : (old mid new : D) (P leave : Contents → Type 0) → LeavesOnly model old mid P
       → Elapses (model.moment mid) (model.moment new) (model.left_since mid) (model.left_since new) leave → ((c : Contents) → leave c → P c) → LeavesOnly model old new P
   goes_on old mid new P leave so_far time here = record {
@@ -17,7 +17,7 @@ module _ {D : Type 0} (model : FileModel D) where
     before = λ t c le left. ⊎_elim (so_far.before t c le) (λ now. inr (here c now)) (time.nothing_else t c (omega (arith, le, so_far.later)) left);
   }
 
-  -- one run more
+  -- one more run
   pub then_leaves : (old mid new : D) (P Q : Contents → Type 0) → LeavesOnly model old mid P → LeavesOnly model mid new Q
       → ((c : Contents) → Q c → P c) → LeavesOnly model old new P
   then_leaves old mid new P Q so_far more leads = record {

@@ -19,7 +19,8 @@ pub record FileModel (D : Type 0) : Type 1 where
   pub moment : D → ℕ
   -- what a crash at the given moment or a later one might have left, during a call or between two
   pub left_since : D → ℕ → Contents → Type 0
-  -- Each read has returned what was there. Code can't find that out, so only theorems about values may rest on it.
+  -- Each read has returned what was there. Code can't find out whether that is so, so only theorems about values may rest on
+  -- it.
   pub is_honest : D → Type 0
   -- at least the given number of calls have failed
   pub failures : D → ℕ → Type 0

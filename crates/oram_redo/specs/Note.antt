@@ -3,8 +3,8 @@ use Rattle.std.specs.Prelude.{ℕ, Bool, List, slice_index, ◌==◌, if◌then�
 use Rattle.oram_redo.specs.declared.file_pair.FileKind.{FileKind}
 use Rattle.oram_redo.specs.declared.file_pair.FileKind.TheVariants.{Records, Log}
 
--- One call that was made on a pair of files. `kind` is 1 for a write, 2 for a read and 3 for a sync; `at` is the first place that it reached in
--- `file`; `is_ok` says whether it answered `Ok`; `bytes` are those that it wrote or read.
+-- One call that was made on a pair of files. `kind` is 1 for a write, 2 for a read and 3 for a sync; `at` is the first place in
+-- `file` that the call reached; `is_ok` says whether it returned `Ok`; `bytes` are those that it wrote or read.
 pub record Call : Type 0 where
   pub kind : ℕ
   pub file : FileKind

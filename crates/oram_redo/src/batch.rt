@@ -21,7 +21,7 @@ pub struct Patch<'a> {
     pub bytes: &'a [u8],
 }
 
-/// The place and the length in an entry, which stand before the bytes of its patch.
+/// The place and the length in an entry, which come before the bytes of its patch.
 #[derive(Clone, Copy, Debug)]
 pub struct Head {
     pub at: u64,

@@ -1,6 +1,6 @@
 //! The bounds of the log and of the records in their files.
 
-/// The bounds of the log and of the records in their files. All are places, in bytes.
+/// The bounds of the log and of the records in their files. All are offsets, in bytes.
 #[derive(Clone, Copy, Debug, PartialEq, Eq)]
 pub struct Bounds {
     /// Where the log's entries begin. The bytes before belong to the caller: nothing here reads or writes them.

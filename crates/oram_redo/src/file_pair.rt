@@ -57,12 +57,12 @@ pub trait FilePair {
         ensures cause { HasCause model self.old self.new result }
         ensures errors { IfErr result (λ e. e ≡ RedoError.Failed) };
 
-    /// What a crash may leave now, it might have left since any earlier moment.
+    /// What a crash may leave now also counts as what a crash since any earlier moment might have left.
     ghost counts_now: { (files : Self) (t : ℕ) (c : Contents) → t ≤ model.moment files → model.may_leave files c → model.left_since files t c };
 
     /// A crash may leave everything that was written.
     ghost whole: { (files : Self) → model.may_leave files (model.seen files) };
 
-    /// What a crash might have left since the current moment, it may leave now.
+    /// What a crash since the current moment might have left is what a crash may leave now.
     ghost only_now: { (files : Self) (c : Contents) → model.left_since files (model.moment files) c → model.may_leave files c };
 }

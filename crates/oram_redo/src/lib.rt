@@ -1,12 +1,12 @@
 //! A redo log for one file of records. Each batch of patches is in the log, on the disk, before any of it is written to
 //! its place.
 //!
-//! The log holds entries, one after the other: a gate (a byte, 1 where it is open), a place, a length, and that many
-//! bytes. The entries that count are the longest run with open gates from the log's start on. A batch is written after
-//! the last entry, all but its first gate, and synced; then that gate is opened and synced. So after a crash the log
-//! has the whole batch or none of it, and needs no digest. Any byte but 1 is a shut gate, so a gate that a crash has
-//! torn can stay as it is. A gate that is shut is never shut again, because a crash might tear that write and open the
-//! gate.
+//! The log holds entries, one after the other: a gate (a byte, 1 where it is open), a place (an offset in the records'
+//! file), a length, and that many bytes. The entries that count are the longest run with open gates from the log's
+//! start on. A batch is written after the last entry, all but its first gate, and synced; then that gate is opened and
+//! synced. So after a crash the log has the whole batch or none of it, and needs no digest. Any byte but 1 is a shut
+//! gate, so a gate that a crash has torn can stay as it is. A gate that is shut is never shut again, because a crash
+//! might tear that write and open the gate.
 //!
 //! [`FilePair`] is the pair of files, as far as a contract can say what files do: what a read returns, what a crash may
 //! leave now, and what a crash at each past moment might have left. [`recover`] opens a pair. It syncs both files

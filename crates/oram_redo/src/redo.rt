@@ -1,8 +1,8 @@
 //! The redo log. `specs/Log.antt` defines the form of its entries.
 //!
-//! A batch goes into the log in two writes, each with a sync: everything but its first gate, and then that gate. So a
-//! crash leaves the whole batch behind an open gate, or a gate that is shut. Then the batch is written to its places,
-//! without a sync: whatever a crash does to them, replaying the log heals it.
+//! A batch goes into the log in two writes, each with a sync: everything but its first gate, and then that gate. So a crash
+//! leaves an open gate with the whole batch, or a shut gate. Then the batch is written to its places, without a sync: whatever
+//! a crash does to them, replaying the log heals it.
 ghost use Rattle.std.specs.Prelude.{◌≡◌, ◌⊎◌, ◌<◌, ◌≤◌, ◌+◌, ◌^◌, ◌++◌, ◌∷◌, [], All, length, IfNone, IfOk, IfSome, IfErr, IsErrOf, OnOk};
 ghost use Rattle.oram_redo.specs.Batch.{patches_of};
 ghost use Rattle.oram_redo.specs.Content.{Content, Agrees, bytes_at, put};
@@ -176,8 +176,8 @@ impl Redo {
         files.write_at(FileKind::Records, at, bytes)
     }
 
-    /// Syncs the records, so that loose patches are durable, and then empties the log. The places have to be on the
-    /// disk first: an empty log heals nothing.
+    /// Syncs the records, so that loose patches are durable, and then empties the log. The records have to be on the disk
+    /// first: an empty log heals nothing.
     pub fn restart<F: FilePair>(&mut self, files: &mut F) -> Result<(), RedoError>
         ensures consistent { OnOk result ((loose : _) → IsCrashConsistent F.model self.old loose files.old
             → IsCrashConsistent F.model self.new [] files.new) }
@@ -204,7 +204,7 @@ impl Redo {
     }
 }
 
-// Returns the place where `size` bytes from `end` on end, if one more byte fits before `room_end`.
+// Returns the place where `size` bytes end that begin at `end`, if one more byte fits before `room_end`.
 fn end_behind(end: u64, size: usize, room_end: u64) -> Option<u64>
     ensures some { IfSome result (λ next. (next ≡ end + size) × (next < room_end)) }
     ensures none { IfNone result (room_end ≤ end + size) }

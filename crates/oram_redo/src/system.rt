@@ -34,7 +34,7 @@ pub trait Start: Drop {
     ghost first: { Contents };
 }
 
-/// The `Start` for `main` to name. For this type, a contract about values says nothing of files that are not empty at
+/// The `Start` that `main` names. For this type, a contract about values says nothing of files that are not empty at
 /// first.
 #[derive(Drop)]
 pub struct Unknown;
@@ -65,12 +65,22 @@ impl<S: Start> SystemPair<S> {
 
     /// Syncs both files, so that the disk has what a read returns. The type `S` stands for what they hold; its value
     /// isn't kept. The log grows ahead of what is written, but not past `log_room` bytes.
+    ///
+    /// The log is written over itself before that. If a sync has failed, in this process or an earlier one, a read may return
+    /// bytes that the disk lacks, and Linux leaves them out of later syncs until they are written again. The records' file needs
+    /// no such care: the log has what was written to it since its last sync.
     pub fn new(_start: S, records: File, log: File, log_room: u64) -> io::Result<Self>
         ensures { IfOk result IsFresh }
     {
+        let len = log.metadata()?.len();
+        match write_again(&log, len) {
+            // A file system that copies on write may have no room for this, and still be read.
+            Ok(()) | Err(RedoError::NoRoom) => {}
+            Err(_) => return Err(io::Error::from(ErrorKind::Other)),
+        }
         records.sync_all()?;
         log.sync_all()?;
-        let log_len = Cell::new(log.metadata()?.len());
+        let log_len = Cell::new(len);
         Ok(SystemPair {
             records,
             log,
@@ -91,7 +101,7 @@ impl<S: Start> SystemPair<S> {
             return;
         }
         self.grow_log(len.saturating_add(MEBIBYTE));
-        // A write past the new length makes the log longer by itself.
+        // A write that ends past the new length makes the log longer anyway.
         self.log_len.set(self.log_len.get().max(end));
     }
 
@@ -196,6 +206,19 @@ fn write_zeros(file: &File, from: u64, end: u64) -> Result<(), RedoError> {
         let len = (end - at).min(PIECE as u64);
         write_all(file, at, &zeros[..len as usize])?;
         at += len;
+    }
+    Ok(())
+}
+
+// Writes the first `len` bytes of a file over themselves.
+fn write_again(file: &File, len: u64) -> Result<(), RedoError> {
+    let mut piece = [0; PIECE];
+    let mut at = 0;
+    while at < len {
+        let size = (len - at).min(PIECE as u64);
+        fill(file, at, &mut piece[..size as usize])?;
+        write_all(file, at, &piece[..size as usize])?;
+        at += size;
     }
     Ok(())
 }

@@ -58,7 +58,7 @@ answered_bodies [] answers count = refl
 answered_bodies (f ∷ fetches) [] count = absurd (omega (arith, count))
 answered_bodies (f ∷ fetches) (a ∷ answers) count = ap (λ (rest : List (List ℕ)). f ∷ rest) (answered_bodies fetches answers (omega (arith, count)))
 
--- The first of some messages has gone, and a part of them stands at their end.
+-- Messages that are the end of a list of messages, and what becomes of them when the first message of the list has gone.
 abbrev Ends : List (List ℕ) → List (List ℕ) → Type 0
 Ends all end = (before : List (List ℕ)) × (all ≡ before ++ end)
 
@@ -85,7 +85,7 @@ taken_note v s d (inl fails) alive = absurd (let both = sym (ap (λ (t : State).
 taken_note v s d (inr (inl on)) alive = on.note
 taken_note v s d (inr (inr replies)) alive = ap (λ (e : Did). e.note) replies.does
 
--- All stay; or the first one's answer has come, and the call has come to something.
+-- All of the next FETCHes stay; or the call hasn't stalled, and the answer to the first of them has come.
 abbrev Moved : Scheme → State → State → Outcome → Type 0
 Moved v s t o = (next_bodies v.device t ≡ next_bodies v.device s)
     ⊎ ((is_stall o ≡ false) × (s.entry_number ≡ 0) × (b : List ℕ) × (next_bodies v.device s ≡ b ∷ next_bodies v.device t))
@@ -129,7 +129,7 @@ module _ {B : Type 0} (batches : B → List (List ℕ) → BatchOutcome → List
     | inr (inr (inr takes)) ↦ takes.none
   ]
 
-  -- the end of the messages before is the end of those that are left
+  -- what was the end of the messages before the call is the end of those that are left
 
   same_end : (all before : List (List ℕ)) → all ≡ before ++ bodies_of l.ahead → m.ahead ≡ l.ahead → Ends all (bodies_of m.ahead)
   same_end all before next same = (before, next ∙ ap (λ (ahead : List Exchange). before ++ bodies_of ahead) (sym same))

@@ -52,7 +52,7 @@ still_under_way v s t first session c words x h step =
     let on : GoesOn s t = subst (GoesOn s) (sym same) (submitted_goes_on v s y refusal h.waits) in
     record { waits = on.waits; sends = h.sends ∙ ap (λ (m : List ℕ). m ∷ []) (sym on.message); none = h.none }
 
--- a command is accepted with the next ticket and waits behind those before, or nothing changes
+-- a command is accepted with the next ticket and waits after those before, or nothing changes
 accepted_or_not : (v : Scheme) (s t : State) (session : ℕ) (c : Command) (words : List ℕ) (x : Shown) → Steps v s (Submit session c words) x t
     → ((x.note ≡ Accepted s.next) × (length t.queue ≡ length s.queue + 1)) ⊎ ((is_accepted x.note ≡ false) × (t ≡ s))
 accepted_or_not v s t session c words x step =

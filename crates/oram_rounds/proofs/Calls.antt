@@ -170,7 +170,7 @@ module _ (v : Scheme) (host later : Host) (held : List (List ℕ)) (c : CatchesU
         apart = λ p. no_pair_by (holds_path v.device (record_len v) f.tree f.leaf answer) answer given refl over lie.apart (pair_at later given p);
       }
 
-  -- the host later may refuse for want of room, and a host that may lie may answer anything that is no path
+  -- the host later may refuse for lack of room, and a host that may lie may answer anything that is no path
 
   pub refuses_later : Serves later body (Refused 8) later
   refuses_later = gives (Refused 8) (refuses_fetch v f.tree f.leaf (left_by v c.records held f.tree) later there f.leaf_in)

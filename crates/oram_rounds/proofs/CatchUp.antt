@@ -131,7 +131,7 @@ acked_catches may_lie v (body ∷ kept) held (ack ∷ acks) host after later cou
     acked_catches may_lie v kept held acks run.0 after later (omega (arith, count)) done.1 run.2
     (record { records = records_after v c.records (body ∷ []); keeps = keeps; paths = c.paths.1; ahead = c.ahead })
 
--- a STORE that is put to those that wait
+-- a STORE that is added to those that wait
 
 paths_more : (v : Scheme) (stores : List (List ℕ)) (body : List ℕ) → ArePathStores v.device (record_len v) stores → IsPathStore v.device (record_len v) body
     → ArePathStores v.device (record_len v) (stores ++ body ∷ [])

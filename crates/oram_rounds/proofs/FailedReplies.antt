@@ -17,7 +17,7 @@ use Rattle.oram_core.specs.PlainSteps.{Done, finished_by}
 use Rattle.oram_core.specs.Steps.{Heard}
 use Rattle.oram_session.specs.Honesty.{HasFailed}
 
--- the reply says that the device has failed only where it has
+-- the reply says that the device has failed only if the core has failed
 abbrev pub IsOfFailed : State → Reply → Type 0
 IsOfFailed s reply = reply.body ≡ Failed → HasFailed s
 
@@ -45,6 +45,6 @@ waits_unfailed s waits failed =
     let both = sym over ∙ waits in
     cc
 
--- so the replies before say so of no core
+-- so no earlier reply says that the device has failed, whatever becomes of the core
 pub still_of_failed : (s t : State) (replies : List Reply) → status_in s ≡ Waiting → All (IsOfFailed s) replies → All (IsOfFailed t) replies
 still_of_failed s t replies waits all = λ k x lt says. absurd (waits_unfailed s waits (all k x lt says))

@@ -19,7 +19,7 @@ use Rattle.oram_rounds.proofs.Sent.{all_among, answered_among, batch_among}
 use Rattle.oram_rounds.proofs.Tries.{among_front, answered_join}
 use Rattle.oram_rounds.proofs.Unchanged.{fetch_same, none_ahead, run_same}
 
--- what goes ahead are tries of the STOREs that are kept, and of the FETCHes behind them
+-- what goes ahead are tries of the STOREs that are kept, and of the FETCHes after them
 pub ahead_sent : {B : Type 0} (batches : B → List (List ℕ) → BatchOutcome → List Exchange → B → Type 0) → AreBatches batches → (l m : Round B) (fetches : List (List ℕ)) (exchanges : List Exchange)
     → WentAhead batches l fetches exchanges m → AreSentAhead l fetches exchanges
 ahead_sent batches are l m fetches exchanges went = elim went.does [
@@ -37,7 +37,7 @@ ahead_fewer {B} batches l m fetches exchanges went b among = elim went.does [ in
     by (Err fault) g = subst (IsAmong b) g.0 among
     by (Ok answers) g = elim g.either [ inl done ↦ absurd (subst (IsAmong b) done.1 among) | inr refused ↦ subst (IsAmong b) refused.0 among ]
 
--- STOREs that wait and FETCHes behind them
+-- STOREs that wait and FETCHes after them
 pub all_sent : (v : Scheme) (stores kept fetches : List (List ℕ)) → ((x : List ℕ) → IsAmong x kept → IsAmong x stores) → AllByRecursion (IsPathFetch v.device) fetches
     → AllByRecursion (IsWaitingOrFetch v stores) (kept ++ fetches)
 all_sent v stores [] [] inside paths = tt

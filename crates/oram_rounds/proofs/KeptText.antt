@@ -1,4 +1,4 @@
--- A file has one list of STOREs, and one core behind them.
+-- A file has one list of STOREs, and one core after them.
 use Rattle.std.proofs.Common.{◌≡◌, ◌≢◌, ℕ, ◌+◌, ◌-◌, ◌<◌, ◌≤◌, ◌^◌, arith, List, [], ◌∷◌, ◌++◌, length, drop, take, refl, sym, ap, ◌∙◌, subst, append_assoc, length-append}
 use Rattle.std.specs.Int.{w64, from_be_bytes, to_be_bytes}
 use Rattle.std.specs.List.{AllByRecursion, flat_map}
@@ -29,7 +29,7 @@ number_end bytes rest number n fit front back len is =
     let fits : IsBytes number = subst IsBytes (sym back) (IsBytes-drop at bytes fit) in
     whole ∙ ap (λ (b : List ℕ). rest ++ b) (sym (be_bytes_8 number n eight fits is))
 
--- two texts with numbers behind them
+-- two texts with numbers after them
 ends_same : (a b : List ℕ) (m n : ℕ) → a ++ to_be_bytes w64 m ≡ b ++ to_be_bytes w64 n → (a ≡ b) × (to_be_bytes w64 m ≡ to_be_bytes w64 n)
 ends_same a b m n e =
     let eight : (k : ℕ) → length (to_be_bytes w64 k) ≡ 8 = λ k. refl in
@@ -40,7 +40,7 @@ ends_same a b m n e =
 pub sums_same : (text other : List ℕ) → with_checksum text ≡ with_checksum other → text ≡ other
 sums_same text other e = (ends_same text other (checksum text) (checksum other) e).0
 
--- a text with another number behind it is no text with its checksum
+-- a text with another number after it is no text with its checksum
 pub other_sum : (file text : List ℕ) (number check : ℕ) → file ≡ text ++ to_be_bytes w64 number → check ≡ checksum text → number < 2 ^ 64 → check < 2 ^ 64 → number ≢ check
     → (other : List ℕ) → file ≢ with_checksum other
 other_sum file text number check is sum low low_check apart other e =
@@ -107,7 +107,7 @@ texts_same xs ys r t counted_x counted_y e =
     nothing_more [] = refl
     nothing_more (z ∷ zs) = ap (λ (bs : List (List ℕ)). z ∷ bs) (nothing_more zs)
 
--- where no STORE stands behind the first ones, fewer than are announced, the text is that of no list
+-- if no STORE follows the first ones, and these are fewer than announced, the text is that of no list
 pub torn_here : (bytes : List ℕ) (count : ℕ) (stores : List (List ℕ)) (rest : List ℕ) → count < 2 ^ 64
     → bytes ≡ to_be_bytes w64 count ++ (flat_map store_text stores ++ rest) → AreShort stores → length stores < count
     → ((s r : List ℕ) → length s < 2 ^ 64 → rest ≢ store_text s ++ r)

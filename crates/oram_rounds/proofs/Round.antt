@@ -36,7 +36,7 @@ second_true : (a b : Bool) → (a && b) ≡ true → b ≡ true
 second_true true b e = e
 second_true false b e = absurd cc
 
--- what a batch of STOREs and a FETCH behind them sends is one of those STOREs, or that FETCH
+-- what a batch of STOREs and a FETCH after them sends is one of those STOREs, or that FETCH
 
 among_more : (b : List ℕ) (kept held : List (List ℕ)) → IsAmong b kept → IsAmong b (kept ++ held)
 among_more b [] held among = absurd among
@@ -135,7 +135,7 @@ module _ {B : Type 0} (batches : B → List (List ℕ) → BatchOutcome → List
     acks_sent (b ∷ kept) [] inside = tt
     acks_sent (b ∷ kept) (a ∷ acks) inside = (inl (among_more b l.kept l.held (inside b (inl refl))), acks_sent kept acks (λ x k. inside x (inr k)))
 
-    -- what the FETCH behind acknowledged STOREs gives
+    -- what the FETCH after acknowledged STOREs gives
     given_to : (at : Host) → CatchesUp v at l.held later → (answer given : List ℕ) (next : Host) → IsPlainCall may_lie v at body (Ok answer) next
         → IsOverlaid v.device (record_len v) f.tree f.leaf l.held answer given → IsHeardCall may_lie v later body (Ok given) later
     given_to at held answer given next (inl honest) over = inl (honest_later v at later l.held held body f answer given next honest over)
@@ -227,7 +227,7 @@ module _ {B : Type 0} (batches : B → List (List ℕ) → BatchOutcome → List
       by (Ok answers) batch g = answered_fetch h.path (stocked h.path) answers g h.held batch.0 batch.1 batch.2 batch.3
 
   module _ (a : AreAhead may_lie v host l) where
-    -- the answer that is taken is the host's of now, and no STORE is kept
+    -- the answer that is taken is the one that the host gives now, and no STORE is kept
 
     unkept : TakesAhead batches v.device (record_len v) l body o exchanges m → l.kept ≡ []
     unkept t = elim a.alone [ inl none ↦ absurd (let both : [] ≡ (body, Ok t.answer) ∷ m.ahead = sym none ∙ t.next in cc) | inr none ↦ none ]
@@ -251,7 +251,7 @@ module _ {B : Type 0} (batches : B → List (List ℕ) → BatchOutcome → List
     becomes stocked (inr (inr (inl d))) = declined d
     becomes stocked (inr (inr (inr t))) = taken_ahead stocked t
 
-    -- where no STORE is kept, a FETCH leaves the host as it is
+    -- if no STORE is kept, a FETCH leaves the host as it is
 
     still_unkept : Fetches batches v.device (record_len v) l body o exchanges m → l.kept ≡ [] → m.kept ≡ []
     still_unkept h none = by h.outcome h.path h.gives

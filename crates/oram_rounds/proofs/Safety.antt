@@ -78,7 +78,7 @@ module _ (may_lie : Bool) (v : Scheme) where
       → WillHoldAfter may_lie v core stores host array → WillHoldAfter may_lie v core stores after array
   will_hold_on core stores host after array exchanges all run w = (w.0, run_catches v stores w.0 may_lie exchanges host after all run w.1, w.2)
 
-  -- The host has had tries of STOREs that are kept and of FETCHes behind them.
+  -- The host has had tries of STOREs that are kept and of FETCHes after them.
   pub kept_on : (d : Sizes) (sent later fetches : List (List ℕ)) (bytes : List ℕ) (host after : Host) (before array : ℕ → List ℕ) (exchanges : List Exchange) → d ≡ v.device
       → (exchanges ≡ []) ⊎ (AllByRecursion (IsPathFetch d) fetches × AreAmong (bodies_of exchanges) (sent ++ fetches)) → ((b : List ℕ) → IsAmong b later → IsAmong b sent)
       → PlainRun may_lie v host exchanges after → IsKept may_lie v sent bytes host before array → IsKept may_lie v later bytes after before array
@@ -105,7 +105,7 @@ module _ (may_lie : Bool) (v : Scheme) where
         ];
       }
 
--- one FETCH behind the STOREs that are kept
+-- one FETCH after the STOREs that are kept
 as_ahead : {B : Type 0} (l : Round B) (message : List ℕ) (exchanges : List Exchange) → IsSent l message exchanges → AreSentAhead l (message ∷ []) exchanges
 as_ahead l message exchanges (inl none) = inl none
 as_ahead l message exchanges (inr fetch) = inr ((fetch.0, tt), fetch.1)

@@ -44,7 +44,7 @@ module _ (v : Scheme) (e : HostedEvent) (on : GoesOnHosted v e) where
     hosts = on.hosts;
   }
 
-  -- what happens to the queue: nothing where there is no reply, and else the oldest command leaves it
+  -- what happens to the queue: nothing if there is no reply; otherwise the oldest command leaves it
   abbrev QueueMoves : Type 0
   QueueMoves = ((e.shown.replies ≡ []) × (e.after.queue ≡ e.before.queue))
       ⊎ ((y : Submission) × (rest : List Submission) × (e.before.queue ≡ y ∷ rest) × (e.shown.replies ≢ []) × (e.after.queue ≡ rest))

@@ -116,7 +116,7 @@ module _ {B : Type 0} (batches : B → List (List ℕ) → BatchOutcome → List
         | inr after ↦ (x.replies, delivered x.stalls x.last p.0 q.0 p.1 q.1 x.message x.replies waits.0 cut.message cut.stalls cut.link after)
       ]
 
-  -- a keeper that stands beside stays as it is
+  -- the keeper of the process stays as it is
   pub talks_beside : {K : Type 0} (reads_back : K → List ℕ → Type 0) (keeper : K) (acts : List Act) (p q : Side) → TalksAll v batches p acts q
       → DoesAll v batches reads_back (record { core = p.0; link = p.1; keeper = keeper }) acts (record { core = q.0; link = q.1; keeper = keeper })
   talks_beside {K} reads_back keeper [] p q all =

@@ -65,7 +65,7 @@ module _ {L : Type 0} (calls : L → List ℕ → Outcome → L → Type 0) wher
   pub answered_tried : (bodies answers : List (List ℕ)) (l m : L) → LinkRun calls l (answered bodies answers) m → HasTried bodies l m
   answered_tried bodies answers l m run = (answered bodies answers, run, answered_among bodies answers bodies (λ x k. k))
 
-  -- messages behind others that were answered
+  -- messages after others that were answered
   pub more_tried : (front last answers : List (List ℕ)) (l m n : L) → LinkRun calls l (answered front answers) m → HasTried last m n → HasTried (front ++ last) l n
   more_tried front last answers l m n run tried = (
     answered front answers ++ tried.0,

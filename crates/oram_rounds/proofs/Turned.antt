@@ -1,4 +1,4 @@
--- The answers to STOREs and those to the FETCHes behind them, told apart by the number of STOREs.
+-- The answers to STOREs and those to the FETCHes after them, told apart by the number of STOREs.
 use Rattle.std.proofs.Common.{◌≡◌, ℕ, ◌+◌, ◌≤◌, arith, List, ◌++◌, length, take, drop, sym, ap, ◌∙◌}
 use Rattle.std.specs.Global.{Vec}
 use Rattle.std.proofs.Math.Seq.{take-append_seam}

@@ -23,8 +23,8 @@ answered [] answers = []
 answered (body ∷ bodies) [] = []
 answered (body ∷ bodies) (answer ∷ answers) = (body, Ok answer) ∷ answered bodies answers
 
--- The exchanges of a batch with this outcome: tries of its messages, which may come to anything; and if there are
--- answers, each message once more, with its answer.
+-- The exchanges of a batch with this outcome: tries of its messages, with any outcomes; and if there are answers, each
+-- message once more, with its answer.
 abbrev pub IsBatch : List (List ℕ) → BatchOutcome → List Exchange → Type 0
 IsBatch bodies (Ok answers) exchanges =
     (length answers ≡ length bodies) × (tries : List Exchange) × AreAmong (bodies_of tries) bodies × (exchanges ≡ tries ++ answered bodies answers)

@@ -48,7 +48,7 @@ pub record IsPlainLie (v : Scheme) (host : Host) (message bytes : List ℕ) (aft
   pub room : answer ≢ Refused 8
   pub apart : ¬ ShowsTwin v host message bytes
 
--- a call gives the honest host's answer, or a lie, where the host may lie
+-- a call gives the honest host's answer, or a lie if the host may lie
 abbrev pub IsPlainCall : Bool → Scheme → Host → List ℕ → Outcome → Host → Type 0
 IsPlainCall may_lie v host body o after =
     IsHonestCall host body o after ⊎ ((may_lie ≡ true) × (bytes : List ℕ) × (o ≡ Ok bytes) × IsPlainLie v host body bytes after)

@@ -34,11 +34,11 @@ one_waits = record {
 abbrev pub zeros_fetched : List Exchange
 zeros_fetched = (fetch_body 0 0, Ok (payload_answer (replicate 88 0))) ∷ []
 
--- the same, where the FETCH has gone ahead
+-- the same, once the FETCH has gone ahead
 abbrev pub one_ahead : Round ToServer
 one_ahead = record one_waits { ahead = zeros_fetched }
 
--- Once the STORE is carried out, the host keeps the ones; so the FETCH is answered with the ones, also where it went ahead.
+-- Once the STORE is carried out, the host keeps the ones; so the FETCH is answered with the ones, even if it went ahead.
 abbrev pub OneWaitsExample : Type 0
 OneWaitsExample = AreBatches DirectBatches
     × ((later : Host) × CatchesUp one_block new_host (waiting one_waits) later × IsStocked one_block later)

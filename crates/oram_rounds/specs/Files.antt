@@ -1,4 +1,4 @@
--- What is kept of a process: the STOREs that wait, the core behind them, and a checksum.
+-- What is kept of a process: the STOREs that wait, the core after them, and a checksum.
 use Rattle.std.specs.Prelude.{◌≡◌, ℕ, ◌<◌, ◌^◌, List, ◌++◌, length}
 use Rattle.std.specs.Hash.DefaultHasher as sip
 use Rattle.std.specs.Int.{w64, to_be_bytes}
@@ -8,7 +8,7 @@ use Rattle.oram_semantics.specs.Scheme.{Scheme}
 use Rattle.oram_semantics.specs.State.{State}
 use Rattle.oram_state.specs.DecodedCore.{AreSavedFields}
 
--- a STORE behind its length in eight bytes
+-- a STORE after its length in eight bytes
 abbrev pub store_text : List ℕ → List ℕ
 store_text store = to_be_bytes w64 (length store) ++ store
 

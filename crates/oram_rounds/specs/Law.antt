@@ -14,7 +14,7 @@ use Rattle.oram_rounds.specs.CatchUp.{CatchesUp, IsPlainCall, PlainRun}
 use Rattle.oram_rounds.specs.PathMessages.{IsPathFetch}
 use Rattle.oram_rounds.specs.Rounds.{Round, RoundCall, WentAhead, waiting}
 
--- each batch has the exchanges of a batch
+-- each batch has exchanges such as `IsBatch` allows
 abbrev pub AreBatches : {B : Type 0} → (B → List (List ℕ) → BatchOutcome → List Exchange → B → Type 0) → Type 0
 AreBatches {B} batches = (l m : B) (bodies : List (List ℕ)) (o : BatchOutcome) (exchanges : List Exchange) → batches l bodies o exchanges m → IsBatch bodies o exchanges
 
@@ -23,7 +23,7 @@ abbrev pub IsStocked : Scheme → Host → Type 0
 IsStocked v host = (records : ℕ → ℕ → List ℕ) × KeepsAll v records host
     × ((i n : ℕ) → i < trees_of v.device → n < node_count (depth_of v.device i) → length (records i n) ≡ record_len v)
 
--- the host gives this answer to this FETCH now, or tells a lie about it, where it may lie
+-- the host gives this answer to this FETCH now, or tells a lie about it, if it may lie
 abbrev pub IsFetchNow : Bool → Scheme → Host → Exchange → Type 0
 IsFetchNow may_lie v host e = IsPathFetch v.device e.0 × ((after : Host) × IsPlainCall may_lie v host e.0 e.1 after)
 
@@ -32,9 +32,9 @@ pub record AreAhead (may_lie : Bool) (v : Scheme) (host : Host) {B : Type 0} (l 
   pub each : AllByRecursion (IsFetchNow may_lie v host) l.ahead
   pub alone : (l.ahead ≡ []) ⊎ (l.kept ≡ [])
 
--- A host is beside the exchanges of a call, honest or one that may lie, and catches up by the STOREs that wait; it gives
--- the answers that went ahead. Then the call is one of the host as it will be: that host gives the answer, or tells the lie;
--- and afterwards the host beside catches up again, and gives the answers that are still ahead.
+-- A host goes through the exchanges of a call, and is honest or may lie. It catches up by the STOREs that wait, and gives the
+-- answers to the FETCHes that went ahead. Then the call is one of the host as it will be: that host gives the answer, or tells
+-- the lie. Afterwards the host beside the link catches up again, and gives the answers that are still ahead.
 abbrev pub CallsAreOfTheHostLater : {B : Type 0} → (B → List (List ℕ) → BatchOutcome → List Exchange → B → Type 0) → Type 0
 CallsAreOfTheHostLater {B} batches = AreBatches batches
     → (may_lie : Bool) (v : Scheme) (l m : Round B) (body : List ℕ) (o : Outcome) (exchanges : List Exchange) (host after later : Host)
@@ -42,8 +42,8 @@ CallsAreOfTheHostLater {B} batches = AreBatches batches
     → RoundCall batches l body o exchanges m → PlainRun may_lie v host exchanges after
     → (next : Host) × CatchesUp v after (waiting m) next × IsHeardCall may_lie v later body o next × AreAhead may_lie v after m
 
--- STOREs that are kept and FETCHes behind them are sent ahead. Then the host beside catches up to what it would have
--- caught up to before, and gives the answers that are ahead now.
+-- STOREs that are kept and FETCHes after them are sent ahead. Then the host beside the link catches up to what it
+-- would have caught up to before, and gives the answers that are ahead now.
 abbrev pub AheadIsOfTheHost : {B : Type 0} → (B → List (List ℕ) → BatchOutcome → List Exchange → B → Type 0) → Type 0
 AheadIsOfTheHost {B} batches = AreBatches batches
     → (may_lie : Bool) (v : Scheme) (l m : Round B) (fetches : List (List ℕ)) (exchanges : List Exchange) (host after later : Host)

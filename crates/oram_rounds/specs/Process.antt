@@ -85,8 +85,8 @@ IsResumption Round acts = (x y : Shown) × (round : List Act) × (acts ≡ Hears
 abbrev pub IsBrokenResumption : List Act → Type 0
 IsBrokenResumption acts = ((x : Shown) × (acts ≡ Hears Reopen x ∷ [])) ⊎ IsResumption IsBrokenRound acts
 
--- Nothing of the message has gone to the host; or it is a FETCH, and the host has received only it and kept STOREs, each perhaps
--- several times.
+-- Nothing of the message has gone to the host; or it is a FETCH, and the host has received only this FETCH and kept STOREs,
+-- each perhaps several times.
 abbrev pub IsSent : {B : Type 0} → Round B → List ℕ → List Exchange → Type 0
 IsSent l message exchanges = (exchanges ≡ []) ⊎ (IsPathFetch l.device message × AreAmong (bodies_of exchanges) (l.kept ++ message ∷ []))
 
@@ -115,7 +115,7 @@ module _ (v : Scheme) {B : Type 0} (batches : B → List (List ℕ) → BatchOut
   abbrev pub TalksAll : State × Round B → List Act → State × Round B → Type 0
   TalksAll p acts q = FoldsTo {P = State × Round B} Talks p acts q
 
-  -- they do some of this, and the core replies so meanwhile
+  -- a core and its link do some acts, and these are the replies of the core meanwhile
   pub record HasTalked (p : State × Round B) (replies : List Reply) (q : State × Round B) : Type 0 where
     pub acts : List Act
     pub talks : TalksAll p acts q
@@ -154,7 +154,7 @@ module _ (v : Scheme) {B K : Type 0} (batches : B → List (List ℕ) → BatchO
 
 module _ (may_lie : Bool) (v : Scheme) where
   -- The bytes have a core that will hold one of two arrays, once the host has carried out the STOREs that they have. All that
-  -- the host may still receive is among these.
+  -- the host may still receive is among these STOREs.
   pub record IsKept (sent : List (List ℕ)) (bytes : List ℕ) (host : Host) (before array : ℕ → List ℕ) : Type 0 where
     pub stores : List (List ℕ)
     pub core : State
@@ -180,8 +180,8 @@ earlier (Calls o exchanges x ∷ acts) before array = earlier acts before array
 earlier (Misses o exchanges ∷ acts) before array = earlier acts before array
 earlier (GoesAhead exchanges ∷ acts) before array = earlier acts before array
 
--- Whatever a process does, over a host that is honest or may lie, the device will hold the array. What is read back will hold it
--- too, or the array from before the last keeping.
+-- Whatever a process does, over a host that is honest or may lie, the device will hold the array. What is read back will hold
+-- it too, or the array from before the last keeping.
 abbrev pub ActsAreSafe : {B K : Type 0} → (B → List (List ℕ) → BatchOutcome → List Exchange → B → Type 0) → (K → List ℕ → Type 0) → Type 0
 ActsAreSafe {B} {K} batches reads_back = AreBatches batches
     → (may_lie : Bool) (v : Scheme) (acts : List Act) (p q : Process B K) (host after : Host) (before array : ℕ → List ℕ) → IsDevice v.device
@@ -203,8 +203,8 @@ begun inner v stores core keeper = record {
   keeper = keeper;
 }
 
--- Where nothing else is read back than what a process begins with, the device will hold the one array or the other, and so
--- will what is read back.
+-- If nothing else is read back than what a process begins with, the device will hold the one array or the other, and so will
+-- what is read back.
 abbrev pub BegunIsSafe : (B : Type 0) {K : Type 0} → (K → List ℕ → Type 0) → Type 0
 BegunIsSafe B {K} reads_back = (may_lie : Bool) (v : Scheme) (inner : B) (stores : List (List ℕ)) (core : State) (keeper : K) (bytes : List ℕ) (host : Host) (before array : ℕ → List ℕ)
     → (k : IsKept may_lie v [] bytes host before array) → k.stores ≡ stores → k.core ≡ core → ((other : List ℕ) → reads_back keeper other → other ≡ bytes)
@@ -220,7 +220,7 @@ pub record HaveReplies {B K : Type 0} (may_lie : Bool) (v : Scheme) (p : Process
   pub goes_on : IsGoingOn may_lie v q host now
   pub replied : AreReplied v.device (array, p.core.queue) replies (now, q.core.queue)
 
--- Or the device fails: some have the array's replies, and all others are answered as failed.
+-- Or the device fails: some commands have the array's replies, and all others are answered as failed.
 pub record HaveFailed {B K : Type 0} (may_lie : Bool) (v : Scheme) (p : Process B K) (array : ℕ → List ℕ) (replies : List Reply) (q : Process B K) : Type 0 where
   pub lies : may_lie ≡ true
   pub failed : HasFailed q.core

@@ -27,7 +27,7 @@ pub record Round (B : Type 0) : Type 0 where
 abbrev pub waiting : {B : Type 0} → Round B → List (List ℕ)
 waiting l = l.kept ++ l.held
 
--- what the core receives where the host doesn't acknowledge a STORE: the host's refusal, or no bytes
+-- what the core receives if the host doesn't acknowledge a STORE: the host's refusal, or no bytes
 abbrev pub is_refusal_body : List ℕ → Bool
 is_refusal_body answer = (length answer == 2) && (slice_index answer 0 == REFUSED)
 
@@ -46,7 +46,7 @@ IsFirstAhead (e ∷ rest) body = e.0 ≡ body
 -- over a link whose batches have this relation (the bodies, the outcome, and the exchanges with the host), for a device
 -- with records of this length
 module _ {B : Type 0} (batches : B → List (List ℕ) → BatchOutcome → List Exchange → B → Type 0) (d : Sizes) (record_len : ℕ) where
-  -- a STORE is put to those that wait, and answered at once
+  -- a STORE is added to those that wait, and answered at once
   pub record HoldsBack (l : Round B) (body : List ℕ) (o : Outcome) (exchanges : List Exchange) (m : Round B) : Type 0 where
     pub path : IsPathStore d record_len body
     pub answer : o ≡ Ok done_answer
@@ -56,7 +56,7 @@ module _ {B : Type 0} (batches : B → List (List ℕ) → BatchOutcome → List
     pub held : m.held ≡ l.held ++ body ∷ []
     pub ahead : m.ahead ≡ l.ahead
 
-  -- the answers to the STOREs that were kept, and the one to the FETCH behind them
+  -- the answers to the STOREs that were kept, and the one to the FETCH after them
   pub record Gives (l : Round B) {body : List ℕ} (fetch : IsPathFetch d body) (answers : List (List ℕ)) (o : Outcome) (m : Round B) : Type 0 where
     pub acks : List (List ℕ)
     pub answer : List ℕ
@@ -65,7 +65,7 @@ module _ {B : Type 0} (batches : B → List (List ℕ) → BatchOutcome → List
         (AreDone acks × (m.kept ≡ []) × (given : List ℕ) × (o ≡ Ok given) × IsOverlaid d record_len fetch.tree fetch.leaf l.held answer given)
         ⊎ ((m.kept ≡ l.kept) × (refusal : List ℕ) × IsAmong refusal acks × (refusal ≢ done_answer) × (o ≡ Ok (refused_with refusal)))
 
-  -- a FETCH that isn't the first one ahead goes to the host behind the STOREs that are kept
+  -- a FETCH that isn't the first one ahead goes to the host after the STOREs that are kept
   pub record Fetches (l : Round B) (body : List ℕ) (o : Outcome) (exchanges : List Exchange) (m : Round B) : Type 0 where
     pub path : IsPathFetch d body
     pub not_ahead : ¬ IsFirstAhead l.ahead body
@@ -103,7 +103,7 @@ module _ {B : Type 0} (batches : B → List (List ℕ) → BatchOutcome → List
   abbrev pub Does : Round B → List ℕ → Outcome → List Exchange → Round B → Type 0
   Does l body o exchanges m = HoldsBack l body o exchanges m ⊎ (Fetches l body o exchanges m ⊎ (Declines l body o exchanges m ⊎ TakesAhead l body o exchanges m))
 
-  -- The answers to the STOREs that were kept, and those to the FETCHes behind them. Unless each STORE was carried out, nothing
+  -- The answers to the STOREs that were kept, and those to the FETCHes after them. Unless each STORE was carried out, nothing
   -- is ahead.
   pub record GivesAhead (l : Round B) (fetches answers : List (List ℕ)) (m : Round B) : Type 0 where
     pub acks : List (List ℕ)
@@ -112,7 +112,7 @@ module _ {B : Type 0} (batches : B → List (List ℕ) → BatchOutcome → List
     pub count : length acks ≡ length l.kept
     pub either : (AreDone acks × (m.kept ≡ []) × (m.ahead ≡ answered fetches given)) ⊎ ((m.kept ≡ l.kept) × (m.ahead ≡ []))
 
-  -- one FETCH or more go to the host behind the STOREs that are kept, before the core asks for them
+  -- one or more FETCHes go to the host after the STOREs that are kept, before the core asks for them
   pub record SendsAhead (l : Round B) (fetches : List (List ℕ)) (exchanges : List Exchange) (m : Round B) : Type 0 where
     pub some : fetches ≢ []
     pub paths : AllByRecursion (IsPathFetch d) fetches
@@ -140,7 +140,7 @@ pub record WentAhead {B : Type 0} (batches : B → List (List ℕ) → BatchOutc
   pub held : m.held ≡ l.held
   pub does : SendsAhead batches l.device l.record_len l fetches exchanges m ⊎ SendsNone batches l.device l.record_len l fetches exchanges m
 
--- such a call, with some exchanges; the number of faults rises where the call has one
+-- such a call, with some exchanges; the number of faults rises if the call has one
 pub record IsCounted {B : Type 0} (batches : B → List (List ℕ) → BatchOutcome → List Exchange → B → Type 0) (l : Round B) (body : List ℕ) (o : Outcome) (m : Round B) : Type 0 where
   pub exchanges : List Exchange
   pub call : RoundCall batches l body o exchanges m

@@ -38,12 +38,13 @@ abbrev pub after_all : Sizes → List Submission → (ℕ → List ℕ) → ℕ 
 after_all d [] array = array
 after_all d (x ∷ queue) array = after_all d queue (array_after d x.command array)
 
--- The device will hold this array once all commands that wait are carried out. Where the host may lie, it may have failed.
+-- The device will hold this array once all commands that wait are carried out. If the host may lie, the device
+-- may also have failed.
 abbrev pub WillHold : Bool → Scheme → State → Host → (ℕ → List ℕ) → Type 0
 WillHold may_lie v s host array =
     ((before : ℕ → List ℕ) × IsServed v s host before × (after_all v.device s.queue before ≡ array))
     ⊎ ((may_lie ≡ true) × HasFailed s)
 
--- the same, where the host has some STOREs still to carry out
+-- the same, if the host still has some STOREs to carry out
 abbrev pub WillHoldAfter : Bool → Scheme → State → List (List ℕ) → Host → (ℕ → List ℕ) → Type 0
 WillHoldAfter may_lie v s stores host array = (later : Host) × CatchesUp v host stores later × WillHold may_lie v s later array

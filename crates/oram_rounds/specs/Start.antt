@@ -25,7 +25,7 @@ pub record SubmittedCommand : Type 0 where
   pub words : List ℕ
   pub shown : Shown
 
--- the array after the command if the core accepted it, else the array unchanged
+-- the array after the command if the core accepted it, otherwise the array unchanged
 abbrev pub array_if : Note → Sizes → Command → (ℕ → List ℕ) → ℕ → List ℕ
 array_if (Accepted ticket) d c array = array_after d c array
 array_if (Refused e) d c array = array
@@ -57,15 +57,15 @@ abbrev pub SubmittedToProcesses : Type 0 → Type 0 → Type 0
 SubmittedToProcesses B K = (v : Scheme) (words : ℕ → ℕ → List ℕ) (session : ℕ) (submitted : List SubmittedCommand) (s t : State) (l : Round B) (k : K) → AreSubmitted v words session s submitted t
     → FoldsTo {P = Process B K} (Submits v) (process s l k) submitted (process t l k)
 
--- Where the device will hold an array, and whatever is read back will hold it too, commands are submitted. Then the device
--- will hold the array after those that were accepted, and what is read back the array before them.
+-- The device will hold an array, whatever is read back will hold it too, and commands are submitted. Then the device will hold
+-- the array after those that were accepted, and what is read back will hold the array before them.
 abbrev pub SubmittedIsSafe : (B : Type 0) {K : Type 0} → (K → List ℕ → Type 0) → Type 0
 SubmittedIsSafe B {K} reads_back = (may_lie : Bool) (v : Scheme) (submitted : List SubmittedCommand) (p q : Process B K) (host : Host) (array : ℕ → List ℕ) → IsDevice v.device
     → IsSafe may_lie v reads_back p host array array → FoldsTo {P = Process B K} (Submits v) p submitted q
     → IsSafe may_lie v reads_back q host array (array_with v.device submitted array)
 
--- Where a device is held by a host, as it is once it has been formatted, and its core is what is read back, a process
--- that begins with this core is safe.
+-- If a device is held by a host, as it is once it has been formatted, and its core is what is read back, a process that begins
+-- with this core is safe.
 abbrev pub HeldIsSafe : (B : Type 0) {K : Type 0} → (K → List ℕ → Type 0) → Type 0
 HeldIsSafe B {K} reads_back = (may_lie : Bool) (v : Scheme) (inner : B) (core : State) (keeper : K) (host : Host) (array : ℕ → List ℕ) → IsHeldBy v core host array
     → ((bytes : List ℕ) → reads_back keeper bytes → IsFile v bytes [] core) → IsSafe may_lie v reads_back (begun inner v [] core keeper) host array array

@@ -25,7 +25,7 @@ impl Model for FetchedAhead {
 }
 
 impl FetchedAhead {
-    /// Returns no FETCHes.
+    /// Returns an empty list of FETCHes.
     pub fn none(alloc: Global) -> FetchedAhead
         ensures { result ≡ [] }
     {

@@ -14,7 +14,8 @@ pub trait BatchLink {
     ghost batches: { Self → List (List ℕ) → BatchOutcome → List Exchange → Self → Type 0 };
 
     /// Sends the bodies of `first` and then those of `last` to the host, in this order, and returns their answers in the same
-    /// order. Fails if an answer is missing; the host may then have received any of the bodies, and some of them more than once.
+    /// order. Fails if an answer is missing; the host may then have received any of the bodies, and some of them more than
+    /// once.
     fn call_all(
         &mut self,
         alloc: Global,

@@ -17,8 +17,8 @@ use oram_host::ServeFault;
 use oram_session::{Link, LinkFault};
 use std::alloc::{AllocError, Global};
 
-/// Calls the link once with `message`, and gives the outcome to the core: the answer, or a loss if the call failed. Want of
-/// memory is no loss: it ends the attempt, and the core hears nothing.
+/// Calls the link once with `message`, and gives the outcome to the core: the answer, or a loss if the call failed. Running out
+/// of memory isn't a loss: it ends the attempt, and the core is told nothing.
 fn attempt<S: Sealer, L: Link>(
     alloc: Global,
     core: &mut Core<S>,
@@ -39,9 +39,9 @@ fn attempt<S: Sealer, L: Link>(
     core.step(alloc, &event)
 }
 
-/// Sends the outstanding message until it is answered, and sends it again at most `most` times, as `exchange` in
+/// Sends the outstanding message until it is answered, and sends it again at most `most` times, like `exchange` in
 /// `oram_session`. But if memory runs out in the link, the message doesn't count as lost: that ends the delivery. Sessions of
-/// `oramd` count each fault of their link as a loss, also this one, so the two functions stay apart.
+/// `oramd` count each fault of their link as a loss, including this one, so the two functions are kept apart.
 ///
 /// Fails with `Stalled` if every call had a fault or found the host without room. The core's last message then counts as
 /// lost.

@@ -22,7 +22,7 @@ use std::alloc::Global;
 /// Exchanges messages until each command at work has its reply, and returns the replies in order. A message that stalls is
 /// sent again, three times at most.
 ///
-/// Fails with `Stalled` if a message stalled each time, and with `OutOfMemory` if memory ran out, also in the link. Whatever
+/// Fails with `Stalled` if a message stalled each time, and with `OutOfMemory` if memory ran out, here or in the link. Whatever
 /// the fault, replies that came before it are dropped.
 pub fn carry_out_all<S: Sealer, B: BatchLink>(
     alloc: Global,

@@ -1,11 +1,11 @@
 //! What is kept of a process, as bytes.
 //!
-//! A file has the STOREs that wait, the oldest first, and the core behind them: the number of STOREs in eight bytes, each
-//! STORE behind its length in eight bytes, the fields of the core's state file, and a checksum of all this in eight bytes. All
+//! A file has the STOREs that wait, the oldest first, and the core after them: the number of STOREs in eight bytes, each
+//! STORE after its length in eight bytes, the fields of the core's state file, and a checksum of all this in eight bytes. All
 //! numbers are big-endian.
 //!
-//! The checksum only tells whether the file is whole. It need not withstand an attacker: what the file holds of paths is
-//! checked against root digests anyway, and the file lies with the client.
+//! The checksum only tells whether the file is whole. It need not withstand an attacker: paths in the file are checked against
+//! root digests anyway, and the file is at the client.
 ghost use Rattle.std.specs.Prelude.{◌≡◌, ◌≢◌, ◌⊎◌, ◌++◌, ◌<◌, ◌^◌, ℕ, List, None, length, IfErr, IfOk, IfSome, IsErrOf, OnOk};
 ghost use Rattle.std.specs.Int.{w64, to_be_bytes};
 ghost use Rattle.oram_geometry.specs.declared.Sizes.{Sizes};
@@ -38,7 +38,7 @@ pub struct KeptCore<S: Sealer> {
 pub enum KeptCoreFault {
     /// The file was cut short, or isn't the one that was written.
     Torn,
-    /// The file is whole, but its core is none with this sealer.
+    /// The file is whole, but it doesn't hold a core with this sealer.
     Core(StateFault),
     /// Memory ran out.
     OutOfMemory,
@@ -89,7 +89,7 @@ fn checksum(text: &[u8]) -> u64
     hasher.finish()
 }
 
-/// Adds a STORE to a file, behind its length.
+/// Adds a STORE to a file, after its length.
 fn push_store(file: &mut Vec<u8>, store: &[u8]) -> Result<(), AllocError>
     ensures written { OnOk result (file.new.items ≡ file.old.items ++ store_text store.now) }
     ensures short { length store.now < 2 ^ 64 }
@@ -120,7 +120,7 @@ fn file_len(stores: &[Vec<u8>], fields: &[u8]) -> usize {
     len
 }
 
-/// Returns the file of the STOREs that wait and of the core above them. Fails only if memory runs out.
+/// Returns the file of the STOREs that wait and of the core that sent them. Fails only if memory runs out.
 pub fn encode_kept<S: Sealer>(
     alloc: Global,
     stores: &[Vec<u8>],
@@ -137,7 +137,7 @@ pub fn encode_kept<S: Sealer>(
     Ok(file)
 }
 
-/// Reads the number at the front of some bytes, and returns the bytes behind it.
+/// Reads the number at the front of some bytes, and returns the bytes after it.
 fn next_number(bytes: &[u8]) -> Option<(u64, &[u8])>
     ensures some { IfSome result (λ x. bytes.now ≡ to_be_bytes w64 x.0 ++ x.1.now) }
     ensures small { IfSome result (λ x. x.0 < 2 ^ 64) }
@@ -147,7 +147,7 @@ fn next_number(bytes: &[u8]) -> Option<(u64, &[u8])>
     Some((u64::from_be_bytes(*number), rest))
 }
 
-/// Reads the STORE at the front of some bytes, and returns the bytes behind it.
+/// Reads the STORE at the front of some bytes, and returns the bytes after it.
 fn next_store(bytes: &[u8]) -> Option<(&[u8], &[u8])>
     ensures some { IfSome result (λ x. bytes.now ≡ store_text x.0.now ++ x.1.now) }
     ensures none { result ≡ None → (store rest : List ℕ) → length store < 2 ^ 64 → bytes.now ≢ store_text store ++ rest }
@@ -159,7 +159,7 @@ fn next_store(bytes: &[u8]) -> Option<(&[u8], &[u8])>
     Some(rest.split_at(len as usize))
 }
 
-/// Reads the STOREs at the front of a file, and returns the bytes behind them.
+/// Reads the STOREs at the front of a file, and returns the bytes after them.
 fn read_stores(alloc: Global, bytes: &[u8]) -> Result<(Vec<Vec<u8>>, &[u8]), KeptCoreFault>
     ensures counted { IfOk result (λ x. AreCounted (texts x.0.items)) }
     ensures ok { IfOk result (λ x. bytes.now ≡ stores_text (texts x.0.items) ++ x.1.now) }
@@ -190,7 +190,7 @@ fn last_number(bytes: &[u8]) -> Option<(&[u8], u64)>
     Some((rest, u64::from_be_bytes(*number)))
 }
 
-/// Returns what stands before the checksum of a file that is whole.
+/// Returns what comes before the checksum in a file that is whole.
 fn checked(file: &[u8]) -> Option<&[u8]>
     ensures some { IfSome result (λ text. file.now ≡ with_checksum text.now) }
     ensures none { result ≡ None → (text : List ℕ) → file.now ≢ with_checksum text }
@@ -203,7 +203,7 @@ fn checked(file: &[u8]) -> Option<&[u8]>
     Some(text)
 }
 
-/// Reads the STOREs of a file, and returns the core's fields behind them, unread.
+/// Reads the STOREs of a file, and returns the core's fields after them, unread.
 fn split_kept(alloc: Global, file: &[u8]) -> Result<(Vec<Vec<u8>>, &[u8]), KeptCoreFault>
     ensures counted { IfOk result (λ x. AreCounted (texts x.0.items)) }
     ensures ok { IfOk result (λ x. file.now ≡ kept_text (texts x.0.items) x.1.now) }
@@ -218,7 +218,7 @@ fn split_kept(alloc: Global, file: &[u8]) -> Result<(Vec<Vec<u8>>, &[u8]), KeptC
 
 /// Reads the file of a process whose core has this sealer.
 ///
-/// Fails with `Torn` if the file isn't whole, with `Core` if the core in it is none with this sealer, and with `OutOfMemory` if
+/// Fails with `Torn` if the file isn't whole, with `Core` if it doesn't hold a core with this sealer, and with `OutOfMemory` if
 /// memory runs out.
 pub fn decode_kept<S: Sealer>(
     alloc: Global,

@@ -1,4 +1,4 @@
-//! The law of links that hold STOREs back.
+//! Laws about links that hold STOREs back, and about processes with such a link.
 ghost use Rattle.oram_rounds.specs.AheadInTurn.{AheadIsNotSent, AheadStaysInTurn, NothingAheadIsInTurn};
 ghost use Rattle.oram_rounds.specs.Start.{SubmittedToProcesses, HeldIsSafe, SubmittedIsSafe};
 ghost use Rattle.oram_rounds.specs.ReadingExample.{ReadingProcessExample};
@@ -10,7 +10,7 @@ ghost use Rattle.oram_rounds.specs.Process.{ActsAreSafe, BegunIsSafe, EndsAreSaf
 use crate::batch::BatchLink;
 use crate::keeper::Keeper;
 
-/// A law about definitions. Suppose that a host stands beside the exchanges of a call and still has to carry out some STOREs.
+/// A law about definitions. Suppose that a host takes part in the exchanges of a call and still has to carry out some STOREs.
 /// Then the call is answered as that host will answer after them, honest or not as the host is, and the same holds of the
 /// STOREs that wait after the call. So what is proved of a core over a host holds over a link that holds STOREs back.
 pub fn calls_are_of_the_host_later<B: BatchLink>()
@@ -61,7 +61,7 @@ pub fn held_is_safe<B: BatchLink, K: Keeper>()
 {}
 
 /// A law about definitions: commands are submitted to the core of a process, one after the other, as
-/// [`submit_all`](crate::submit_all) does it. Then they are submitted to the process, as [`submitted_is_safe`] wants it, and
+/// [`submit_all`](crate::submit_all) does it. Then they are submitted to the process, as [`submitted_is_safe`] requires, and
 /// its link and its keeper stay as they are.
 pub fn submitted_to_processes<B, K>()
     ensures { SubmittedToProcesses B K }
@@ -74,14 +74,14 @@ pub fn submitted_is_safe<B: BatchLink, K: Keeper>()
 {}
 
 /// A law about definitions: whatever a process does after its commands were submitted, over a host that is honest or may lie,
-/// the device will hold the array once the commands that wait are carried out, and so will what is read back; or that
-/// will hold the array from before the last keeping. Where the host may lie the device may fail instead.
+/// the device will hold the array once the commands that wait are carried out, and so will what is read back; or what is read
+/// back will hold the array from before the last keeping. Where the host may lie the device may fail instead.
 pub fn acts_are_safe<B: BatchLink, K: Keeper>()
     ensures { ActsAreSafe B.batches K.reads_back }
 {}
 
-/// A law about definitions: wherever a process ends, what is read back will hold the one array or the other, whatever
-/// the host has received by then of the STOREs that are kept and of the FETCH behind them.
+/// A law about definitions: wherever a process ends, what is read back will hold one array or the other, whatever the host has
+/// received by then of the STOREs that are kept and of the FETCH after them.
 pub fn ends_are_safe<B: BatchLink, K: Keeper>()
     ensures { EndsAreSafe B.batches K.reads_back }
 {}

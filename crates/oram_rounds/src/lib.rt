@@ -7,7 +7,7 @@
 //! together.
 //!
 //! The client keeps the STOREs that wait in a file before they leave. If its process ends, the next one sends them again.
-//! A [`BatchLink`] carries the STOREs and the FETCH behind them; [`OneByOne`] makes one of any link.
+//! A [`BatchLink`] carries the STOREs and the FETCH after them; [`OneByOne`] makes one of any link.
 //!
 //! A round is one keeping and then the work of all commands that were submitted ([`submit_all`], [`perform`], [`resume`]).
 //! Their replies may be given at once, since what is kept has the commands.

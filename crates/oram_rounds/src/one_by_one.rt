@@ -16,8 +16,8 @@ pub struct OneByOne<L> {
     pub link: L,
 }
 
-/// Sends each of the bodies and returns their answers, in a list with room for `more` further ones. That room is made before the
-/// first body is sent: if there is no memory for it, nothing is sent.
+/// Sends each of the bodies and returns their answers, in a list with room for `more` further ones. That room is made before
+/// the first body is sent: if there is no memory for it, nothing is sent.
 fn call_each<L: Link>(
     alloc: Global,
     link: &mut L,

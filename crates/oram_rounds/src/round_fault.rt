@@ -5,7 +5,7 @@ use crate::keeper::KeepError;
 use std::alloc::AllocError;
 use std::fmt;
 
-/// Why a round has no replies. What was done before stands, and the round can go on from there.
+/// Why a round has no replies. What was done before stays done, and the round can go on from there.
 #[derive(Clone, Copy, Debug, PartialEq, Eq)]
 pub enum RoundFault {
     /// A message stalled each time that it was sent: it had no answer, or the host had no room.

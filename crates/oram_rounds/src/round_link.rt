@@ -149,7 +149,7 @@ fn first_refusal(mut answers: Vec<Vec<u8>>) -> Option<Vec<u8>>
     None
 }
 
-/// Returns what the core receives if the host answers a STORE so: a refusal as it is, and for anything else no bytes.
+/// Returns what the core receives if this is the answer to a STORE: a refusal as it is, and no bytes for anything else.
 fn refused_with(mut answer: Vec<u8>) -> Vec<u8>
     ensures { result.items ≡ refused_with answer.items }
 {
@@ -253,7 +253,7 @@ impl<B> RoundLink<B> {
         self.kept = 0;
     }
 
-    /// Returns the answer to a FETCH with the STOREs laid over it that aren't kept yet.
+    /// Returns the answer to a FETCH, with the records of the STOREs that aren't kept yet laid over it.
     fn overlaid(&self, tree: u8, leaf: u32, answer: Vec<u8>) -> Vec<u8>
         requires tree { tree < trees_of self.now.device }
         requires leaf { leaf < 2 ^ depth_of self.now.device tree }
@@ -270,7 +270,7 @@ impl<B> RoundLink<B> {
         )
     }
 
-    /// Puts a STORE to those that wait.
+    /// Adds a STORE to those that wait.
     fn hold(&mut self, alloc: Global, body: &[u8]) -> Result<Vec<u8>, LinkFault>
         requires { IsPathStore self.old.device self.old.record_len body.now }
         ensures { MatchResult result (λ answer. (answer.items ≡ done_answer) × (self.new ≡ record self.old { held = self.old.held ++ body.now ∷ [] })) (λ fault. (fault ≡ LinkFault.OutOfMemory) × (self.new ≡ self.old)) }
@@ -282,7 +282,7 @@ impl<B> RoundLink<B> {
 }
 
 impl<B: BatchLink> RoundLink<B> {
-    /// Sends FETCHes behind the STOREs that are kept, all at once, before the core asks for them. Later calls with these
+    /// Sends FETCHes after the STOREs that are kept, all at once, before the core asks for them. Later calls with these
     /// FETCHes, in this order, are answered from what came. What went ahead before is forgotten. Sends nothing if there are no
     /// FETCHes.
     ///
@@ -310,7 +310,7 @@ impl<B: BatchLink> RoundLink<B> {
         }
     }
 
-    /// Answers a FETCH from what went ahead, if it is the next one there, and else sends it behind the STOREs that are kept.
+    /// Answers a FETCH from what went ahead, if it is the next one there, and else sends it after the STOREs that are kept.
     fn fetch_next(
         &mut self,
         alloc: Global,
@@ -330,7 +330,7 @@ impl<B: BatchLink> RoundLink<B> {
         }
     }
 
-    /// Sends a FETCH that isn't the next one ahead behind the STOREs that are kept.
+    /// Sends a FETCH that isn't the next one ahead after the STOREs that are kept.
     fn fetch(
         &mut self,
         alloc: Global,

@@ -25,7 +25,7 @@ use oram_host::ServeFault;
 use oram_session::{has_no_work, reopen};
 use std::alloc::Global;
 
-/// Keeps the core and the STOREs that wait, which may leave from then on.
+/// Keeps the core and the STOREs that wait. These may leave from then on.
 pub fn keep<S: Sealer, B, K: Keeper>(
     alloc: Global,
     core: &Core<S>,
@@ -107,7 +107,7 @@ pub fn resume<S: Sealer, B: BatchLink, K: Keeper>(
     // In an idle or failed core nothing waits.
     ensures none { HasNoWork core.old.state → IsOkAnd result (λ replies. replies.items ≡ [])
         × (core.new ≡ core.old) × (link.new ≡ link.old) × (keeper.new ≡ keeper.old) }
-    // In any other each command has its reply.
+    // In any other core, each command has its reply.
     ensures count { ¬ HasNoWork core.old.state → IfOk result (λ replies. length replies.items ≡ length core.old.state.queue) }
     // It was done in a round, which began with the FETCHes.
     ensures ok { let v = scheme_of S.cipher core.old in

@@ -49,7 +49,8 @@ fn submit_next<S: Sealer, T: Tape>(
     core.step(alloc, &event)
 }
 
-/// Returns the reaction to the first command that was accepted: `begun` if one was before, and else `next` if this one is.
+/// Returns the reaction to the first command that was accepted: `begun` if an earlier one was, and otherwise `next` if this one
+/// was.
 fn first_accepted(begun: Option<Reaction>, next: Reaction) -> Option<Reaction>
     ensures { MatchOption begun (result ≡ if is_accepted next.note then Some next else None) (λ first. result ≡ Some first) }
 {
@@ -62,8 +63,8 @@ fn first_accepted(begun: Option<Reaction>, next: Reaction) -> Option<Reaction>
     }
 }
 
-/// Submits commands one after the other, each with the tape's words of its ticket, to a core at which none waits. The first
-/// one that is accepted is at work from then on, and the others wait behind it; [`perform`](crate::perform) carries them all out.
+/// Submits commands one after the other, each with the tape's words of its ticket, to a core at which none waits. The first one
+/// that is accepted is at work from then on, and the others wait after it; [`perform`](crate::perform) carries them all out.
 ///
 /// Fails if memory runs out. The first commands may have been submitted by then, and those that were accepted still wait:
 /// [`resume`](crate::resume) carries them out.
@@ -81,7 +82,7 @@ pub fn submit_all<S: Sealer, T: Tape>(
         IfOk result (λ s. (submitted : List SubmittedCommand) × (map (λ a. a.command) submitted ≡ commands.items) × (map (λ a. a.shown.note) submitted ≡ s.notes.items)
         × AreSubmitted v (T.words tape.old) session core.old.state submitted core.new.state) }
     ensures begun { IfOk result (λ s. MatchOption s.begun (HasNoWork core.new.state) (λ first. IsUnderWay (done first core.new.state))) }
-    // That is the reaction to the first command that was accepted, if one was. Else the core is as it was.
+    // `begun` is the reaction to the first command that was accepted, if one was. Otherwise the core is as it was.
     ensures first { IfOk result (λ s. MatchOption s.begun (core.new ≡ core.old) (λ first. first.note ≡ Accepted core.old.state.next)) }
     ensures none { IfOk result (λ s. s.begun ≡ None ↔ count_by is_accepted s.notes.items ≡ 0) }
     // All that were accepted wait now.

@@ -17,7 +17,7 @@ use Rattle.oram_semantics.specs.Content.{map_entry_in}
 use Rattle.oram_semantics.specs.Moves.{leaf_for}
 use Rattle.oram_semantics.specs.declared.events.Submission.{Submission}
 
--- std's reverse gathers, so this doesn't compute
+-- std's `reverse` gathers the elements in a second list, so this doesn't hold by computing
 pub reverse_cons : {X : Type 0} (x : X) (old : List X) → reverse (x ∷ old) ≡ reverse old ++ x ∷ []
 reverse_cons x old = reverse-append (x ∷ []) old
 

@@ -122,7 +122,7 @@ map_case d i old a h e =
     ap (λ n. replicate n 0) h.whole
     ∙ sym (zeros_are (λ b. to_be_bytes w32 (map_entry_in d i old b)) (a * fanout d) (fanout d) (λ b low high. ap (to_be_bytes w32) (none_below d i old a b h e low high) ∙ four_zeros))
 
--- an access finds the defined content, also if the tree doesn't have the block
+-- an access finds the defined content, even if the tree doesn't have the block
 found_by : (d : Sizes) (i : ℕ) (old : List Submission) (a : ℕ) (o : Option Submission) → HasEntries d → newest_in d i old a ≡ o →
     found_in d (option_map (λ s. record { leaf = new_leaf d i s; content = data_in d i old a }) o) ≡ data_in d i old a
 found_by d i old a (Some s) h e = refl

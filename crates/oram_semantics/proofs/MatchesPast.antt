@@ -74,7 +74,7 @@ waits_matches : (v : Setting) (past : List Step) (s : State) (failure : Option R
 waits_matches v past s None h fit f = waiting_matches v past s h fit f
 waits_matches v past s (Some e) h fit f = ap length (none_waits v past s e h f)
 
--- what a core that follows a past tells agrees with it
+-- what a core reports agrees with the past that it follows
 pub tells_of : (v : Setting) (past : List Step) (s : State) → IsFit v.scheme.device → Follows v past s → TellsOf v past s
 tells_of v past s fit f = record {
   next = next_matches v past s f;

@@ -26,13 +26,13 @@ test_passes m n e = grind (arith, nat_tests)
 test_fails : (m n : ℕ) → m ≢ n → (m == n) ≡ false
 test_fails m n e = grind (arith, nat_tests)
 
--- byte 81 and the code 8
+-- byte 0x81 and the code 8
 pub no_room_is : (v : Scheme) (records : ℕ → ℕ → List ℕ) (e : Entry) (bytes : List ℕ) → bytes ≡ 129 ∷ 8 ∷ []
     → outcome_of v records e bytes ≡ NoRoom
 unfolding outcome_of good_answer
 no_room_is v records e bytes is = ap (outcome_of v records e) is
 
--- byte 81 and another code
+-- byte 0x81 and another code
 pub refused_is : (v : Scheme) (records : ℕ → ℕ → List ℕ) (e : Entry) (bytes : List ℕ) (code : ℕ) → bytes ≡ 129 ∷ code ∷ []
     → 1 ≤ code → code ≤ 7 → outcome_of v records e bytes ≡ Fails (HostRefused code)
 unfolding outcome_of good_answer
@@ -43,7 +43,7 @@ refused_is v records e bytes code is low high =
     let within : nat_le code 7 ≡ true = grind (arith, nat_tests) in
     ap (outcome_of v records e) is ∙ rw (room, above, within) refl
 
--- byte 80 alone, as the answer to a STORE
+-- byte 0x80 alone, as the answer to a STORE
 pub stored_is : (v : Scheme) (records : ℕ → ℕ → List ℕ) (e : Entry) (bytes : List ℕ) → e.fetch ≡ false → bytes ≡ 128 ∷ []
     → outcome_of v records e bytes ≡ Good
 unfolding outcome_of good_answer
@@ -68,7 +68,7 @@ malformed_is v records e bytes first room refusal =
     malformed_by v records e bytes (λ same. first (ap (λ xs. slice_index xs 0) same)) room refusal
     (elim e.fetch as (λ b. (b && (slice_index bytes 0 == 128) && (length bytes == 1 + (depth_of v.device e.tree + 1) * record_len v)) ≡ false) [ true ↦ rw other refl | false ↦ refl ])
 
--- more than byte 80, as the answer to a STORE
+-- more than byte 0x80, as the answer to a STORE
 pub malformed_store : (v : Scheme) (records : ℕ → ℕ → List ℕ) (e : Entry) (bytes : List ℕ) → e.fetch ≡ false
     → slice_index bytes 0 ≡ 128 → bytes ≢ 128 ∷ [] → outcome_of v records e bytes ≡ Fails Malformed
 unfolding good_answer
@@ -79,7 +79,7 @@ malformed_store v records e bytes store first more =
     (headed_refusal bytes first)
     (ap (λ b. b && (slice_index bytes 0 == 128) && (length bytes == 1 + (depth_of v.device e.tree + 1) * record_len v)) store)
 
--- byte 80 and another length, as the answer to a FETCH
+-- byte 0x80 and another length, as the answer to a FETCH
 pub malformed_fetch : (v : Scheme) (records : ℕ → ℕ → List ℕ) (e : Entry) (bytes root : List ℕ) → e.fetch ≡ true
     → slice_index bytes 0 ≡ 128 → e.leaf < 2 ^ depth_of v.device e.tree
     → IsStored (depth_of v.device e.tree) (record_len v) root (records e.tree) → ¬ HasLength (answered_path v e bytes)
@@ -107,7 +107,7 @@ payload_by v e (x ∷ xs) fetch first whole =
     test_passes (length (x ∷ xs)) (1 + (depth_of v.device e.tree + 1) * record_len v) (omega (arith, whole)) in
     rw (fetch, head, long) refl
 
--- byte 80 and the records of a path, as the answer to a FETCH: what their check says
+-- byte 0x80 and the records of a path, as the answer to a FETCH: what their check says
 by_check : {A : Type 0} (v : Scheme) (records : ℕ → ℕ → List ℕ) (e : Entry) (bytes root : List ℕ) (r : Result A HashFault)
     → is_payload v e bytes ≡ true → e.leaf < 2 ^ depth_of v.device e.tree
     → IsStored (depth_of v.device e.tree) (record_len v) root (records e.tree)
@@ -118,7 +118,7 @@ by_check v records e bytes root (Err fault.Length) payload fits stored judged = 
 by_check v records e bytes root (Err (fault.Tampered level)) payload fits stored judged =
     other_is v records e bytes level root payload fits stored judged
 
--- If byte 80 begins the answer to a FETCH in a stored tree, and the answer shows no two records with the same digest,
+-- If byte 0x80 begins the answer to a FETCH in a stored tree, and the answer shows no two records with the same digest,
 -- it means what the check of the other bytes says.
 pub fetched_is :
     {A : Type 0} (v : Scheme) (records : ℕ → ℕ → List ℕ) (e : Entry) (bytes root : List ℕ) (r : Result A HashFault)

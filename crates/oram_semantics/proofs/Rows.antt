@@ -156,7 +156,7 @@ refusals : refusal_of recursive true 64 100 (Read 64) [] ∷ refusal_of recursiv
 unfolding trees_of blocks_in least_from
 refusals = refl
 
--- eight blocks in one tree, under a host that keeps nothing: byte 80 alone is a good answer to a fetch too
+-- eight blocks in one tree, under a host that keeps nothing: byte 0x80 alone is a good answer to a fetch too
 
 abbrev plain : Setting
 plain = record { scheme = record small { device = record { blocks = 8; block_bytes = 16; slots = 4; top = 8; lifetime = 100 } }; format = [] }
@@ -192,7 +192,8 @@ pair = refl
 look_alike : LookAlike (fetch_body 0 1 ∷ store_body 0 1 (filled 7 ++ filled 8) ∷ []) (fetch_body 0 1 ∷ store_body 0 1 (filled 9 ++ filled 3) ∷ [])
 look_alike = (record { length_is = refl; header = refl }, (record { length_is = refl; header = refl }, tt))
 
--- two worlds of one tree: one reads block 5 twice, the other block 5 and then block 2, with the words of the middle two places swapped
+-- two worlds of one tree: one reads block 5 twice, the other block 5 and then block 2, with the words of the middle two places
+-- swapped
 
 abbrev reading : ℕ → List ℕ → Event
 reading address words = Submit 1 (Read address) words

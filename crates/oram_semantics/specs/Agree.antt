@@ -13,7 +13,7 @@ use Rattle.oram_semantics.specs.State.{State, World, map_entry_of}
 use Rattle.oram_semantics.specs.Blocks.{found_in, entry_in}
 use Rattle.oram_semantics.specs.declared.events.Submission.{Submission}
 
--- the map entry for block b of tree i: in the table for the last tree, else in the block's map block
+-- the map entry for block b of tree i: in the table for the last tree, otherwise in the block's map block
 abbrev pub map_entry_for : Scheme → State → World → ℕ → ℕ → ℕ
 map_entry_for v s w i b =
     if i + 1 == trees_of v.device then slice_index s.table b else entry_in (found_in v.device (w.content (i + 1) (b / fanout v.device))) (b % fanout v.device)

@@ -21,11 +21,11 @@ use Rattle.oram_wire.specs.declared.host_messages.TheConstants.{GOOD, REFUSED}
 unfoldable pub path_in : Scheme → (ℕ → ℕ → List ℕ) → ℕ → ℕ → List ℕ
 path_in v records i leaf = flat_map (λ level. records i (node_on (depth_of v.device i) leaf level)) (levels (depth_of v.device i))
 
--- the good answer to an entry: byte 80, and to a fetch the records of its path
+-- the good answer to an entry: byte 0x80, and to a fetch the records of its path
 unfoldable pub good_answer : Scheme → (ℕ → ℕ → List ℕ) → Entry → List ℕ
 good_answer v records e = payload_answer (if e.fetch then path_in v records e.tree e.leaf else [])
 
--- the answer to a FETCH is byte 80 and as many bytes as the path has
+-- the answer to a FETCH is byte 0x80 and as many bytes as the path has
 abbrev pub is_payload : Scheme → Entry → List ℕ → Bool
 is_payload v e bytes =
     e.fetch && (slice_index bytes 0 == GOOD) && (length bytes == 1 + (depth_of v.device e.tree + 1) * record_len v)
@@ -42,7 +42,7 @@ is_last_stored records p level = bytes_eq (record_at p level) (records (node_at 
 unfoldable pub first_other : (ℕ → List ℕ) → Path → Option ℕ
 first_other records p = find (λ level. not (is_last_stored records p level)) (levels p.depth)
 
--- a refusal with a code from 1 to 7: byte 81 and the code
+-- a refusal with a code from 1 to 7: byte 0x81 and the code
 abbrev pub is_refusal : List ℕ → Bool
 is_refusal bytes =
     (length bytes == 2) && (slice_index bytes 0 == REFUSED) && nat_le 1 (slice_index bytes 1) && nat_le (slice_index bytes 1) 7
@@ -70,7 +70,7 @@ outcome_of v records e bytes =
     else if bytes_eq bytes no_room_answer then NoRoom
     else Fails (reason_for v records e bytes)
 
--- what byte 80 and the records of a path mean as the answer to a FETCH in tree i, given the result of checking the
+-- what byte 0x80 and the records of a path mean as the answer to a FETCH in tree i, given the result of checking the
 -- records
 abbrev pub outcome_by : {A : Type 0} → ℕ → Result A HashFault → Outcome
 outcome_by i (Ok path) = Good

@@ -1,5 +1,5 @@
--- A core sends its next FETCHes in their turn, whatever the host answers to the messages in between, and they are entries of
--- the commands that it has accepted.
+-- A core sends its next FETCHes in turn, whatever the host answers to the messages in between, and they are entries of the
+-- commands that it has accepted.
 use Rattle.std.specs.Prelude.{◌≡◌, ◌≢◌, ◌⊎◌, ℕ, ◌<◌, ◌-◌, ◌*◌, true, false, List, [], ◌∷◌, ◌++◌, None, length, map}
 use Rattle.std.specs.List.{All}
 use Rattle.oram_geometry.specs.declared.Sizes.{Sizes}
@@ -36,7 +36,7 @@ pub record AsksInTurn (d : Sizes) (s : State) : Type 0 where
 
 -- A step that doesn't fail the core: what becomes of the next FETCHes.
 pub record StepsInTurn (d : Sizes) (s : State) (x : Shown) (t : State) : Type 0 where
-  -- the first FETCH of a command that is accepted comes after the others
+  -- the first FETCH of a command that is accepted comes after the other next FETCHes
   pub accepted : is_accepted x.note ≡ true → (e : Entry) × (next_fetches d t ≡ next_fetches d s ++ e ∷ [])
   -- the first of them has its answer, and the others stay
   pub taken : x.note ≡ Taken → s.entry_number ≡ 0 → (e : Entry) × (next_fetches d s ≡ e ∷ next_fetches d t)
@@ -47,7 +47,7 @@ pub record StepsInTurn (d : Sizes) (s : State) (x : Shown) (t : State) : Type 0 
       → ((t.entry_number ≡ 0) × IsFirstNext d t m) ⊎ ((0 < t.entry_number) × IsNoFirstFetch d m)
   pub asks : AsksInTurn d s → AsksInTurn d t
 
--- A core whose trees stand and agree sends its next FETCHes in their turn.
+-- A core whose trees stand and agree sends its next FETCHes in turn.
 abbrev pub CoresAskInTurn : Type 0
 CoresAskInTurn = (v : Scheme) (s t : State) (w : World) (event : Event) (x : Shown) → IsDevice v.device
     → IsOrderly v s → AllStand v s w → Agrees v s w → shows_in v s w event ≡ false → StepsByRule v s event x t → t.failure ≡ None

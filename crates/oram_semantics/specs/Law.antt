@@ -48,7 +48,7 @@ StepsTo v past s (event ∷ events) (x ∷ xs) now t =
 StepsTo v past s [] (x ∷ xs) now t = ⊥
 StepsTo v past s (event ∷ events) [] now t = ⊥
 
--- What a core tells agrees with its past: how many commands were accepted, how many of them have no reply, its status,
+-- What a core reports agrees with its past: how many commands were accepted, how many of them have no reply, its status,
 -- and why it failed.
 pub record TellsOf (v : Setting) (past : List Step) (s : State) : Type 0 where
   pub next : s.next ≡ length (accepted past)
@@ -56,7 +56,7 @@ pub record TellsOf (v : Setting) (past : List Step) (s : State) : Type 0 where
   pub status : status_in s ≡ status v past
   pub failure : s.failure ≡ (progress v past).failure
 
--- After any list of events, what a core that steps by the rule from its formatting on tells agrees with its past.
+-- A core steps by the rule from its formatting on. After any list of events, what it reports agrees with its past.
 abbrev pub CoresTell : Type 0
 CoresTell =
     (v : Setting) (trees : List Tree) (events : List Event) (xs : List Shown) (past : List Step) (s : State) → IsDevice v.scheme.device

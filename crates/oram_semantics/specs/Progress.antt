@@ -1,4 +1,5 @@
--- How far a run has come: what was accepted and sent, how many good answers came, and whether the device waits, stalls or has failed.
+-- How far a run has come: what was accepted and sent, how many good answers came, and whether the device waits, stalls or has
+-- failed.
 use Rattle.std.specs.Prelude.{ℕ, ◌+◌, ◌*◌, ◌==◌, Bool, true, false, if◌then◌else◌, List, [], ◌∷◌, ◌++◌, length, reverse, Option, Some, None}
 use Rattle.oram_geometry.specs.Sizes.{trees_of}
 use Rattle.oram_trace.specs.declared.entries.Entry.{Entry}
@@ -33,7 +34,7 @@ submission_of ticket Reopen = []
 submission_of ticket Retry = []
 
 -- A past has its newest step first. These are its accepted submissions, the oldest first, with their tickets counted
--- from 0:
+-- from 0.
 unfoldable pub accepted : List Step → List Submission
 accepted [] = []
 accepted (s ∷ past) = if s.accepts then accepted past ++ submission_of (length (accepted past)) s.event else accepted past

@@ -19,7 +19,7 @@ pub record State : Type 0 where
   pub next : ℕ  -- the next ticket
   pub nonce : ℕ  -- of the next bucket that is sealed
   pub queue : List Submission  -- those without a reply, the oldest first
-  pub entry_number : ℕ  -- of the oldest command: which of its fetches and stores is outstanding: 0 to 2H - 1
+  pub entry_number : ℕ  -- of the oldest command: which of its fetches and stores is outstanding, from 0 to 2H - 1 with H trees
   pub held_entry : ℕ  -- the map entry of the block in the tree that is fetched next, or was fetched last
   pub held_data : List ℕ  -- the block of tree 0 as it was read
   pub message : List ℕ  -- the message sent last

@@ -75,7 +75,7 @@ pub enum Refusal {
     Busy,
     /// The device has accepted as many commands as its lifetime allows.
     Exhausted,
-    /// The device has failed, for good.
+    /// The device has failed for good.
     Failed,
 }
 
@@ -147,7 +147,7 @@ pub struct Reply {
 #[derive(Debug, Drop)]
 pub struct Reaction {
     pub note: Note,
-    /// The replies, by rising ticket.
+    /// The replies, in increasing order of ticket.
     pub replies: Vec<Reply>,
     /// The bodies of messages for the host, at most one.
     pub sends: Vec<Bytes>,

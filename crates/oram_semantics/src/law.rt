@@ -14,9 +14,9 @@ pub fn nonces_are_apart()
     ensures { NoncesAreApart }
 {}
 
-/// A law about definitions: take a core with an unknown past, whose trees stand and agree in a world. They still do
-/// after each step by the local rule, unless the step fails the core, and the core answers like a plain array that
-/// begins with what its tree 0 holds.
+/// A law about definitions: take a core with an unknown past, whose trees stand in a world and agree there. They still do after
+/// each step by the local rule, unless the step fails the core, and the core answers like a plain array that begins with what
+/// its tree 0 holds.
 pub fn cores_serve()
     ensures { CoresServe }
 {}
@@ -26,22 +26,22 @@ pub fn new_cores_serve()
     ensures { NewCoresServe }
 {}
 
-/// A law about definitions: after any list of events, what a core tells agrees with its past: how many commands were
+/// A law about definitions: after any list of events, what a core tells of itself agrees with its past: how many commands were
 /// accepted, how many of them have no reply, its status, and why it failed.
 pub fn cores_tell()
     ensures { CoresTell }
 {}
 
-/// A law about definitions: take two right runs with the same notes, whose commands may have different addresses, the
-/// second run on the first one's tape, rearranged. At each event both send equally many messages, of the same lengths
-/// and for the same paths.
+/// A law about definitions: take two right runs with the same notes, whose commands may have different addresses. The second
+/// run has the tape of the first one, rearranged. At each event both send equally many messages, of the same lengths and for
+/// the same paths.
 pub fn two_worlds_look_alike()
     ensures { TwoWorldsLookAlike }
 {}
 
-/// A law about definitions: a core whose trees stand and agree in a world sends the first FETCHes of the commands that wait
-/// in their turn. While such a FETCH waits for its turn it stays the same, and the core sends no other FETCH of the last
-/// tree.
+/// A law about definitions: a core whose trees stand in a world and agree there sends, each in its turn, the first FETCHes of
+/// the commands that wait. While such a FETCH waits for its turn it stays the same, and the core sends no other FETCH of the
+/// last tree.
 pub fn cores_ask_in_turn()
     ensures { CoresAskInTurn }
 {}

@@ -363,7 +363,7 @@ sessions_are_the_arrays calls host_of honest v words session p q turns array dev
 
 -- a device that was formatted
 
--- an answer of the one byte 80 means that the host took a message
+-- an answer of the one byte 0x80 means that the host took a message
 done_by : (answer : HostAnswer) → IsAnswer answer → 128 ∷ [] ≡ answer_body answer → answer ≡ Done
 done_by Done is e = refl
 done_by (Payload bytes) is e =

@@ -29,7 +29,7 @@ use Rattle.oram_session.proofs.CoreSteps.{still_waits, no_work_over}
 
 -- the core learns that it was reopened, and sends its message again
 
--- a core at work is stalled if its message is lost, and else it waits
+-- a core at work is stalled if its message is lost, and waits otherwise
 at_work : (f : Option Reason) (q : List Submission) (l : Bool) → ¬ (has_no_work_in (status_by f q l) ≡ true) → (status_by f q true ≡ Stalling) × (status_by f q false ≡ Waiting)
 at_work (Some e) q l h = absurd (h refl)
 at_work None [] l h = absurd (h refl)

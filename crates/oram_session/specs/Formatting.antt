@@ -15,17 +15,17 @@ sink_fault TooLong = sink.Link
 sink_fault TooLarge = sink.Link
 sink_fault OutOfMemory = sink.OutOfMemory
 
--- the fault that a formatting reports for a call: for any answer but 80 alone, or for a fault of the link
+-- the fault that a formatting reports for a call: for any answer but 0x80 alone, or for a fault of the link
 abbrev pub IsReportedAs : Outcome → SinkFault → Type 0
 IsReportedAs (Ok bytes) fault = (bytes ≢ done_answer) × (fault ≡ sink.Refused)
 IsReportedAs (Err why) fault = fault ≡ sink_fault why
 
 -- over a link with this relation of calls
 module _ {L : Type 0} (calls : L → List ℕ → Outcome → L → Type 0) where
-  -- the message was answered with 80 alone
+  -- the message was answered with 0x80 alone
   abbrev pub TakesMessage : L → List ℕ → L → Type 0
   TakesMessage l message m = calls l message (Ok done_answer) m
 
-  -- the message wasn't answered with 80 alone
+  -- the message wasn't answered with 0x80 alone
   abbrev pub RefusesMessage : L → List ℕ → SinkFault → L → Type 0
   RefusesMessage l message fault m = (outcome : Outcome) × calls l message outcome m × IsReportedAs outcome fault

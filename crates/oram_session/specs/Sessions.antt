@@ -46,7 +46,7 @@ module _ (v : Scheme) {L : Type 0} (calls : L → List ℕ → Outcome → L →
 
   -- How a session that began at `p` ends at `q`: it has served some turns.
   abbrev pub EndsSession : Answering (State × L) → Answering (State × L) → Result ℕ ServeFault → Type 0
-  -- The input ended behind their frames.
+  -- The input ended after their frames.
   EndsSession p q (Ok count) = (turns : List Turn) × (length turns ≡ count)
       × HasServedSession (record { before = p; things = turns; part = []; more = []; after = q }) × IsAtEnd q.unread
   -- A frame's length is too great, the input ends inside a frame, or the reader fails before a frame is whole.

@@ -52,8 +52,8 @@ impl<L: Link> Sink for LinkSink<'_, L> {
 /// Formats a device on the host at the end of the link, and returns the device's core. Each message is one call, and the
 /// host must answer it with `80` alone.
 ///
-/// Any other answer gives the fault `Refused`, also the one that the host has no room. A fault of the link gives `Link`,
-/// except that out of memory is reported as such. The first fault ends the formatting, and the host keeps what it has
+/// Any other answer gives the fault `Refused`, including the answer that the host has no room. A fault of the link gives
+/// `Link`, except that out of memory is reported as such. The first fault ends the formatting, and the host keeps what it has
 /// taken so far.
 pub fn format_device<S: Sealer, L: Link>(
     alloc: Global,

@@ -40,7 +40,7 @@ pub fn reopen<S: Sealer>(alloc: Global, core: &mut Core<S>) -> Result<Reaction, 
 }
 
 /// Carries out the commands that wait, drops their replies, and returns the number of these commands. Takes any core,
-/// also one that was read back from its state file.
+/// including one that was read back from its state file.
 ///
 /// The outstanding message counts as lost, which is its first stall, and is sent again. After that, a call that has a
 /// fault or finds the host without room is made again, until one message has stalled four times. After the faults

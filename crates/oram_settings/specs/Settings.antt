@@ -87,7 +87,8 @@ abbrev pub IsDeviceOf : ℕ → ℕ → ℕ → ℕ → Sizes → Type 0
 IsDeviceOf size block slots table device = (blocks : ℕ) × (blocks * block ≡ size)
     × (device_of (record { blocks = blocks; block_bytes = block; slots = slots; top = table; lifetime = 2 ^ 40 }) ≡ Ok device)
 
--- the text of the settings file of a new disk with this size in bytes and this key; the settings that have defaults stand in it as comments
+-- the text of the settings file of a new disk with this size in bytes and this key; the settings that have defaults are in it
+-- as comments
 abbrev pub first_text : ℕ → List ℕ → List ℕ
 first_text size key =
     concat (codes "# The disk's size in bytes. It is fixed once the disk is formatted.\nsize = "

@@ -16,7 +16,7 @@ pub fn counted(alloc: Global, count: u64, name: &str) -> Result<String, AllocErr
     }
 }
 
-/// Returns how many steps of this size an amount is, to the nearest.
+/// Returns how many steps of this size an amount is, rounded to the nearest whole number.
 fn rounded(amount: u64, step: u64) -> u64
     requires { 0 < step }
     ensures { result ≡ spec.rounded amount step }

@@ -30,13 +30,13 @@ pub enum Subcommand {
     Retry(String),
 }
 
-/// Why the words of a command line ask for nothing.
+/// Why the words of a command line don't ask for a subcommand.
 #[derive(Debug, PartialEq, Eq, Drop)]
 pub enum NoRequest {
     /// They ask for help or for the version. This is the text to print.
     Help(String),
-    /// They are wrong. The text says what is wrong, and how the program is used. It has no prefix, and no end of a
-    /// line.
+    /// They are wrong. The text says what is wrong, and how the program is used. It has no prefix, and no newline at
+    /// its end.
     Mistake(String),
     OutOfMemory,
 }
@@ -210,7 +210,7 @@ fn subcommand_of(
     }
 }
 
-/// Returns the message in a text of clap, which begins with a prefix and ends with the end of a line.
+/// Returns the message in a text of clap, which begins with a prefix and ends with a newline.
 fn message(alloc: Global, text: &str) -> Result<String, AllocError> {
     String::from_str(
         alloc,
@@ -247,7 +247,7 @@ fn no_request(alloc: Global) -> NoRequest
 pub fn read_command_line(alloc: Global, words: &[&str]) -> Result<Subcommand, NoRequest>
     // The result is what clap's matches of the words ask for.
     ensures ok { IfOk result (λ w. request_in (texts words.now) ≡ Some (request_for w)) }
-    // Help and mistakes come only if the words ask for nothing.
+    // Help and mistakes come only if the words don't ask for a subcommand.
     ensures none { IfErr result (λ why. why ≢ NoRequest.OutOfMemory → request_in (texts words.now) ≡ None) }
     // Help comes only if the words ask for help or the version, and a mistake only if they don't ask for one of these
     // alone.

@@ -20,7 +20,7 @@ enum Kind {
     Flag,
 }
 
-// In the form that fits a sentence that says what a value has to be.
+// In the form for a sentence that says what a value has to be.
 impl fmt::Display for Kind {
     fn fmt<W: fmt::Write>(&self, f: &mut fmt::Formatter<W>) -> fmt::Result {
         f.write_str(match self {
@@ -43,7 +43,7 @@ impl fmt::Display for Kind {
 struct Setting {
     key: &'static str,
     kind: Kind,
-    /// The setting has no default.
+    /// Whether the setting has no default.
     is_required: bool,
 }
 
@@ -157,26 +157,28 @@ fn place_of(alloc: Global, name: &str, text: &str, key: &str) -> Result<String, 
     String::from_str(alloc, name)
 }
 
-/// Returns whether a word was meant for a key: it has few wrong letters, or it is what the key was called before.
-fn is_meant(alloc: Global, word: &str, key: &str) -> Result<bool, AllocError> {
+/// Returns how many letters of a word are wrong if it was meant for a key. What a key was called before has none.
+fn wrong_letters(alloc: Global, word: &str, key: &str) -> Result<usize, AllocError> {
     if word == "patience" && key == "reconnect_timeout" {
-        return Ok(true);
+        return Ok(0);
     }
-    Ok(levenshtein(alloc, word, key)? <= FEW_LETTERS)
+    levenshtein(alloc, word, key)
 }
 
-/// Returns the key of a setting that a word was meant for.
+/// Returns the key that a word was most likely meant for: the one with the fewest wrong letters, if they are few.
 fn nearest_key(
     alloc: Global,
     word: &str,
     settings: &[Setting],
 ) -> Result<Option<&'static str>, AllocError> {
+    let (mut nearest, mut fewest) = (None, FEW_LETTERS + 1);
     for setting in settings {
-        if is_meant(alloc, word, setting.key)? {
-            return Ok(Some(setting.key));
+        let letters = wrong_letters(alloc, word, setting.key)?;
+        if letters < fewest {
+            (nearest, fewest) = (Some(setting.key), letters);
         }
     }
-    Ok(None)
+    Ok(nearest)
 }
 
 fn is_known(key: &str, settings: &[Setting]) -> bool {
@@ -319,7 +321,7 @@ enum Number {
     Table,
 }
 
-/// Returns the first of these settings that no disk can have. Where the others are right, it is the table.
+/// Returns the first of these settings that no disk can have. If the others are right, it is the table.
 fn wrong_number(settings: &DiskSettings) -> Number {
     let block = settings.block;
     if block < 16 || 4096 < block || block % 4 != 0 {

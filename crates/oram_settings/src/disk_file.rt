@@ -24,7 +24,7 @@ pub const DEFAULT_BLOCK: u64 = 4_096;
 /// The default number of slots of a bucket.
 pub const DEFAULT_SLOTS: u64 = 4;
 
-/// The default number of entries that the client's own table may have at most.
+/// The default for the greatest number of entries that the client's own table may have.
 pub const DEFAULT_TABLE: u64 = 1_024;
 
 /// The default reconnect timeout in seconds.
@@ -60,7 +60,7 @@ pub struct DiskSettings {
     pub listen: String,
     /// The file in which the client's state is kept.
     pub state: String,
-    /// Each state that is kept is synced before it counts.
+    /// Whether each state that is kept is synced before it counts.
     pub sync: bool,
     /// The reconnect timeout: for how many seconds the disk waits for a host that is out of reach.
     pub reconnect_timeout: u64,
@@ -268,7 +268,7 @@ pub fn device_of(size: u64, block: u64, slots: u64, table: u64) -> Option<Device
 }
 
 /// Returns the text of a new disk's settings file. It sets the size in bytes and the key, which the caller draws at
-/// random. The settings that have defaults stand in it as comments.
+/// random. The settings that have defaults are in it as comments.
 pub fn disk_text(alloc: Global, size: u64, key: &[u8; 32]) -> Result<String, AllocError>
     ensures { IfOk result (λ text. string_bytes text ≡ first_text size key.now) }
 {

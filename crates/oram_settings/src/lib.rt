@@ -1,11 +1,11 @@
 //! The settings that the owner of a disk gives, and what the program shows of the disk.
 //!
-//! [`read_disk_settings`] reads the settings file of a disk, [`disk_text`] writes a first one, [`disk_complaint`] says
-//! what is wrong with one, [`numbers_complaint`] with its numbers, and [`read_size`] reads a size as people write it.
-//! [`first_difference`] finds a setting that isn't as the disk was formatted. [`status_of`] and [`report`] are for the status of a disk, [`progress_text`] and
-//! [`Meter`] for the progress of a formatting, and [`stored_bytes`] for the room that a disk takes at its host.
-//! [`made_text`] and the functions beside it return what the program says when all goes well. [`read_command_line`] reads the
-//! command line, and answers a request for help.
+//! [`read_disk_settings`] reads the settings file of a disk, [`disk_text`] writes a first one, [`disk_complaint`] says what is
+//! wrong with one, [`numbers_complaint`] with its numbers, and [`read_size`] reads a size as people write it.
+//! [`first_difference`] finds a setting that differs from those that the disk was formatted with. [`status_of`] and [`report`]
+//! are for the status of a disk, [`progress_text`] and [`Meter`] for the progress of a formatting, and [`stored_bytes`] for the
+//! room that a disk takes at its host. [`made_text`] and the functions beside it return what the program says when all goes
+//! well. [`read_command_line`] reads the command line, and answers a request for help.
 #![tactic(auto)]
 
 mod amounts;

@@ -28,7 +28,7 @@ fn seconds_left(done: u64, of: u64, milliseconds: u64) -> u64
 /// takes.
 const SOONEST_ESTIMATE: u64 = 1_000;
 
-/// Returns a text that says how far a formatting is.
+/// Returns a text that says how far a formatting has come.
 fn so_far(alloc: Global, done: u64, of: u64) -> Result<String, AllocError>
     ensures { IfOk result (λ text. string_bytes text ≡ spec.so_far done of) }
 {
@@ -36,7 +36,7 @@ fn so_far(alloc: Global, done: u64, of: u64) -> Result<String, AllocError>
     format!(in alloc; "formatting: {percent} % ({done} of {of} messages)")
 }
 
-/// Returns a text that says how far a formatting is, and how long the rest takes.
+/// Returns a text that says how far a formatting has come, and how long the rest takes.
 fn with_time_left(
     alloc: Global,
     done: u64,
@@ -50,8 +50,7 @@ fn with_time_left(
     format!(in alloc; "formatting: {percent} % ({done} of {of} messages), {left} s left")
 }
 
-/// Returns a text that says how far a formatting is, and after its first second also how long the
-/// rest takes.
+/// Returns a text that says how far a formatting has come, and after its first second also how long the rest takes.
 pub fn progress_text(
     alloc: Global,
     done: u64,
@@ -87,7 +86,7 @@ impl Meter {
     /// Returns whether a text is due, now that `percent` percent are done.
     pub fn is_due(&mut self, percent: u64) -> bool
         ensures due { IsTrue result ↔ (self.old.next ≤ percent) }
-        // If it is due, it is due next a step later; if it isn't, nothing changes.
+        // If it is due, it is due again once a further step is done; if it isn't, nothing changes.
         ensures next { self.new ≡ spec.meter_after self.old percent }
     {
         if percent < self.next {

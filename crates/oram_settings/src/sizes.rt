@@ -18,7 +18,7 @@ const UNITS: [(&str, u64); 9] = [
     ("", 1),
 ];
 
-/// Reads a number from 1 on, in decimal without leading zeros.
+/// Reads a number of at least 1, in decimal without leading zeros.
 fn read_number(text: &str) -> Option<u64>
     ensures some { IfSome result (λ n. (0 < n) × (text.now ≡ decimal n)) }
     ensures none { result ≡ None → (n : ℕ) → 0 < n → n < 2 ^ 64 → text.now ≢ decimal n }

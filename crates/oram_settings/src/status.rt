@@ -8,14 +8,14 @@ use oram_bucket::Sealer;
 use oram_core::{Core, Reason};
 use std::alloc::{AllocError, Global};
 
-/// The status of a disk, by its kept state.
+/// The status of a disk, according to its kept state.
 #[derive(Clone, Copy, Debug, PartialEq, Eq)]
 pub struct Status {
     pub blocks: u64,
     pub block_bytes: u64,
     /// The number of trees in which its blocks and its position maps lie.
     pub trees: u8,
-    /// The number of accesses: one for each command that was accepted, those that wait among them.
+    /// The number of accesses: one for each command that was accepted, including those that wait.
     pub accesses: u64,
     /// The greatest number of accesses that a disk ever makes.
     pub lifetime: u64,

@@ -157,7 +157,7 @@ fn clear<R: Files + Net>(rt: &R, path: &str) -> io::Result<()> {
 }
 
 /// Listens at the Unix socket `path`, to which only its owner can connect. Replaces a socket at which nobody listens
-/// any more.
+/// any more. In the moment between the two calls that make the socket, the process's umask decides who can connect.
 pub fn listen_at_path<R: Files + Net>(rt: &R, path: &str) -> io::Result<Listener> {
     clear(rt, path)?;
     let listener = UnixListener::bind(rt, path)?;

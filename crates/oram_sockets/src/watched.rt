@@ -48,7 +48,7 @@ pub struct Watched<'a, R, S, A> {
     direction: Direction,
     poll: Poll,
     events: Events,
-    /// Somebody waits at the listener, and the attendant hasn't been told yet.
+    /// Whether somebody waits at the listener and the attendant hasn't been told yet.
     others_wait: bool,
     attendant: &'a A,
 }

@@ -81,7 +81,7 @@ not_at a b differs same = false≢true (sym (ap not (eq-eqb a b same)) ∙ diffe
 pub not_at-back : (a b : ℕ) → a ≢ b → not (eqb a b) ≡ true
 not_at-back a b differ = ap not (ne_eqb a b differ)
 
--- the blocks of a list but for one address, and those of another list: they rise, sorted, and contain the others
+-- the blocks of a list except the one with this address, and those of another list: sorted, they rise and are the same blocks
 pub waiting_apart : (own other : List Block) (address : ℕ) → IsRising own → IsRising other → ((c d : Block) → Contains own c → Contains other d → c.address ≡ d.address → c.address ≡ address) → AreApart (filter (λ b. not (eqb b.address address)) own ++ other)
 waiting_apart own other address ro rt apart =
     let p : Block → Bool = λ (b : Block). not (eqb b.address address) in

@@ -35,7 +35,7 @@ pub enum StashFault {
     OutOfMemory(Block),
 }
 
-/// The stash: blocks by rising address.
+/// The stash: blocks in increasing order of address.
 #[derive(Debug, Drop)]
 pub struct Stash {
     blocks: Vec<Block>,
@@ -63,7 +63,7 @@ impl Stash {
         }
     }
 
-    /// Makes a stash of these blocks, or returns `None` if their addresses don't rise. Needs no memory.
+    /// Makes a stash of these blocks, or returns `None` if their addresses don't rise. Allocates nothing.
     pub fn from_blocks(blocks: Vec<Block>) -> Option<Stash>
         ensures rising { IsSome result ↔ IsRising blocks.items }
         ensures same { IfSome result (λ stash. stash ≡ blocks.items) }
@@ -89,7 +89,7 @@ impl Stash {
         self.blocks.is_empty()
     }
 
-    /// Copies the blocks to a list, by rising address. Fails only if memory runs out.
+    /// Copies the blocks to a list, in increasing order of address. Fails only if memory runs out.
     pub fn list(&self, alloc: Global) -> Result<Vec<Block>, AllocError>
         ensures same { IfOk result (λ list. list.items ≡ self.now) }
         ensures rising { IsRising self.now }
@@ -165,8 +165,8 @@ impl Stash {
         }
     }
 
-    /// Borrows the blocks that wait for an eviction, by rising address: those of this stash except the one with
-    /// `address`, and those of `other`.
+    /// Borrows the blocks that wait for an eviction, in increasing order of address: those of this stash except the one
+    /// with `address`, and those of `other`.
     pub fn waiting<'a>(
         &'a self,
         alloc: Global,
@@ -191,8 +191,8 @@ impl Stash {
         Vec::with_capacity(alloc, self.blocks.len() + other.blocks.len())
     }
 
-    /// Takes over the blocks of `other`, and keeps of all blocks only those whose addresses are in `stays`. Needs no
-    /// memory, since the blocks move to `room`, which has capacity for all of them.
+    /// Takes over the blocks of `other`, and keeps of all blocks only those whose addresses are in `stays`. Allocates
+    /// nothing, since the blocks move to `room`, which has capacity for all of them.
     pub fn keep_left_over(&mut self, other: Stash, stays: &[u32], room: Vec<Block>)
         requires apart { (c d : Cell) → Contains self.old c → Contains other d → c.address ≢ d.address }
         requires stays { AllPairs (λ a b. a < b) stays.now }
@@ -238,9 +238,9 @@ impl Stash {
         Ok(lists)
     }
 
-    /// Returns a level that shows that an eviction left no block in the stash needlessly: down to this level the
-    /// path's buckets are full, and neither their blocks nor those of the stash fit further down. Returns `None` if
-    /// the stash is empty. Needs no memory.
+    /// Returns a level that shows that an eviction left no block in the stash needlessly: down to this level the path's
+    /// buckets are full, and neither their blocks nor those of the stash fit further down. Returns `None` if the stash
+    /// is empty. Allocates nothing.
     pub fn tight_level(
         &self,
         device: &Device,

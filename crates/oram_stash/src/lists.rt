@@ -21,7 +21,7 @@ pub fn empty_lists<B: Drop>(
     Ok(lists)
 }
 
-/// Moves each block, or reference to a block, to the list of its level, or to `rest`. Needs no memory, since there is
+/// Moves each block, or reference to a block, to the list of its level, or to `rest`. Allocates nothing, since there is
 /// room.
 pub fn move_out<B: Drop>(
     blocks: Vec<B>,

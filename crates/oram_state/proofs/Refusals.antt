@@ -1,4 +1,4 @@
--- The fields of a file are refused with one fault alone: Content.
+-- The fields of a file are refused with only one fault: Content.
 use Rattle.std.proofs.Common.{◌≡◌, ℕ, zero, suc, ◌*◌, Bool, true, false, cond, List, [], ◌∷◌, length, take, drop, Result, Ok, Err, refl, subst, inl, inr}
 use Rattle.std.specs.Prelude.{IfErr, ◌==◌, ◌&&◌, ◌⊎◌, nat_lt}
 use Rattle.std.specs.Int.{Width, w32, w64, byte_len, from_be_bytes}

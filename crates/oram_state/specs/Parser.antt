@@ -25,7 +25,7 @@ use Rattle.oram_state.specs.declared.saved.Saved.{Saved}
 use Rattle.oram_state.specs.StateBytes.{Work}
 use Rattle.oram_state.specs.WellSized.{held_len, no_work, table_len, tree_count}
 
--- the number by which messages name a fault of a state file; want of memory has none
+-- the number by which messages name a fault of a state file; a lack of memory has none
 abbrev pub fault_number : StateFault → Option ℕ
 fault_number Magic = Some 1
 fault_number Version = Some 2
@@ -195,7 +195,7 @@ next_work d text = do
   message ← next_message held.1
   Ok (record { waiting = waiting.0; entry_number = r.0; held_entry = entry.0; held_data = held.0; message = message.0 }, message.1)
 
--- the work that stands next in a file of this mode; an idle or a failed core has none
+-- the work that comes next in a file of this mode; an idle or a failed core has none
 unfoldable pub next_work_in : Sizes → Mode → List ℕ → Reading Work
 next_work_in d Idle text = Ok (no_work, text)
 next_work_in d Failed text = Ok (no_work, text)

@@ -105,7 +105,7 @@ pub(crate) fn read_state(alloc: Global, file: &[u8]) -> Result<Saved, StateFault
     read_file(alloc, file)
 }
 
-/// Reads the fields of a file of the second version, where no frame stands around them.
+/// Reads the fields of a file of the second version, without a frame around them.
 pub(crate) fn read_bare_fields(alloc: Global, fields: &[u8]) -> Result<Saved, StateFault>
     // What it returns is what the fields were written from.
     ensures found { IfOk result (λ saved. AreFieldsOf fields.now saved.overhead saved.parts) }

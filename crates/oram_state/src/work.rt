@@ -1,4 +1,4 @@
-//! Reads the fields of a core at work: the commands without a reply, and how far the first of them is.
+//! Reads the fields of a core at work: the commands without a reply, and how far the first of them has come.
 
 ghost use Rattle.std.specs.Prelude.{◌≡◌, ◌<◌, ◌*◌, IfOk};
 ghost use Rattle.oram_geometry.specs.Sizes.{trees_of};

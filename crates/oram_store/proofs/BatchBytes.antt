@@ -13,7 +13,7 @@ use Rattle.oram_store.specs.Batches.{HoldsCells}
 use Rattle.oram_store.specs.RecordFile.{bounds}
 use Rattle.oram_store.proofs.Levels.{earlier_piece, last_piece}
 
--- one cell more
+-- one more cell
 pub cells_more : (len level : ℕ) (cells records : List ℕ) → length cells ≡ level * (len + 1) → length (record_at len records level) ≡ len → HoldsCells cells len records level
     → HoldsCells (cells ++ 1 ∷ record_at len records level) len records (level + 1)
 cells_more len level cells records whole long held k below = elim (cases_eq k level) [
@@ -23,7 +23,7 @@ cells_more len level cells records whole long held k below = elim (cases_eq k le
   | inr other ↦ earlier_piece (len + 1) level cells (1 ∷ record_at len records level) whole k (omega arith) ∙ held k (omega arith)
 ]
 
--- a path, one patch more
+-- the patches of a path, one by one
 path_from : (tree : Tree) (leaf : ℕ) (bytes : List ℕ) (n level : ℕ)
     → path_patches tree leaf bytes level (suc n) ≡ path_patches tree leaf bytes level n ++ record_patch tree (node_on tree.shape.depth leaf (level + n)) (record_at tree.shape.record_len bytes (level + n)) ∷ []
 path_from tree leaf bytes zero level =

@@ -121,7 +121,7 @@ module _ {F : Type 0} (model : FileModel F) where
     moments = subst (λ (f : F). LeavesOnly model v.files f (Finds (model.seen v.files) Q)) (sym is) leaves;
   }
 
-  -- one call more
+  -- one more call
   pub passes_then : (old mid new : FileValue F) (loose more : List Patch) (Q P R : Content → Type 0) → Passes model loose Q old mid
       → (IsSteady model mid loose → Passes model more P mid new) → (mid.has_stopped ≡ true → new ≡ mid)
       → ((t : ℕ) (c : Contents) → t ≤ model.moment mid.files → model.may_leave mid.files c → model.left_since mid.files t c) → model.may_leave mid.files (model.seen mid.files)

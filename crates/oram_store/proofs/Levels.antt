@@ -22,7 +22,7 @@ module _ (len level : ℕ) (bytes more : List ℕ) (whole : length bytes ≡ lev
       ap (take ((k + 1) * len - k * len)) (drop-append-le (k * len) bytes more (omega (arith, step_is k len)))
       ∙ take-append-le ((k + 1) * len - k * len) (drop (k * len) bytes) more (omega (arith, step_is k len, length-drop (k * len) bytes))
 
--- one level more is read
+-- one more level is read
 pub read_more : (records : Records) (tree depth leaf len level node : ℕ) (bytes more : List ℕ) → length bytes ≡ level * len → length more ≡ len → node ≡ node_on depth leaf level
     → records tree node ≡ Some more → ((k : ℕ) → k < level → records tree (node_on depth leaf k) ≡ Some (record_at len bytes k))
     → (k : ℕ) → k < level + 1 → records tree (node_on depth leaf k) ≡ Some (record_at len (bytes ++ more) k)

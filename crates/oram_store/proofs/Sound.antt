@@ -116,7 +116,7 @@ module _ {F : Type 0} (model : FileModel F) where
             (λ r agrees. holds_but trees (p ∷ s.loose) (model.seen old.files Records) r s.file all agrees);
       }
 
-  -- one call more
+  -- one more call
   pub leaves_then : (trees : Trees) (old mid new : FileValue F) → LeavesRecords model trees old mid
       → (IsSoundFile model trees mid → LeavesRecords model trees mid new) → (mid.has_stopped ≡ true → new ≡ mid)
       → ((t : ℕ) (c : Contents) → t ≤ model.moment mid.files → model.may_leave mid.files c → model.left_since mid.files t c) → model.may_leave mid.files (model.seen mid.files)

@@ -13,7 +13,7 @@ use Rattle.oram_store.specs.RecordFile.{bounds}
 use Rattle.oram_store.specs.declared.faults.StoreFault.{StoreFault}
 use Rattle.oram_store.specs.declared.faults.StoreFault.TheVariants.{Damaged, Io, OutOfMemory}
 
--- The new files hold what the old ones stood for, also after a crash, and `trees` are the trees of the header.
+-- The new files hold what the old ones stood for, even after a crash, and `trees` are the trees of the header.
 pub record IsOpened {F : Type 0} (model : FileModel F) (redo : Redo) (trees : Trees) (old new : F) : Type 0 where
   pub stands : StandsFor bounds [] (model.seen new Records) (model.seen old)
   pub consistent : IsCrashConsistent model redo [] new

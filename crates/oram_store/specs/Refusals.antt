@@ -19,7 +19,7 @@ abbrev by_shape : Option TreeShape → (TreeShape → Option HostRefusal) → Op
 by_shape None rest = Some NoShape
 by_shape (Some shape) rest = rest shape
 
--- why these trees refuse a request, if they do: of several reasons the one that is checked first
+-- why these trees refuse a request, if they do; if there are several reasons, the one that is checked first
 abbrev pub refusal_by : Trees → HostRequest → Option HostRefusal
 refusal_by trees (request.Fetch tree leaf) = by_shape (shape_at trees tree) (λ s. unless (nat_lt leaf (2 ^ s.depth)) BadLeaf None)
 refusal_by trees (request.Store tree leaf records) =

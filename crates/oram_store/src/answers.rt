@@ -23,7 +23,7 @@ use std::alloc::{AllocError, Global};
 
 /// The outcome of a request that was carried out.
 pub(crate) enum Served {
-    /// The bytes that stand in front, and then the records that the request asks for.
+    /// The bytes that come first, and then the records that the request asks for.
     Records(Vec<u8>),
     Done,
 }
@@ -142,8 +142,8 @@ impl<F: FilePair> FileStore<F> {
         }
     }
 
-    /// Returns the bytes of the answer that `handle` would give to the body of a request. The records stand in one
-    /// vector with the byte before them, so they are copied once.
+    /// Returns the bytes of the answer that `handle` would give to the body of a request. The records are in one vector
+    /// with the byte before them, so they are copied only once.
     ///
     /// It allocates a short answer before it serves the request; if that fails, it serves nothing.
     pub fn answer(&mut self, alloc: Global, body: &[u8]) -> Result<Vec<u8>, AllocError>

@@ -23,8 +23,8 @@ use oram_layout::{
 use oram_redo::{FileKind, FilePair, Redo, recover};
 use std::alloc::Global;
 
-/// Makes two empty files a store without trees, with this identity. After `Ok` they are on the disk. After `Err` they
-/// are neither empty nor a store's, and have to be made again.
+/// Turns two empty files into a store without trees, with this identity. After `Ok` they are on the disk. After `Err`
+/// they may be neither empty nor a store's, and have to be made again.
 pub fn create<F: FilePair>(files: &mut F, identity: &Identity) -> Result<(), StoreFault>
     requires { (file : _) (i : ℕ) → F.model.seen files.old file i ≡ 0 }
     ensures records { OnOk result (IsBucketFile (replicate 256 None) (F.model.seen files.new Records)) }
@@ -84,8 +84,8 @@ fn recover_trees<F: FilePair>(
 }
 
 impl<F: FilePair + Drop> FileStore<F> {
-    /// Opens the files of a store, as a crash or a clean end has left them. The caller has looked at their fronts
-    /// before.
+    /// Opens the files of a store, as a crash or a clean end has left them. The caller has to look at their fronts
+    /// first.
     pub fn over(alloc: Global, mut files: F) -> Result<FileStore<F>, StoreFault>
         // If the files stand for the content of a bucket file, the store has its trees and its records.
         ensures found { IfOk result (λ store. F.model.is_honest store.file.files → (trees : Trees) (c : Content) → StandsFor bounds [] c (F.model.seen files) → IsBucketFile trees c

@@ -22,13 +22,13 @@ pub enum StoreFault {
     #[error("a later version wrote it: serve it with that version")]
     NewerKind,
     /// The log beside the file is missing.
-    #[error("its log, the file beside it with -log behind its name, isn't there: the two belong together, so put back the log that it was served with last")]
+    #[error("its log, the file beside it with -log after its name, isn't there: the two belong together, so put back the log that it was served with last")]
     WithoutLog,
     /// The log beside the file belongs to another file.
-    #[error("the file beside it with -log behind its name isn't its log: the two belong together, so put back the log that it was served with last")]
+    #[error("the file beside it with -log after its name isn't its log: the two belong together, so put back the log that it was served with last")]
     LogOfAnotherFile,
     /// There is a log that holds records, but no file of buckets beside it.
-    #[error("it isn't there, but its log is, the file beside it with -log behind its name: the two belong together, so put the file back, or move the log away for a new one")]
+    #[error("it isn't there, but its log is, the file beside it with -log after its name: the two belong together, so put the file back, or move the log away for a new one")]
     LogWithoutFile,
     /// The file holds something that no store writes.
     #[error("it is damaged")]

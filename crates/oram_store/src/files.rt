@@ -29,8 +29,8 @@ pub type BucketFile = FileStore<SystemPair<Unknown>>;
 /// The mode of a file that only its owner may read and write.
 const OWNERS_ALONE: u32 = 0o600;
 
-/// Opens the file of a store, or makes it if there is none. Its log lies beside it, under the same name and `-log`. The
-/// two belong together.
+/// Opens the file of a store, or makes it if there is none. Its log is beside it, under the same name with `-log`
+/// appended. The two belong together.
 ///
 /// A file that isn't a store's, is damaged or is held by another process is refused and keeps its bytes. This reads
 /// only the header of the file. It reads the log, which has 64 MiB at most, once; after a clean end the log is empty.
@@ -72,9 +72,10 @@ fn log_name(alloc: Global, path: &str) -> Result<String, AllocError> {
     format!(in alloc; "{path}-log")
 }
 
-/// Returns the name under which a file is made.
+/// Returns the name under which a file is made. What has this name already is written over, so it is a name that nobody gives to
+/// a file of their own.
 fn new_name(alloc: Global, path: &str) -> Result<String, AllocError> {
-    format!(in alloc; "{path}.new")
+    format!(in alloc; "{path}.unfinished")
 }
 
 /// Opens a regular file for reading and writing. Fails with `not_plain` if the path leads to nothing or to anything
@@ -255,8 +256,8 @@ fn make_files(
     make_and_rename(rt, alloc, path, log_name.as_str())
 }
 
-/// Makes the file of a store and its log under other names, and renames them, so that nobody ever meets half of one.
-/// The new file is locked before it gets its name.
+/// Makes the file of a store and its log under other names, and renames them, so that nobody ever sees half of one. The
+/// new file is locked before it gets its name.
 fn make_and_rename(
     rt: &HostRuntime,
     alloc: Global,
@@ -282,7 +283,7 @@ fn open_new_locked(rt: &HostRuntime, name: &str, path: &str) -> Result<File, Sto
     Ok(records)
 }
 
-/// Makes the file that was locked, and a log that it opens under this name, a store without trees.
+/// Turns the locked file, and a log that it opens under this name, into a store without trees.
 fn make_empty(
     rt: &HostRuntime,
     records: File,

@@ -27,9 +27,9 @@ pub(crate) const BOUNDS: Bounds = Bounds {
 pub(crate) struct RecordFile<F: FilePair> {
     files: F,
     redo: Redo,
-    /// Since the last sync of the records, a patch was written that the log doesn't have.
+    /// Whether, since the last sync of the records, a patch was written that the log doesn't have.
     is_loose: bool,
-    /// A call of the files has failed: they have to be opened again.
+    /// Whether a call of the files has failed, so that they have to be opened again.
     has_stopped: bool,
 }
 

@@ -55,7 +55,7 @@ impl<F: FilePair> Model for FileStore<F> {
     ghost invariant = { λ s. (length s.trees.items ≡ 256) × AreCells s.pending.items };
 }
 
-/// Commits that the records of these cells are there.
+/// Commits the marks which say that the records of these cells are there.
 fn commit_marks<F: FilePair>(
     alloc: Global,
     file: &mut RecordFile<F>,
@@ -196,8 +196,8 @@ impl<F: FilePair> FileStore<F> {
         HostRefusal::OutOfMemory
     }
 
-    /// Makes the records durable that a formatting has put so far. After `Err`, none of them is, and they still wait to
-    /// be committed.
+    /// Makes durable the records that a formatting has put so far. After `Err`, none of them is, and they still wait to be
+    /// committed.
     pub fn commit_puts(&mut self) -> Result<(), StoreFault>
         ensures none { self.old.pending ≡ [] → IsOk result × (self.new ≡ self.old) }
         ensures none_pending { OnOk result (self.new.pending ≡ []) }

@@ -181,7 +181,7 @@ fn places_without(
     Ok(rest)
 }
 
-/// Writes each element of `to` to the index in `order` that the same element of `from` gives.
+/// Writes each element of `to` to the index in `order` that the element of `from` at the same index gives.
 fn send(order: &mut [u64], from: &[u64], to: &[u64])
     requires lengths { length from.now ≡ length to.now }
     requires within { All (λ p. p < length order.old) from.now }

@@ -21,7 +21,7 @@ lent_at lists level list lt is =
     let f = λ (v : Vec (Bor Cell) Global). map (λ (b : Bor Cell). b.now) v.items in
     get_or-map f lists level list [] lt ∙ ap f (sym is)
 
--- a property of each part at its level, also with one more part
+-- a property of each part at its level, and of one more part
 at_more : (P : ℕ → List ℕ → Type 0) (parts : List (List ℕ)) (part : List ℕ) (n : ℕ) → length parts ≡ n → ((k : ℕ) → k < n → P k (part_at parts k)) → P n part → (k : ℕ) → k < n + 1 → P k (part_at (parts ++ part ∷ []) k)
 at_more P parts part n long before here k lt = elim (cases_eq k n) [
   | inl last ↦ subst (P k) (sym (get_or_push parts part [] k (long ∙ sym last))) (let Q : ℕ → Type 0 = λ j. P j part in subst Q (sym last) here)

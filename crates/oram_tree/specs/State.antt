@@ -7,7 +7,7 @@ use Rattle.oram_bucket.specs.Cell.{Cell}
 use Rattle.oram_bucket.specs.SealedBlocks.{Reads}
 use Rattle.oram_tree.specs.Content.{Map, HasContent}
 
--- a tree, as clauses see it: its number, the digest of its root's record, and its stash
+-- a tree, as the clauses of contracts see it: its number, the digest of its root's record, and its stash
 pub record State : Type 0 where
   pub number : ℕ
   pub root : List ℕ

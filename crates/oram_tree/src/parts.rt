@@ -18,7 +18,7 @@ use std::marker::Model;
 pub struct TreeParts {
     /// The digest of the root's record.
     pub root: [u8; DIGEST_LEN],
-    /// The blocks of the stash, by rising address.
+    /// The blocks of the stash, in increasing order of address.
     pub stash: Vec<Block>,
 }
 
@@ -42,8 +42,8 @@ impl Tree {
         })
     }
 
-    /// Makes the tree of a device from its parts, or fails with `Content` if they can't be parts of this tree. Needs no
-    /// memory, since it doesn't copy the blocks.
+    /// Makes the tree of a device from its parts, or fails with `Content` if they can't be parts of this tree.
+    /// Allocates nothing, since it doesn't copy the blocks.
     pub fn from_parts(
         _alloc: Global,
         device: &Device,

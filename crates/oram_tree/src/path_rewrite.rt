@@ -204,8 +204,8 @@ fn addresses_of(alloc: Global, blocks: &[&Block]) -> Result<Vec<u32>, AllocError
     blocks.iter().map(|block| block.address).collect(alloc)
 }
 
-/// Evicts the blocks that wait to the path and appends its new records to `out`. Returns the addresses of the blocks
-/// that stay in the stash, and the new root digest.
+/// Evicts the waiting blocks to the path, and appends the path's new records to `out`. Returns the addresses of the blocks that
+/// stay in the stash, and the new root digest.
 fn evict_to<S: Sealer>(
     alloc: Global,
     device: &Device,
@@ -320,7 +320,7 @@ fn take_before(stash: &mut Stash, address: u32, on_path: Lookup) -> Lookup
     }
 }
 
-/// Changes the stash as a prepared access says, and returns what the access found. Needs no memory.
+/// Changes the stash as a prepared access says, and returns what the access found. Allocates nothing.
 fn commit(stash: &mut Stash, address: u32, prepared: Prepared) -> Lookup
     requires apart { (c d : Cell) → Contains stash.old c → Contains prepared.near d
         → c.address ≡ d.address → c.address ≡ address }

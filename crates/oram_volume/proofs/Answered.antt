@@ -33,7 +33,7 @@ use Rattle.oram_volume.specs.CarriedOut.{bodies_from}
 use Rattle.oram_volume.specs.HeldArrays.{HostBeside, HostHears}
 use Rattle.oram_volume.proofs.HeldArrays.{Goes, Holds, acts_hold, submitted_hold, had, heard, keeps_on}
 
--- no command's reply of an array is that the device failed
+-- no reply of an array says that the device failed
 never_failed : (bytes : List ℕ) (c : Command) → body_from bytes c ≢ Failed
 never_failed bytes (Command.Read a) e = cc
 never_failed bytes (Command.Write a new) e = cc
@@ -126,8 +126,8 @@ module _ {B K : Type 0} (batches : B → List (List ℕ) → BatchOutcome → Li
             let whole : replies ≡ gave ++ map failed_reply (y ∷ xs) = all ∙ ap (λ (zs : List Submission). gave ++ map failed_reply zs) some in
             inr (lies, λ ok. failed_shows gave y xs (subst NoneFailed whole ok))
 
-    -- Submissions, and then acts that begin with a keeping, and bring a reply to each command that waits. What the process holds then is
-    -- kept.
+    -- Submissions, and then acts that begin with a keeping, and bring a reply to each command that waits. What the process
+    -- holds then is kept.
     pub replies_go_on : (ys : List Submission) → t.queue ≡ ys → (rest : List Act) → acts ≡ Keeps true ∷ rest
         → Goes batches reads_back are v words (process s l k)
         (λ may_lie old new. (new.held ≡ array_with v.device submitted old.held) × AreRight may_lie ys replies old.held × (new.saved ≡ Some new.held)) q

@@ -1,4 +1,4 @@
--- A round of commands behind what waited: what it leaves, by what each of its parts says.
+-- A round of commands after what waited: what it leaves, by what each of its parts says.
 use Rattle.std.proofs.Common.{◌≡◌, ◌≢◌, ◌⊎◌, ℕ, ◌<◌, ◌≤◌, Bool, true, false, List, [], ◌∷◌, ◌++◌, length, map, take, drop, count_by, All, None, Option, Some, Result, Ok, Err, IfErr, IfOk, IsErrOf, MatchResult, refl, sym, ap, ◌∙◌, subst, append_assoc, arith, inl, inr}
 use Rattle.std.proofs.lemmas.List.{length-map, map-append, take-append-drop, take-append-le, append-nil, nil_from_length}
 use Rattle.std.proofs.lemmas.List.Elements.{All-cons, All-head, All-nil, All-tail}
@@ -78,7 +78,7 @@ FirstOnes d commands old new = IsAfterFirst d commands old.held new.held × Save
 pub first_none : (d : Sizes) (commands : List Command) (array part : ℕ → List ℕ) → part ≡ array → IsAfterFirst d commands array part
 first_none d commands array part same = ([], commands, refl, same)
 
--- of no commands, the first ones are none
+-- if there are no commands, none of them comes first
 nothing_first : (d : Sizes) (commands : List Command) → commands ≡ [] → (array later : ℕ → List ℕ) → IsAfterFirst d commands array later → later ≡ array
 nothing_first d commands none array later (done, rest, split, is) =
     is ∙ ap (λ (cs : List Command). after_commands d cs array) (no_front done rest (sym split ∙ none))

@@ -42,7 +42,7 @@ heard may_lie (e ∷ exchanges) w later all =
 abbrev pub Nothing : {K : Type 0} → K → List ℕ → Type 0
 Nothing keeper bytes = ⊥
 
--- where the array that may be read back is the present one, it stays so
+-- if the array that may be read back is the present one, it stays so
 earlier_same : (acts : List Act) (array : ℕ → List ℕ) → earlier acts array array ≡ array
 earlier_same [] array = refl
 earlier_same (Hears event x ∷ acts) array = earlier_same acts array
@@ -52,7 +52,7 @@ earlier_same (GoesAhead exchanges ∷ acts) array = earlier_same acts array
 earlier_same (Keeps true ∷ acts) array = earlier_same acts array
 earlier_same (Keeps false ∷ acts) array = earlier_same acts array
 
--- where acts have another array read back than the one before them, it is the present one
+-- the array that may be read back after some acts is the one from before them, or the present one
 earlier_either : (acts : List Act) (before array : ℕ → List ℕ) → (earlier acts before array ≡ before) ⊎ (earlier acts before array ≡ array)
 earlier_either [] before array = inl refl
 earlier_either (Hears event x ∷ acts) before array = earlier_either acts before array
@@ -262,7 +262,7 @@ module _ {B K : Type 0} (batches : B → List (List ℕ) → BatchOutcome → Li
             ),
           )
 
-  -- where acts stop, the process does
+  -- if acts stop, the process does
   pub acts_stop : (acts : List Act) (p q : Process B K) → DoesAll v batches reads_back p acts q → (status_in q.core ≡ Stalling) ⊎ ((before : List Act) × (acts ≡ before ++ Keeps false ∷ []))
       → Stops batches reads_back (at p) (at q)
   acts_stop acts p q does why = (

@@ -14,7 +14,7 @@ use Rattle.oram_rounds.specs.Process.{Act, DoesAll, IsBrokenResumption, IsBroken
 use Rattle.oram_rounds.specs.Process.Act.{Hears, Keeps}
 use Rattle.oram_volume.proofs.HeldArrays.{HaveKept, NoWorkIsKept, kept_first}
 
--- a core without work, whose message is lost, has none without that
+-- if a core has no work with its message lost, it has none otherwise
 no_work_found : (s : State) → HasNoWork (record s { lost = true }) → HasNoWork s
 no_work_found s h = at s.failure s.queue s.lost h
   where

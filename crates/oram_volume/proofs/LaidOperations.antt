@@ -230,7 +230,7 @@ pub begun_all_of : (ops : List Operation) (bytes : List ℕ) → AreBegun ops by
 begun_all_of [] bytes = refl
 begun_all_of (op ∷ ops) bytes = inr (begun_all_of ops (done_by op bytes))
 
--- what all elements of a list have, those of a part have too
+-- what all elements of a list have, the elements of a part of it have too
 pub middle_all : {X : Type 0} (P : X → Type 0) (xs ys zs : List X) → All P (xs ++ (ys ++ zs)) → All P ys
 middle_all P [] [] zs all = All-nil P
 middle_all P [] (y ∷ ys) zs all = All-cons P y ys (All-head P y (ys ++ zs) all) (middle_all P [] ys zs (All-tail P y (ys ++ zs) all))

@@ -46,7 +46,7 @@ blocks_alike x y first (suc n) same =
     ap (λ (r : List ℕ). r ++ blocks_from x (suc first) n) (same first (omega arith) (omega arith))
     ∙ ap (λ (r : List ℕ). y first ++ r) (blocks_alike x y (suc first) n (λ a low high. same a (omega (arith, low)) (omega (arith, high))))
 
--- block k of the array, between those before it and those behind it
+-- block k of the array, between those before it and those after it
 module _ (d : Sizes) (array : ℕ → List ℕ) (bytes : List ℕ) (k rest : ℕ) (laid : IsLaidOut d array bytes) (within : k + suc rest ≡ d.blocks) where
   abbrev front : List ℕ
   front = blocks_from array 0 k
@@ -99,7 +99,7 @@ module _ (d : Sizes) (array : ℕ → List ℕ) (bytes : List ℕ) (k rest : ℕ
 pub length_laid : (d : Sizes) (array : ℕ → List ℕ) (bytes : List ℕ) → IsLaidOut d array bytes → length bytes ≡ d.block_bytes * d.blocks
 length_laid d array bytes laid = ap length laid.all ∙ length_blocks d.block_bytes d.blocks array laid.long 0 d.blocks (omega arith)
 
--- the blocks behind this one
+-- the blocks after this one
 abbrev behind_it : Sizes → ℕ → ℕ
 behind_it d k = d.blocks - suc k
 
@@ -118,7 +118,7 @@ pub read_laid : (d : Sizes) (array : ℕ → List ℕ) (bytes : List ℕ) (k : �
     → bytes_at bytes (d.block_bytes * k) d.block_bytes ≡ array k
 read_laid d array bytes k laid low = one_block d array bytes k (behind_it d k) laid (count_behind d k low)
 
--- The bytes are laid out after a command on block k of the disk, whose address is as great.
+-- The bytes are laid out after a command on block k of the disk.
 
 pub laid_after_read : (d : Sizes) (k : ℕ) (array : ℕ → List ℕ) (bytes : List ℕ) → IsLaidOut d array bytes → IsLaidOut d (array_after d (Read k) array) bytes
 laid_after_read d k array bytes laid = record {

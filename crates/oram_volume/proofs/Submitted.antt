@@ -56,7 +56,7 @@ refusal_fits : (d : Sizes) (failed : Bool) (waiting taken : ℕ) (c : Command) (
 refusal_fits d true waiting taken c words fits = refl
 refusal_fits d false waiting taken c words fits = rw (fit_address d c fits) (rw (fit_length d c fits) refl)
 
--- the command is accepted, and stands at the end of the queue; or it is refused, and nothing changes
+-- the command is accepted, and is at the end of the queue; or it is refused, and nothing changes
 abbrev Joins : State → SubmittedCommand → State → Type 0
 Joins s a t = (is_accepted a.shown.note ≡ true) × (y : Submission) × (y.command ≡ a.command) × (t.queue ≡ s.queue ++ y ∷ [])
     × ((d : Sizes) (array : ℕ → List ℕ) → array_if a.shown.note d a.command array ≡ array_after d a.command array) × (t.failure ≡ s.failure)
@@ -139,7 +139,7 @@ module _ (v : Scheme) (words : ℕ → ℕ → List ℕ) (session : ℕ) where
       refusal_fits v.device (is_over (status_in s)) (length s.queue) s.next a.command a.words fits
       ∙ ap (λ (ws : List ℕ). rest_of v.device (is_over (status_in s)) (length s.queue) s.next ws) step.1
 
-  -- where one is refused, all others are too
+  -- if one is refused, all after it are refused too
   all_refused : (e : Refusal) (submitted : List SubmittedCommand) (s t : State) → AreSubmitted v words session s submitted t → AllFit submitted → now_refused s ≡ Some e
       → (array : ℕ → List ℕ) → array_with v.device submitted array ≡ array
   all_refused e [] s t all fits is array = refl
@@ -185,7 +185,7 @@ module _ (v : Scheme) (words : ℕ → ℕ → List ℕ) (session : ℕ) where
   counted : (a : SubmittedCommand) (submitted : List SubmittedCommand) → accepted_in (a ∷ submitted) ≡ (if is_accepted a.shown.note then 1 else 0) + accepted_in submitted
   counted a submitted = sum_by-cons (λ (n : Note). if is_accepted n then 1 else 0) a.shown.note (map (λ (b : SubmittedCommand). b.shown.note) submitted)
 
-  -- where all commands are accepted, they stand in the queue in their order
+  -- if all commands are accepted, they are in the queue in their order
   pub record AreQueued (submitted : List SubmittedCommand) (s t : State) : Type 0 where
     pub waiting : List Submission
     pub commands : map (λ (y : Submission). y.command) waiting ≡ map (λ (a : SubmittedCommand). a.command) submitted
@@ -216,7 +216,7 @@ module _ (v : Scheme) (words : ℕ → ℕ → List ℕ) (session : ℕ) where
             absurd (omega (arith, none, many, most))
       ]
 
-  -- where fewer are accepted than were submitted, one of them wasn't accepted
+  -- if fewer are accepted than were submitted, one of them wasn't accepted
   pub one_refused : (submitted : List SubmittedCommand) → accepted_in submitted < length submitted → (before after : List SubmittedCommand) × (a : SubmittedCommand) × (is_accepted a.shown.note ≡ false) × (submitted ≡ before ++ a ∷ after)
   one_refused [] few = absurd (omega (arith, few))
   one_refused (a ∷ submitted) few = by (is_accepted a.shown.note) refl (λ less. one_refused submitted less)

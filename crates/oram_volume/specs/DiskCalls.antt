@@ -16,8 +16,8 @@ data_of (Data bytes) = bytes
 data_of Done = []
 data_of Failed = []
 
--- The volume took steps from one state to another. Whatever host goes through their exchanges: for all that was known of it before,
--- `step` leads to what is known of it now.
+-- The volume took steps from one state to another. Beside each host that goes through their exchanges, `step` leads from all
+-- that was known of the volume before to what is known of it now.
 abbrev pub VolumeGoesOn : {S B K T : Type 0} → (S → Cipher) → (T → ℕ → ℕ → List ℕ) → (B → List (List ℕ) → BatchOutcome → List Exchange → B → Type 0)
     → (K → List ℕ → Type 0) → Volume S B K T → (Bool → Arrays (List ℕ) → Arrays (List ℕ) → Type 0) → Volume S B K T → Type 0
 VolumeGoesOn cipher words batches reads_back old step new =

@@ -31,12 +31,12 @@ pub record Running (B K : Type 0) : Type 0 where
   pub words : ℕ → ℕ → List ℕ
   pub process : Process B K
 
--- that of a volume, by the cipher of its sealer
+-- the process of a volume, its scheme by the cipher of its sealer, and the words of its tape
 abbrev pub running : {S B K T : Type 0} → (S → Cipher) → (T → ℕ → ℕ → List ℕ) → Volume S B K T → Running B K
 running cipher words d = record { scheme = scheme_of cipher d.core; words = words d.tape; process = process d.core.state d.link d.keeper }
 
--- Beside this host the device holds the array; or it will, once the commands that wait are carried out. Where the host may
--- lie it may also have failed.
+-- Beside this host the device holds the array; or it will, once the commands that wait are carried out. If the host may
+-- lie, the device may also have failed.
 pub record HoldsArray {B K : Type 0} (may_lie : Bool) (p : Running B K) (w : HostBeside) (array : ℕ → List ℕ) : Type 0 where
   pub same : w.scheme ≡ p.scheme
   pub device : IsDevice p.scheme.device
@@ -51,8 +51,8 @@ pub record HoldsBytes {B K : Type 0} (may_lie : Bool) (p : Running B K) (w : Hos
   pub holds : HoldsArray may_lie p w array
   pub laid : IsLaidOut p.scheme.device array bytes
 
--- Beside this host the process holds the array. The next process will hold it too, or the one before, whatever is read back of
--- the keeper. While no command is at work, the two are one array.
+-- Beside this host the process holds the array. The next process will hold it too, or the one before, whatever is read back
+-- from the keeper. While no command is at work, the two are one array.
 pub record KeepsArray {B K : Type 0} (reads_back : K → List ℕ → Type 0) (may_lie : Bool) (p : Running B K) (w : HostBeside) (before array : ℕ → List ℕ) : Type 0 where
   pub same : w.scheme ≡ p.scheme
   pub device : IsDevice p.scheme.device

@@ -30,8 +30,8 @@ BegunDevicesHold B K = (may_lie : Bool) (v : Scheme) (file : List ℕ) (host : H
     → HoldsBytes may_lie (next_process v words inner stores core keeper) (host_of v host) bytes_before
     ⊎ HoldsBytes may_lie (next_process v words inner stores core keeper) (host_of v host) bytes
 
--- What a process keeps outlasts it. Wherever it ends, and whatever is read back then, the process that begins with that holds
--- the bytes that were kept: those of the one array or the other.
+-- What a process keeps outlasts it. Wherever it ends, and whatever is read back then, the process that begins with
+-- what is read back holds the bytes that were kept: those of the one array or the other.
 abbrev pub KeptBytesOutlast : {B K : Type 0} → (B → List (List ℕ) → BatchOutcome → List Exchange → B → Type 0) → (K → List ℕ → Type 0) → Type 0
 KeptBytesOutlast {B} {K} batches reads_back = AreBatches batches
     → (may_lie : Bool) (p : Running B K) (w : HostBeside) (saved bytes : List ℕ) → KeepsBytes reads_back may_lie p w saved bytes

@@ -31,7 +31,7 @@ commands_of block (operation.Zero at count) = discard_commands (at / block) (cou
 abbrev pub all_commands : ℕ → List Operation → List Command
 all_commands block ops = flat_map (commands_of block) ops
 
--- what is left of them behind the first blocks of the first operation, or of another one
+-- the commands that are left after the first `done` blocks of the first operation, or of operation `number`
 abbrev pub rest_in : ℕ → List Operation → ℕ → List Command
 rest_in block [] done = []
 rest_in block (op ∷ ops) done = drop done (commands_of block op) ++ all_commands block ops

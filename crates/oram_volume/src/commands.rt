@@ -10,7 +10,8 @@ use oram_core::{Command, MOST_WAITING};
 use oram_nbd::Operation;
 use std::alloc::{AllocError, Global};
 
-/// How far a list of operations was made commands: those before `operation` were, and `block` blocks of this one.
+/// How far a list of operations was turned into commands: all operations before `operation`, and `block` blocks of that
+/// one.
 #[derive(Clone, Copy, Debug)]
 pub(crate) struct Cursor {
     pub(crate) operation: usize,
@@ -43,7 +44,7 @@ fn command_at(
     }
 }
 
-/// Passes over operations all of whose blocks are commands already.
+/// Passes over operations whose blocks have all been turned into commands.
 fn pass_over(block: u64, operations: &[Operation], cursor: &mut Cursor)
     requires block { 0 < block }
     requires whole { All (IsWhole block) operations.now }

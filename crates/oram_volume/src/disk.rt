@@ -44,7 +44,7 @@ fn read_bytes(operation: &Operation) -> u64
     }
 }
 
-/// Returns how many bytes all operations read, or the greatest number if they are more.
+/// Returns how many bytes all operations read, or `usize::MAX` if they are more.
 fn read_in_all(operations: &[Operation]) -> usize
     ensures { result ≡ min (sum_by read_len operations.now) (2 ^ 64 - 1) }
 {

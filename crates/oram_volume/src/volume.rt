@@ -25,8 +25,8 @@ const SESSION: u32 = 0;
 /// A device whose state is kept, as a disk of whole blocks.
 ///
 /// The link has to be made for the core's device, the keeper has to keep this process alone, and the tape has to be the
-/// device's own, with as many trees. The disk stops if the host is out of reach, if the process can't be kept, or if no
-/// access is left; a host that doesn't answer as it has to fails it for good.
+/// device's own, with as many trees. The disk stops if the host is out of reach, if the process can't be kept, or if no access
+/// is left; if the host doesn't answer as it has to, the disk fails for good.
 #[derive(Drop)]
 pub struct Volume<S: Sealer, B: BatchLink, K: Keeper, T: Tape> {
     pub core: Core<S>,
@@ -91,9 +91,10 @@ impl<S: Sealer, B: BatchLink, K: Keeper, T: Tape> Volume<S, B, K, T> {
         }
     }
 
-    /// Carries out commands in one round, behind what waits, and returns their replies, in their order. An `Ok` of commands says
-    /// that what they have done is kept. After an `Err` the first ones, some or none of them, are carried out or will be. The
-    /// next process would then hold what it would have held before the call, or what the first ones, some or none, leave.
+    /// Carries out commands in one round, after what waits, and returns their replies, in their order. If there are commands,
+    /// an `Ok` says that what they have done is kept. After an `Err` the first ones, some or none of them, are carried out or
+    /// will be. The next process would then hold what it would have held before the call, or what the first ones, some or none,
+    /// leave.
     pub(crate) fn carry_out_all(
         &mut self,
         alloc: Global,

@@ -67,7 +67,7 @@ frames_across held piece part after body rest n bodies left unfinished n_is part
       leaves = leaves;
     }
 
--- no frame stands at the front
+-- the front has no frame
 abbrev IsEnd : List ℕ → Type 0
 IsEnd rest = IsBroken rest ⊎ IsUnfinished rest
 

@@ -38,7 +38,7 @@ impl From<AllocError> for FrameFault {
 #[derive(Clone, Copy, Debug, PartialEq, Eq)]
 pub struct WriteFault;
 
-/// Reads until the buffer is full or the input ends, and returns the number of bytes read. Repeats an interrupted read.
+/// Reads until the buffer is full or the input ends, and returns the number of bytes read. Retries an interrupted read.
 /// Fails only with `Read`.
 pub fn fill<R: Read>(reader: &mut R, buf: &mut [u8]) -> Result<usize, FrameFault>
     ensures within { IfOk result (λ n. n ≤ length buf.new) }
@@ -72,7 +72,7 @@ pub fn fill<R: Read>(reader: &mut R, buf: &mut [u8]) -> Result<usize, FrameFault
     Err(FrameFault::Read)
 }
 
-/// Returns the number that four bytes spell.
+/// Returns the number that four bytes encode.
 fn number_of(bytes: &[u8]) -> u32
     requires { length bytes.now ≡ 4 }
     ensures { to_be_bytes w32 result ≡ bytes.now }
@@ -125,7 +125,7 @@ pub fn read_body<R: Read>(alloc: Global, reader: &mut R, len: usize) -> Result<V
 
 /// Reads one frame, and no byte after it. Returns its body, or `None` if the input ends before a frame.
 ///
-/// It reads the length first, and then the body directly into the vector that it returns. It repeats an interrupted
+/// It reads the length first, and then the body directly into the vector that it returns. It retries an interrupted
 /// read.
 pub fn next_frame<R: Read>(alloc: Global, reader: &mut R) -> Result<Option<Vec<u8>>, FrameFault>
     ensures ok { IfOk result (λ next. MatchOption next

@@ -20,7 +20,7 @@ pub(super) const HEAD: usize = 4;
 pub struct Fed {
     /// The bodies of the frames that the piece completed, in order.
     pub frames: Vec<Vec<u8>>,
-    /// In this piece or before it, the length of a frame was greater than that of the longest body.
+    /// Whether the length of a frame, in this piece or before it, was greater than that of the longest body.
     pub broken: bool,
 }
 

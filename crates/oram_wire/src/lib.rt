@@ -4,7 +4,7 @@
 //! A body is a request to the host, the host's answer, a user's request to the daemon, or the daemon's reply. A frame
 //! is a body after its length in four bytes. `Frames` takes a stream of frames in pieces of any size; `next_frame`
 //! reads one frame from a reader, and `put_frame` writes one to a writer. These two use `fill`, `read_body` and
-//! `write`, which also serve messages in other frames.
+//! `write`, which also serve messages with other framing.
 #![tactic(auto)]
 
 mod faults;

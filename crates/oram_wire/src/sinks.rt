@@ -9,7 +9,7 @@ use std::marker::Model;
 /// Why a sink didn't take a body.
 #[derive(Clone, Copy, Debug, PartialEq, Eq)]
 pub enum SinkFault {
-    /// The host gave another answer than that it is done.
+    /// The host gave an answer other than that it is done.
     Refused,
     /// The link to the host failed.
     Link,

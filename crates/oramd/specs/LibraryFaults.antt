@@ -33,7 +33,7 @@ shape_fault why = Shape (sizes.fault_number why)
 abbrev pub state_fault : StateFault → Fault
 state_fault why = option_map_or State (state.fault_number why) OutOfMemory
 
--- oramd's fault where a formatting is broken off, by why it is
+-- oramd's fault if a formatting is broken off for this reason
 abbrev pub format_fault : FormatFault → Fault
 format_fault (format.Sink sink.Refused) = HostRefused
 format_fault (format.Sink sink.Link) = Socket

@@ -37,7 +37,7 @@ pub data SettingsValue : Type 0 where
   format : FormatSettings → SettingsValue
   proxy : ProxySettings → SettingsValue
 
--- settings as clauses see them
+-- settings, as the clauses of contracts see them
 abbrev pub settings_value : Settings → SettingsValue
 settings_value (settings.Host listen connections image) = host (record { listen = string_bytes listen; connections = connections; image = string_bytes image })
 settings_value (settings.Format server state key blocks block_bytes slots top lifetime) = format (record {

@@ -56,8 +56,8 @@ fn subcommand_of(alloc: Global, name: &str, word: &str) -> Result<Subcommand, In
     }
 }
 
-/// Reads the words of a command line, beginning with the program's name. Fails with `Bad` if they ask for nothing; help
-/// can't be asked for.
+/// Reads the words of a command line, beginning with the program's name. Fails with `Bad` if they ask for nothing that
+/// the program can do. A request for help fails with `Bad` too.
 pub fn read_command_line(alloc: Global, words: &[&str]) -> Result<Subcommand, InputFault>
     // It is what clap's matches of the words ask for.
     ensures ok { IfOk result (λ w. request_in (texts words.now) ≡ Some (request_for w)) }

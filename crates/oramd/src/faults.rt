@@ -17,7 +17,7 @@ use std::io::Write;
 /// Why the program ends early. Each fault has its own line.
 #[derive(Debug, PartialEq, Eq, Drop)]
 pub enum Fault {
-    /// The words of the command line ask for nothing.
+    /// The words of the command line ask for nothing that the program can do.
     CommandLine,
     /// The digits are not hexadecimal, or their bytes are not whole frames.
     Hex,
@@ -28,11 +28,11 @@ pub enum Fault {
     File(String),
     /// A socket failed.
     Socket,
-    /// The settings' numbers make no device. The number tells the first one out of its range.
+    /// The settings' numbers make no device. The number says which one is the first that is out of its range.
     Shape(u8),
-    /// The state file holds no core. The number tells why.
+    /// The state file holds no core. The number says why.
     State(u8),
-    /// The image file holds no host. The number tells why.
+    /// The image file holds no host. The number says why.
     Image(u8),
     /// The host refused a message of the formatting.
     HostRefused,

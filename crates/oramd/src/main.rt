@@ -1,4 +1,5 @@
-//! The block store as a daemon: a bucket host, the formatting of a device on it, and the proxy that answers the device's sessions.
+//! The block store as a daemon: a bucket host, the formatting of a device on it, and the proxy that answers the device's
+//! sessions.
 #![tactic(auto)]
 
 mod command_line;

@@ -155,7 +155,7 @@ fn save_core<S: Sealer>(rt: &HostRuntime, file: &AtomicFile, core: &Core<S>) -> 
     Ok(file.save_bytes(rt, &bytes)?)
 }
 
-/// Answers the sessions of a device, and returns how they ended. Fails if they can't begin: the core is as it was then.
+/// Answers the sessions of a device, and returns how they ended. Fails if they can't begin; the core is then as it was.
 fn answer<S: Sealer>(
     rt: &HostRuntime,
     serving: &Serving,
@@ -185,7 +185,7 @@ fn proxy<S: Sealer>(
     file.check_present(rt)?;
     let _lock = take_lock(rt, file.name())?;
     let mut core = saved_core(rt, file.name(), sealer)?;
-    // The memory that the tape holds is free again behind this.
+    // The memory that the tape holds is free again after this.
     let served = answer(rt, serving, &mut core)?;
     save_core(rt, &file, &core)?;
     ending(&core, served)

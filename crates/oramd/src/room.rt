@@ -26,9 +26,8 @@ fn room_for<S: Sealer>(alloc: Global, core: &Core<S>) -> Result<Vec<u8>, AllocEr
 
 /// A tape that holds room for saving the state of its device, and takes more before a command that may need it.
 ///
-/// A proxy saves its state when it ends, even if it ends because it is out of memory. Otherwise the next proxy would go
-/// on from an old state, while the host is further on. So a command for which there is no room gets no words, and isn't
-/// accepted.
+/// A proxy saves its state when it ends, even if it ends because it is out of memory. Otherwise the next proxy would go on from
+/// an old state, while the host's records are newer. So a command for which there is no room gets no words, and isn't accepted.
 #[derive(Drop)]
 pub(crate) struct RoomyTape<T> {
     tape: T,

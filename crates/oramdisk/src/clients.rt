@@ -1,4 +1,4 @@
-//! The disk has one NBD client at a time. Time limits keep a client that stalls from holding it for ever, and other
+//! The disk has one NBD client at a time. Time limits keep a client that stalls from holding it forever, and other
 //! clients are turned away.
 
 use oram_disk_host::time;
@@ -16,7 +16,7 @@ const LONGEST_HANDSHAKE: u64 = 10;
 /// How long a client may leave a reply unread, in seconds.
 const LONGEST_UNREAD: u64 = 60;
 
-/// Why the disk parted with a client.
+/// Why the disk dismissed a client.
 #[derive(Clone, Copy, Debug, PartialEq, Eq)]
 pub(crate) enum Dismissal {
     NoHandshake,
@@ -55,7 +55,7 @@ impl<'r, 'l, R: Clock> ClientAttendant<'r, 'l, R> {
         })
     }
 
-    /// Returns why the disk parted with the client, if it did.
+    /// Returns why the disk dismissed the client, if it did.
     pub(crate) fn dismissal(&self) -> Option<Dismissal> {
         self.dismissal.get()
     }
@@ -74,6 +74,10 @@ impl<'r, 'l, R: Clock + Eprint + AllocGlobal> ClientAttendant<'r, 'l, R> {
 
 impl<'r, 'l, R: Clock + Eprint + AllocGlobal> Attendant for ClientAttendant<'r, 'l, R> {
     fn limit(&self, direction: Direction) -> io::Result<Option<Duration>> {
+        // What a client that is dismissed has left unread isn't waited for a second time, when its writer is dropped.
+        if self.dismissal.get().is_some() {
+            return Ok(Some(Duration::ZERO));
+        }
         match (self.handshake_until.get(), direction) {
             (Some(until), _) => {
                 Ok(Some(until.saturating_duration_since(Instant::now(self.rt)?)))

@@ -2,7 +2,6 @@
 #![tactic(auto)]
 
 mod clients;
-mod newest;
 mod serve_command;
 mod watched_disk;
 

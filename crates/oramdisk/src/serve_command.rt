@@ -1,7 +1,6 @@
 //! Serves a disk to NBD clients, one connection after the other.
 
 use crate::clients::{ClientAttendant, Dismissal};
-use crate::newest::is_replaced;
 use crate::watched_disk::{FailureKeeper, WatchedDisk};
 use oram_bucket::{ChaChaSeal, PlainSeal, Sealer};
 use oram_client::{
@@ -9,8 +8,8 @@ use oram_client::{
 };
 use oram_core::{Core, Reason};
 use oram_disk_client::{
-    disk_in, keep_failure, kept_failure, kept_in, keys_in, named, process_for, state_bytes,
-    take_lock,
+    disk_in, is_replaced, keep_failure, kept_failure, kept_in, keys_in, named, process_for,
+    state_bytes, take_lock,
 };
 use oram_disk_host::{Fault, FaultKind, listen_at, not_accepted, time};
 use oram_nbd::{BlockDevice, DiskFault, NbdFault, is_stop, serve};
@@ -67,7 +66,7 @@ struct Ended {
 }
 
 impl Ended {
-    /// Makes the end of a client that wasn't served at all because of `fault`.
+    /// Returns the end of a client that wasn't served at all because of `fault`.
     fn by(fault: NbdFault) -> Ended {
         Ended {
             served: Err(fault),
@@ -101,7 +100,7 @@ fn report_connection<R: Clock + Eprint + AllocGlobal>(
     Ok(())
 }
 
-/// Serves one client to its end, and turns others away meanwhile.
+/// Serves one client until its connection ends, and turns others away meanwhile.
 fn serve_client<R: Net + Clock + Eprint + AllocGlobal, D: BlockDevice>(
     rt: &R,
     listener: &Listener,
@@ -148,7 +147,7 @@ fn serve_client_alone<R: Net + Clock + Eprint + AllocGlobal, D: BlockDevice>(
     ended
 }
 
-/// Keeps why a disk failed in a file beside its state, and prints it on standard error.
+/// Records why a disk failed in a file beside its state, and prints it on standard error.
 #[derive(Drop)]
 struct FailureFile<'a> {
     rt: &'a HostRuntime,
@@ -253,7 +252,7 @@ fn stopped<S: Sealer>(volume: &DiskVolume<'_, S>, settings: DiskSettings) -> Fau
     }
 }
 
-/// Serves a disk until it stops, and returns why. It first carries out the commands that wait from before.
+/// Serves a disk until it stops, and returns why. It first carries out the commands that still wait from before.
 fn serve_volume<S: Sealer>(
     rt: &HostRuntime,
     settings: DiskSettings,
@@ -293,7 +292,8 @@ fn link_to<'a>(
     Ok(ReconnectLink::new(alloc, dialer, watch, settings.reconnect_timeout))
 }
 
-/// Fails if the host has records of a newer state of the disk than the one in the file of the settings, or has gone.
+/// Fails if the host has records of a newer state of the disk than the one in the file that the settings name, or if the host
+/// can't be asked.
 fn check_newest<S: Sealer>(
     alloc: Global,
     link: &mut HostLink<'_>,
@@ -417,8 +417,8 @@ fn clients_at(rt: &HostRuntime, place: &str, name: &str) -> Result<Clients, Faul
     }
 }
 
-/// Serves the disk whose settings were read from the file `name`, until it stops. It first carries out the commands
-/// that wait from before.
+/// Serves the disk whose settings were read from the file `name`, until it stops. It first carries out the commands that still
+/// wait from before.
 fn serve_kept(
     rt: &HostRuntime,
     settings: DiskSettings,

@@ -6,9 +6,9 @@ use oram_bytes::Bytes;
 use oram_nbd::{BlockDevice, DiskFault, Operation};
 use std::alloc::Global;
 
-/// Keeps that a disk has failed.
+/// Records that a disk has failed.
 pub(crate) trait FailureKeeper<D> {
-    /// Keeps why the disk failed. Called once, by whoever finds that it has.
+    /// Records why the disk failed. Is called once, by whoever finds out that it has.
     fn keep_failure(&mut self, disk: &D);
 }
 

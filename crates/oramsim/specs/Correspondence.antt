@@ -76,7 +76,7 @@ pub record IsFaithful (r : Running) (s : State) : Type 0 where
   pub serving : IsServing r.setting.scheme s world array
   pub hosts : Hosts r.setting.scheme s world r.host
 
--- where a script has a run, the machine's core keeps what the run says
+-- if a script has a run, the machine's core keeps what the run says
 abbrev pub IsFaithfulAt : Stage → Option Machine → Type 0
 IsFaithfulAt None machine = ⊤
 IsFaithfulAt (Some r) None = ⊥
@@ -95,7 +95,7 @@ abbrev pub AreWhole : Option Machine → Type 0
 AreWhole None = ⊤
 AreWhole (Some m) = IsWholeMachine m
 
--- a script has a run just where it has a machine, and that machine is at the run's end
+-- a script has a run exactly if it has a machine, and that machine is at the run's end
 abbrev pub StandsAt : Stage → Option Machine → Type 0
 StandsAt None None = ⊤
 StandsAt None (Some m) = ⊥
@@ -132,7 +132,7 @@ abbrev pub GivesUpAt : Point → Type 0 → (Point → Type 0) → SimFault → 
 GivesUpAt p Unmeddled To fault old new =
     (q : Point) × To q × HasRun q.stage × (Unmeddled → IsCalmAt q.stage) × PrintsPart fault (text_at p) (text_at q) old new
 
--- where a device may be within a line
+-- how far a run may have come within a line
 abbrev pub IsUnder : Running → Line → Running → Type 0
 IsUnder r line later = (later ≡ r) ⊎ (Obeys r line later ⊎ ((xs : List Shown) × (line ≡ Drain) × FoldsTo IsDrained r xs later))
 

@@ -79,7 +79,7 @@ ready_text trees = codes "ready " ++ decimal trees ++ newline
 abbrev pub shape_text : ShapeFault → List ℕ
 shape_text f = codes "shape " ++ decimal (fault_number f) ++ newline
 
--- the line for a line n that the script can't have
+-- the line which says that the script can't have its line n
 abbrev pub error_text : ℕ → List ℕ
 error_text n = codes "error line " ++ decimal n ++ newline
 

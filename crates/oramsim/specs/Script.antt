@@ -135,7 +135,7 @@ abbrev pub Starts : List ℕ → Result Sizes ShapeFault → Point → Type 0
 Starts head (Ok d) q = (r : Running) × IsNewRun d r × (q ≡ record { stage = Some r; head = head ++ ready_text (trees_of d) })
 Starts head (Err fault) q = q ≡ record { stage = None; head = head ++ shape_text fault }
 
--- a line leads from one point of a script to another: before the device line it is that line, and behind it any other
+-- a line leads from one point of a script to another: before the device line it is that line, and after it any other
 abbrev pub IsDone : Point → Stage → Line → Point → Type 0
 IsDone p (Some r) line q = (later : Running) × Obeys r line later × (q ≡ record { stage = Some later; head = p.head })
 IsDone p None (Device blocks block_bytes slots top lifetime) q =

@@ -106,8 +106,8 @@ fn print_bad_line<W: Write>(alloc: Global, writer: &mut W, number: u64) -> Resul
     put(writer, text.as_bytes())
 }
 
-/// Runs the lines of a script, up to the first that it can't have. There is no machine yet, and `line` is room for a line.
-/// Both are borrowed, so that no way out of the loop has to drop them: each such drop is proved by itself.
+/// Runs the lines of a script, up to the first that it can't have. There is no machine yet, and `line` is room for a line. Both
+/// are borrowed, so that no way out of the loop has to drop them: each such drop would need a proof of its own.
 fn run_each<R: BufRead, W: Write>(
     alloc: Global,
     reader: &mut R,
@@ -133,20 +133,6 @@ fn run_each<R: BufRead, W: Write>(
     Err(SimFault::Read)
 }
 
-/// Runs the lines of a script, up to the first that it can't have.
-fn run_lines<R: BufRead, W: Write>(
-    alloc: Global,
-    reader: &mut R,
-    writer: &mut W,
-) -> Result<Ending, SimFault>
-    ensures ok { IfOk result (λ ending. HasEnded (R.remaining reader.old) (W.contents writer.old) (W.contents writer.new) ending) }
-    ensures end { result ≡ Ok Ending.End → IfSome (R.remaining reader.old) (λ _. IsAtEnd (R.remaining reader.new)) }
-    ensures err { IfErr result (λ e. IsGivingUp (R.remaining reader.old) (W.contents writer.old) (W.contents writer.new) e) }
-{
-    let mut line = Vec::new(alloc);
-    run_each(alloc, reader, writer, &mut None, &mut line)
-}
-
 /// Runs the lines of a script, and prints `out of memory` if memory runs out.
 fn run_to_end<R: BufRead, W: Write>(
     alloc: Global,
@@ -157,7 +143,8 @@ fn run_to_end<R: BufRead, W: Write>(
     ensures end { result ≡ Ok Ending.End → IfSome (R.remaining reader.old) (λ _. IsAtEnd (R.remaining reader.new)) }
     ensures err { IfErr result (λ e. HasGivenUp (R.remaining reader.old) (W.contents writer.old) (W.contents writer.new) e) }
 {
-    match run_lines(alloc, reader, writer) {
+    let mut line = Vec::new(alloc);
+    match run_each(alloc, reader, writer, &mut None, &mut line) {
         Err(SimFault::OutOfMemory) => {
             put(writer, b"out of memory\n")?;
             Err(SimFault::OutOfMemory)

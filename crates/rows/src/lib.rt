@@ -2,8 +2,8 @@
 //! call's answer. Several of them make devices and bucket servers in memory.
 //!
 //! A row is `CALL ARGUMENTS => ANSWER`. Lines that are empty or begin with `#` are copied. Bytes are written in
-//! hexadecimal, in parts that dots separate: `ff*16` is one byte with how many times it occurs, which is used from
-//! eight times on, and `-` is no bytes.
+//! hexadecimal, in parts that dots separate: `ff*16` is one byte with the number of times that it occurs, a form that
+//! is used from eight times on, and `-` is no bytes.
 #![tactic(auto)]
 
 mod devices;

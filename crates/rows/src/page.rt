@@ -9,7 +9,7 @@ use std::fmt::{Debug, Display};
 /// Equal bytes are written once, with their count, if there are at least this many.
 const LONG_RUN: usize = 8;
 
-/// Text that grows: the answer of one row. If memory runs out, the page remembers that and gives no text any more. So
+/// Text that grows: the answer of one row. If memory runs out, the page remembers that and no longer gives a text. So
 /// code that writes on a page has no faults to handle; only the code that asks for the text has.
 #[derive(Drop)]
 pub struct Page {
@@ -99,13 +99,13 @@ impl Page {
         self.made(word);
     }
 
-    /// Appends a fault in brackets, as a person reads it.
+    /// Appends a fault in parentheses, as users read it.
     pub fn fault<T: Display + Copy>(&mut self, fault: T) {
         let word = format!(in self.alloc; "({fault})");
         self.made(word);
     }
 
-    /// Appends a value as a programmer reads it; a case without fields is its name.
+    /// Appends a value in its debug format; a variant without fields is its name.
     pub fn show<T: Debug>(&mut self, value: &T) {
         let word = format!(in self.alloc; "{value:?}");
         self.made(word);

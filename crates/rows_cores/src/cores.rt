@@ -16,7 +16,7 @@ use oram_geometry::Device;
 use rows::{Page, RowFault, RowWords};
 use std::alloc::Global;
 
-/// The core of the rows, with the one sealer or the other, and what was seen of the core before it.
+/// The core of the rows, with one sealer or the other, and what was seen of the core before it.
 #[derive(Drop)]
 pub struct Cores {
     plain: Option<Machine<PlainSeal>>,

@@ -22,7 +22,7 @@ pub struct Connections {
 /// How a connection ended, and the writer that has what the client received.
 type Talk = (Result<u64, NbdFault>, Target);
 
-/// Ignores when a handshake is done.
+/// Ignores that a handshake is done.
 struct NoWatch;
 
 impl HandshakeWatch for NoWatch {

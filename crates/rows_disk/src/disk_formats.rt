@@ -43,7 +43,7 @@ fn connection<'a>(
     }
 }
 
-/// Formats a device `times` times in turn, up to a time that fails. Returns whether each core is idle.
+/// Formats a device `times` times in turn, or until that fails. Returns whether each core is idle.
 fn formatted(
     alloc: Global,
     device: &Device,

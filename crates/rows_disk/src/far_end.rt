@@ -96,7 +96,7 @@ impl FarEnd {
         Ok(answer)
     }
 
-    /// Returns the answer to a message by this host's conduct.
+    /// Returns this host's answer to a message, honest or not.
     fn answer_to(&mut self, body: &[u8]) -> io::Result<Vec<u8>> {
         if let HostBehaviour::Refuses { behind, code } = self.conduct
             && behind == self.answered

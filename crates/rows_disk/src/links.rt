@@ -71,10 +71,9 @@ impl<'a> Play<'a> {
     }
 }
 
-/// A connection whose calls go by the letters. For `a` the host refuses an empty message, for `e` it gives the message
-/// back, and for `r` it has no room.
-/// For `s` it is silent for as long as it may be, for `m` memory runs out, for `w` the call fails after some time, and for
-/// any other letter at once.
+/// A connection whose calls go by the letters. For `a` the host refuses an empty message, for `e` it gives the message back,
+/// and for `r` it has no room. For `s` it is silent for as long as it may be, for `m` memory runs out, for `w` the call fails
+/// after some time, and for any other letter at once.
 #[derive(Drop)]
 struct Way<'a> {
     play: &'a Play<'a>,
@@ -126,9 +125,9 @@ impl<'a> Link for Way<'a> {
     ghost counts = { λ l m body outcome h. h };
 }
 
-/// Opens connections by the letters. For `o` it opens one. For `d` the host keeps another disk, for `n` it keeps none,
-/// and for `r` it has no room. For `s` the host gives no answer within the limit, for `m` memory runs out, for `w` the try
-/// fails after some time, and for any other letter at once.
+/// Opens connections by the letters. For `o` it opens one. For `d` the host keeps another disk, for `n` it keeps none, and for
+/// `r` it has no room. For `s` the host gives no answer within the limit, for `m` memory runs out, for `w` the try fails after
+/// some time, and for any other letter at once.
 #[derive(Drop)]
 struct Script<'a>(&'a Play<'a>);
 

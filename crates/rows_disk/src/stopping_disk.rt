@@ -90,8 +90,9 @@ fn talked(alloc: Global, disk: &mut StoppingDisk, said: &[u8]) -> Result<Talk, R
     Ok((with_memory(ended, target.bytes())?, target))
 }
 
-/// `nbd together CALLS SAID`: the requests `SAID` of a client have all arrived, and its device stops after `CALLS` calls. Writes
-/// how the client's connection ends, how many calls the device took, what the client receives, and the bytes of the device.
+/// `nbd together CALLS SAID`: the requests `SAID` of a client have all arrived, and its device stops after `CALLS` calls.
+/// Writes how the client's connection ends, how many calls the device took, what the client receives, and the bytes of the
+/// device.
 pub fn together(alloc: Global, words: &mut RowWords, page: &mut Page) -> Result<(), RowFault> {
     let mut disk = StoppingDisk {
         disk: MemDisk::new(alloc, 4, 4)?,

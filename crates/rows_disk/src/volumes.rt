@@ -32,7 +32,7 @@ impl MemoryKeeper {
         }
     }
 
-    /// Fails if memory ran out, since its row has no answer then.
+    /// Fails if memory ran out, since the row has no answer then.
     fn check_memory(&self) -> Result<(), RowFault> {
         if self.lacks_memory {
             return Err(RowFault::OutOfMemory);

@@ -112,9 +112,9 @@ impl Files {
         Ok(fault)
     }
 
-    /// `file flips FROM TO`: flips the lowest bit of one byte at a time. `file cuts FROM TO`: takes only the file's first bytes.
-    /// Writes what is wrong with the file then, or `not alike` if that isn't the same for each byte, or each number of bytes,
-    /// from `FROM` up to but not including `TO`.
+    /// `file flips FROM TO`: flips the lowest bit of one byte at a time. `file cuts FROM TO`: takes only the file's first
+    /// bytes. Writes what is wrong with the file then, or `not alike` if that isn't the same for each byte, or each number of
+    /// bytes, from `FROM` up to but not including `TO`.
     fn alike(
         &mut self,
         alloc: Global,

@@ -1,7 +1,7 @@
 //! Devices that are formatted on a host in memory.
 //!
-//! `rows_sessions` has [`standing`] too. The crate `rows` can't have it for both, since it knows no core: otherwise each row
-//! program would be proved only after the core.
+//! `rows_sessions` has [`standing`] too. The crate `rows` can't have it for both, since it doesn't depend on the core:
+//! otherwise each row program could be proved only after the core.
 
 use oram_bucket::PlainSeal;
 use oram_core::Core;

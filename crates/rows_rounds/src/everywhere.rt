@@ -57,8 +57,8 @@ impl End {
         }
     }
 
-    /// Returns the end after this one: first come the keepings, then the messages. None comes after a life that had no such
-    /// message any more.
+    /// Returns the end after this one: first come the keepings, then the messages. There is none after a life in which such a
+    /// message never came.
     fn next(self, was_met: bool, ends: Ends) -> Option<End> {
         match self {
             End::Keeping { at, after: false } if was_met => Some(End::Keeping { at, after: true }),
@@ -116,7 +116,8 @@ impl Tally {
         }
     }
 
-    /// Counts what a life found in a block whose write had its reply or not, and was kept or not.
+    /// Counts what a life found in a block. `is_written` says whether its write had its reply, and `is_due` whether that write
+    /// was kept.
     fn count_block(&mut self, block: Found, is_written: bool, is_due: bool) {
         let is_lost = is_written && block != Found::Written;
         let is_other = is_due != (block == Found::Written);
@@ -127,7 +128,8 @@ impl Tally {
 }
 
 impl Remains {
-    /// Puts a copy of the host to a place, and begins a process with what was kept that ends there.
+    /// Puts a copy of the host in a place, and begins a process with what was kept. `room` and `way` say where that process
+    /// ends.
     fn begin<'a>(
         &self,
         alloc: Global,
@@ -157,7 +159,7 @@ impl Remains {
         })
     }
 
-    /// Writes the blocks in a life that ends there. Returns what it leaves, and whether it came to its end.
+    /// Writes the blocks in a life that ends at `end`. Returns what it leaves, and whether it got as far as that end.
     fn write(&self, alloc: Global, round: u8, end: End) -> Result<(Remains, bool), RowFault> {
         let place = HostPlace::new();
         let mut life = self.begin(alloc, &place, end.room(), end.way())?;
@@ -168,7 +170,7 @@ impl Remains {
         Ok((remains, ended.is_some()))
     }
 
-    /// Reads the blocks in a life that ends there. Returns what it leaves, and whether it came to its end.
+    /// Reads the blocks in a life that ends at `end`. Returns what it leaves, and whether it got as far as that end.
     fn read(
         &self,
         alloc: Global,
@@ -199,7 +201,7 @@ impl Remains {
         Ok(())
     }
 
-    /// Lets lives read the blocks that end at these ends, and after each a whole one.
+    /// Reads the blocks in lives that end at each of these ends in turn, and after each of them in a whole life.
     fn read_everywhere(
         &self,
         alloc: Global,
@@ -219,7 +221,7 @@ impl Remains {
         Err(RowFault::NoRow)
     }
 
-    /// Lets the lives read the blocks that come after the first one. Without a step, that is a whole life alone.
+    /// Reads the blocks in the lives that come after the first one. Without a step, there is only one, a whole life.
     fn read_after(&self, alloc: Global, step: u64, tally: &mut Tally) -> Result<(), RowFault> {
         match tally.ends.checked_rem(step) {
             Some(from) => self.read_everywhere(alloc, Ends { from, step }, tally),
@@ -227,7 +229,8 @@ impl Remains {
         }
     }
 
-    /// Lets lives write the blocks that end at each of their actions in turn, and after each one the lives that read them.
+    /// Writes the blocks in lives that end at each of their actions in turn, and after each of them reads the blocks in further
+    /// lives.
     fn write_everywhere(
         &self,
         alloc: Global,

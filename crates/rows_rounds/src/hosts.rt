@@ -120,7 +120,7 @@ impl Sent {
 /// A server in memory, and what becomes of the messages to it.
 #[derive(Drop)]
 pub(crate) struct Host {
-    /// It lies in a box, so that a function that has it has one value to drop, and so is proved sooner.
+    /// It is in a box, so that a function that has it has only one value to drop, and is proved faster.
     server: Box<Server>,
     way: Way,
     /// How many messages there were since the way was set.

@@ -73,7 +73,7 @@ impl MemoryKeeper {
         self.kept = 0;
     }
 
-    /// Fails if memory ran out, since its row has no answer then.
+    /// Fails if memory ran out, since the row has no answer then.
     pub(crate) fn check_memory(&self) -> Result<(), RowFault> {
         if self.lacks_memory {
             return Err(RowFault::OutOfMemory);
@@ -81,7 +81,7 @@ impl MemoryKeeper {
         Ok(())
     }
 
-    /// Returns how many files took the place of the one before, also where that was not reported.
+    /// Returns how many files took the place of the one before, even where that was not reported.
     pub(crate) fn taken(&self) -> u64 {
         let late = self.room.late && self.calls > self.room.files;
         self.kept.saturating_add(u64::from(late))

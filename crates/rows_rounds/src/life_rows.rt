@@ -64,7 +64,7 @@ fn tell_reading(
     tell_life(page, place, life, ended)
 }
 
-/// Lets a life that has begun write, and the lives after it read, and writes how they went: what `lives` does behind its first
+/// Lets a life that has begun write, and the lives after it read, and writes how they went: what `lives` does after its first
 /// five words.
 fn write_and_read(
     alloc: Global,
@@ -93,7 +93,7 @@ fn write_and_read(
 /// Writes of the first life how many writes had their reply, and of the next one how many blocks it found written; of
 /// each life why it ended early, how many files were kept, and how many FETCHes and STOREs were sent.
 ///
-/// With another `KEEPER WAY` behind it there is a life between these two, which reads the blocks too and may end early.
+/// With another `KEEPER WAY` after it there is a life between these two, which reads the blocks too and may end early.
 pub(crate) fn lives(alloc: Global, words: &mut RowWords, page: &mut Page) -> Result<(), RowFault> {
     let (server, file) = new_device(alloc, words)?;
     let round = words.byte();

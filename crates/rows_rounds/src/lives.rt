@@ -22,8 +22,8 @@ const SESSION: u32 = 0;
 /// The link of a process to the host at a place.
 pub(crate) type LifeLink<'a> = RoundLink<OneByOne<HostLink<'a>>>;
 
-/// A process of the client, and what its next one begins with. It lies in a box, so that a function that has one has one
-/// value to drop, and so is proved sooner.
+/// A process of the client, and what its next one begins with. It is in a box, so that a function that has one has only one
+/// value to drop, and is proved faster.
 #[derive(Drop)]
 pub(crate) struct Life<'a> {
     place: &'a HostPlace,
@@ -73,7 +73,7 @@ pub(crate) fn link_for<'a>(
     RoundLink::with_kept(alloc, inner, device, record_len(core), stores)
 }
 
-/// Makes the core and the link with which a process begins that finds this file.
+/// Makes the core and the link of a process that begins with this file.
 fn begun<'a>(
     alloc: Global,
     place: &'a HostPlace,

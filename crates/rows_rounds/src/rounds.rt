@@ -153,8 +153,8 @@ impl<'a> Rounds<'a> {
         Ok(())
     }
 
-    /// `round COMMAND ..`: carries out commands in one round: `write ADDRESS BYTES`, `read ADDRESS` or `discard ADDRESS`. Writes
-    /// what the core says to each that it refuses, then the replies to the others, or why there are none.
+    /// `round COMMAND ..`: carries out commands in one round: `write ADDRESS BYTES`, `read ADDRESS` or `discard ADDRESS`.
+    /// Writes what the core says to each that it refuses, then the replies to the others, or why there are none.
     fn round(
         &mut self,
         alloc: Global,
@@ -229,8 +229,8 @@ impl<'a> Rounds<'a> {
         Ok(())
     }
 
-    /// `order`: writes the trees of the FETCHes since the way was set, in their order: a digit for each, one more than the tree's
-    /// number.
+    /// `order`: writes the trees of the FETCHes since the way was set, in their order: a digit for each, one more than the
+    /// tree's number.
     fn order(&mut self, page: &mut Page) -> Result<(), RowFault> {
         page.number(self.place.sent()?.order);
         Ok(())
@@ -250,7 +250,7 @@ impl<'a> Rounds<'a> {
     }
 
     /// `file`: writes the file of the process as it is now. `fields`: writes the fields of its core alone. `cut_files`,
-    /// `cut_fields` and `flipped_files`: writes how many of them are refused that lack bytes, or have a wrong one.
+    /// `cut_fields` and `flipped_files`: writes how many files that lack bytes, or have a wrong byte, are refused.
     /// `other_sealer`: writes why the file isn't read with another sealer.
     fn file_row(&mut self, alloc: Global, call: &str, page: &mut Page) -> Result<(), RowFault> {
         let life = self.life()?;

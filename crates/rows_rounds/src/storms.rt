@@ -14,7 +14,7 @@ use std::alloc::Global;
 /// More processes than end one after the other without a round.
 const MOST_ENDS: u32 = 100;
 
-/// Numbers that follow from a seed.
+/// Numbers that a seed determines.
 #[derive(Clone, Copy, Drop)]
 struct Draws {
     seed: u64,
@@ -64,7 +64,7 @@ impl Draws {
     }
 }
 
-/// A round, by the numbers that it follows from.
+/// A round, given by the numbers that determine it.
 #[derive(Clone, Copy, Drop)]
 struct Round {
     draws: Draws,

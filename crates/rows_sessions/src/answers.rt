@@ -21,7 +21,7 @@ impl WatchedServer {
         }
     }
 
-    /// Fails if the server ran out of memory, since its row has no answer then.
+    /// Fails if the server ran out of memory, since the row has no answer then.
     pub(crate) fn check_memory(&self) -> Result<(), RowFault> {
         if self.lacks_memory {
             return Err(RowFault::OutOfMemory);

@@ -118,7 +118,7 @@ impl LimitedWriter {
         Ok(&self.bytes)
     }
 
-    /// Turns the sheet into what was written. Fails if memory ran out for it.
+    /// Turns the writer into what was written. Fails if memory ran out for it.
     pub(crate) fn into_text(self) -> Result<Vec<u8>, RowFault> {
         if self.lacks_memory {
             return Err(RowFault::OutOfMemory);

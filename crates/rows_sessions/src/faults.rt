@@ -1,4 +1,4 @@
-//! Writes about cores, and about how calls end.
+//! Writes how cores are, and how calls end.
 
 use oram_bucket::PlainSeal;
 use oram_core::{Core, Note};

@@ -27,8 +27,8 @@ fn formatted_over(
     }
 }
 
-/// Formats a device on a new host. Returns its core, and the host. Both lie in boxes, so that a function that has them has
-/// two plain values to drop, and so is proved sooner.
+/// Formats a device on a new host. Returns its core, and the host. Both are in boxes, so that a function that has them has only
+/// two plain values to drop, and is proved faster.
 pub(crate) fn formatted(
     alloc: Global,
     device: &Device,

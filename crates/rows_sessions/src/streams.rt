@@ -37,7 +37,7 @@ fn call_all(
     Ok(())
 }
 
-/// Writes what was written on a sheet, and how.
+/// Writes what a writer has taken, and how many writes and flushes there were.
 fn tell_sent(sheet: &LimitedWriter, page: &mut Page) -> Result<(), RowFault> {
     page.word("sent");
     page.bytes(sheet.text()?);

@@ -10,8 +10,8 @@ use rows::{Page, RowFault, RowWords, lacks_room};
 use std::alloc::Global;
 use std::net::Net;
 
-/// A link of one of the kinds. Most of them lie in boxes, so that a function that has a link has less to drop, and so is proved
-/// sooner.
+/// A link of one of the kinds. Most of them are in boxes, so that a function that has a link has less to drop, and is proved
+/// faster.
 #[derive(Drop)]
 enum Way<'a, R: Net> {
     Direct(Box<Direct>),
@@ -112,7 +112,7 @@ impl<'a, R: Net> AnyLink<'a, R> {
         }
     }
 
-    /// Fails if memory ran out in a call, since its row has no answer then.
+    /// Fails if memory ran out in a call, since the row has no answer then.
     pub(crate) fn check_memory(&self) -> Result<(), RowFault> {
         if self.lacks_memory {
             return Err(RowFault::OutOfMemory);

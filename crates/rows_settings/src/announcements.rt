@@ -33,7 +33,7 @@ pub fn says(alloc: Global, words: &mut RowWords, page: &mut Page) -> Result<(), 
     Ok(())
 }
 
-/// Returns what is wrong with the numbers of a disk's settings, which can be read otherwise.
+/// Returns what is wrong with the numbers of a disk's settings, whose text can be read.
 fn bad_numbers(alloc: Global, name: &str, text: &str) -> Result<String, RowFault> {
     match read_disk_settings(alloc, text) {
         Ok(settings) => Ok(numbers_complaint(alloc, name, text, &settings)?),

@@ -62,7 +62,7 @@ pub fn device(words: &mut RowWords, page: &mut Page) -> Result<(), RowFault> {
     Ok(())
 }
 
-/// Returns the text of a new disk's settings with those settings set that it has only as comments.
+/// Returns the text of a new disk's settings, with the settings that it has only as comments set too.
 fn all_set(alloc: Global, text: &str) -> Result<String, RowFault> {
     let mut all = String::new(alloc);
     for line in text.lines() {
@@ -77,7 +77,7 @@ fn all_set(alloc: Global, text: &str) -> Result<String, RowFault> {
 }
 
 /// `first-settings SIZE KEY`: reads the text of a new disk's settings, and writes the settings in it. `first-settings-set SIZE
-/// KEY`: does so with those settings set that the text has only as comments.
+/// KEY`: does so with the settings that the text has only as comments set too.
 pub fn first_settings(
     alloc: Global,
     call: &str,

@@ -41,8 +41,8 @@ fn write_trees(page: &mut Page, trees: &[Option<Tree>]) {
     }
 }
 
-/// Answers a row about a header. `header trees ENTRIES` writes the trees, and `header next ENTRIES` the place where the cells of
-/// the next tree will begin.
+/// Answers a row about a header. `header trees ENTRIES` writes the trees, and `header next ENTRIES` the place where the cells
+/// of the next tree will begin.
 pub fn answer(
     alloc: Global,
     name: &str,

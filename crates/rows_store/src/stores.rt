@@ -1,4 +1,4 @@
-//! A store over two files in memory, beside the bucket server in memory.
+//! A store over two files in memory, compared with the bucket server in memory.
 
 use crate::answers::{ask, ask_bytes, write_answer};
 use crate::files::created;

@@ -58,8 +58,8 @@ impl Layers {
     }
 }
 
-/// The calls of these rows. The layers lie in a box, so that a function that replaces them has one value to drop, and so is
-/// proved sooner.
+/// The calls of these rows. The layers are in a box, so that a function that replaces them has only one value to drop, and is
+/// proved faster.
 #[derive(Drop)]
 struct Calls {
     layers: Option<Box<Layers>>,

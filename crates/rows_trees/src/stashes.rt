@@ -265,8 +265,8 @@ impl Stashes {
         Ok(place(alloc, device, 0, leaf, waiting)?)
     }
 
-    /// `stash place LEAF ADDRESS`: plans an eviction in which the block at `ADDRESS` stays. Writes the addresses of the
-    /// blocks that it puts at each level, and those of the blocks that stay besides.
+    /// `stash place LEAF ADDRESS`: plans an eviction in which the block at `ADDRESS` stays. Writes the addresses of the blocks
+    /// that it puts at each level, and those of the other blocks that stay.
     fn place(
         &self,
         alloc: Global,

@@ -1,4 +1,4 @@
-//! How long a session takes, beside the same accesses in the core and the server alone.
+//! How long a session takes, compared with the same accesses in the core and the server alone.
 
 use super::{ACCESSES, MOST_MESSAGES, hundredths, some_access};
 use oram_bucket::PlainSeal;
@@ -123,7 +123,7 @@ fn served(rt: &HostRuntime, device: Device, frames: &[u8]) -> io::Result<Duratio
     Ok(start.elapsed(rt)?)
 }
 
-/// Prints how long a session takes, beside the same accesses alone.
+/// Prints how long a session takes, compared with the same accesses alone.
 pub(crate) fn measure_session(rt: &HostRuntime, name: &str, device: Device) -> io::Result<()> {
     let (events, frames) = some_accesses(rt.alloc(), &device)?;
     let alone = alone(rt, device.copy(), &events)?;

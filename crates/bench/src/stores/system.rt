@@ -22,7 +22,7 @@ pub(crate) fn opened(rt: &HostRuntime, name: &str) -> io::Result<BucketFile> {
     }
 }
 
-/// Closes a store, so that all of it lies in its file. Every use of a store ends with this.
+/// Closes a store, so that all of it is in its file. Every use of a store ends with this.
 pub(crate) fn close(store: BucketFile) -> io::Result<()> {
     match store.close() {
         Ok(()) => Ok(()),
@@ -30,7 +30,7 @@ pub(crate) fn close(store: BucketFile) -> io::Result<()> {
     }
 }
 
-/// Prints the line of the process's status that has the most memory that it used.
+/// Prints the line of the process's status that says how much memory it used at most.
 pub(crate) fn report_memory(rt: &(impl Files + AllocGlobal + Print)) -> io::Result<()> {
     let status = fs::read_to_string(rt, "/proc/self/status")?;
     for line in status.as_str().lines() {

@@ -40,7 +40,7 @@ pub(crate) struct Summary {
     pub(crate) longest: Duration,
 }
 
-/// Returns how many times the one time is the other, in hundredths.
+/// Returns `time` divided by `other`, in hundredths.
 pub(crate) fn ratio(time: Duration, other: Duration) -> u128 {
     time.as_micros().saturating_mul(100) / other.as_micros().max(1)
 }

@@ -60,7 +60,7 @@ fn queue_of(
 
 impl<S: Sealer> Core<S> {
     /// Makes the core that has these parts, or fails with `Content` if they can't be those of a core with this sealer.
-    /// Doesn't copy the blocks, the table and the message.
+    /// Doesn't copy the blocks, the table or the message.
     pub fn from_parts(alloc: Global, sealer: S, parts: Parts) -> Result<Core<S>, PartsFault>
         ensures device { IfOk result (λ c. c.device ≡ parts.device) }
         ensures sealer { IfOk result (λ c. c.sealer ≡ sealer) }

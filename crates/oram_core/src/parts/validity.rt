@@ -26,7 +26,7 @@ fn is_reason(device: &Device, reason: Reason) -> bool
     }
 }
 
-/// Returns whether no command is at work.
+/// Returns whether no command is being carried out.
 fn is_resting(parts: &Parts) -> bool
     ensures { IsTrue result ↔ IsResting (state_of parts.now) }
 {
@@ -44,7 +44,7 @@ fn is_ended(parts: &Parts, reason: Reason) -> bool
     is_reason(&parts.device, reason) && holds_nothing(parts) && is_resting(parts)
 }
 
-/// Returns whether there are no table, no trees and no commands.
+/// Returns whether the parts have no table, no trees and no commands.
 fn holds_nothing(parts: &Parts) -> bool
     ensures { IsTrue result ↔ HoldsNothing parts.now }
 {
@@ -159,7 +159,7 @@ fn is_message(parts: &Parts, oldest: &Pending, overhead: usize) -> bool
     is_fetch(parts.message.as_slice(), tree, leaf)
 }
 
-/// Returns whether the parts at work can be those of the oldest command.
+/// Returns whether the parts that change while a command is carried out can be those of the oldest command.
 fn is_at_work(parts: &Parts, oldest: &Pending, overhead: usize) -> bool
     requires table { HasTable parts.now.device parts.now.table }
     requires allowed { IsAllowed parts.now.device (submission_at 0 oldest.now) }
@@ -202,7 +202,8 @@ fn path_buckets(device: &Device, first: u8) -> u64
     buckets
 }
 
-/// Returns the nonce for the next bucket, if `answered` commands have their replies and the next one is at `stage`.
+/// Returns the nonce for the next bucket, if `answered` commands have their replies and message `entry_number` of the
+/// next one is outstanding.
 fn next_nonce(device: &Device, answered: u64, entry_number: u32) -> u64
     requires answered { answered ≤ 2 ^ 40 }
     requires entry_number { entry_number < 2 * trees_of device.now }

@@ -49,7 +49,7 @@ pub(super) fn read_byte<R: Read>(reader: &mut R) -> Result<u8, ImageFault>
     Ok(buf[0])
 }
 
-/// Returns the number that four bytes spell, the most significant first.
+/// Returns the number that four bytes encode, the most significant byte first.
 fn number_of(bytes: &[u8]) -> u32
     requires { length bytes.now ≡ 4 }
     ensures { to_be_bytes w32 result ≡ bytes.now }

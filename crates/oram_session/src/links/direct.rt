@@ -22,7 +22,7 @@ impl Model for Direct {
 }
 
 impl Direct {
-    /// Makes a link to this server. Needs no memory.
+    /// Makes a link to this server. Allocates nothing.
     pub fn new(_alloc: Global, server: Server) -> Direct
         ensures { result ≡ record { host = server; faults = 0 } }
     {

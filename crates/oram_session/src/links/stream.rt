@@ -9,9 +9,9 @@ use std::alloc::Global;
 use std::io::{Read, Write};
 use std::marker::Model;
 
-/// A link to a host at the other end of a reader and a writer. A message is one frame, written at once and flushed,
-/// and the answer is one frame too. Any fault closes the link: from then on each call answers `Closed`, and neither
-/// reads nor writes.
+/// A link to a host at the other end of a reader and a writer. A message is one frame, written in one piece and
+/// flushed, and the answer is one frame too. Any fault closes the link: from then on each call answers `Closed`, and
+/// neither reads nor writes.
 #[derive(Debug, Drop)]
 pub struct StreamLink<R, W> {
     reader: R,
@@ -28,7 +28,7 @@ impl<R, W> Model for StreamLink<R, W> {
 }
 
 impl<R, W> StreamLink<R, W> {
-    /// Makes a link that sends messages to `writer` and receives answers from `reader`. Needs no memory.
+    /// Makes a link that sends messages to `writer` and receives answers from `reader`. Allocates nothing.
     pub fn new(_alloc: Global, reader: R, writer: W) -> StreamLink<R, W>
         ensures { result ≡ record { reader = reader; writer = writer; faults = 0 } }
     {

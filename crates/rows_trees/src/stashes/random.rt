@@ -22,7 +22,7 @@ fn next_leaf(state: &mut u64) -> u32 {
     next(state) % LEAVES
 }
 
-/// Makes 0 to 60 blocks, by rising address: the address and the leaf of each.
+/// Makes 0 to 60 blocks, in increasing order of address: the address and the leaf of each.
 fn next_blocks(alloc: Global, state: &mut u64) -> Result<Vec<(u32, u32)>, AllocError> {
     let mut blocks = Vec::new(alloc);
     for k in 0..next(state) % 61 {

@@ -178,7 +178,7 @@ fn reach<S: Sealer>(
     behind(made, out)
 }
 
-/// Returns the result of an access whose records come after nothing.
+/// Returns the result of an access whose records have nothing before them.
 fn alone(made: Result<Access, TreeFault>) -> Result<(Lookup, Vec<u8>), RowFault> {
     match made {
         Ok(
@@ -192,7 +192,7 @@ fn alone(made: Result<Access, TreeFault>) -> Result<(Lookup, Vec<u8>), RowFault>
     }
 }
 
-/// Returns the result of an access whose records come after other bytes.
+/// Returns the result of an access whose records have other bytes before them.
 fn behind(made: Result<Lookup, TreeFault>, out: Vec<u8>) -> Result<(Lookup, Vec<u8>), RowFault> {
     match made {
         Ok(lookup) => Ok((lookup, out)),

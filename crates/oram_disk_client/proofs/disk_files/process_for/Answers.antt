@@ -17,6 +17,13 @@ returns-in_err-process-clause-changed g c = λ d stores core file.
     let p = err_from_is_err_and c.from_residual.result c.from_residual.ensures.1 in
     rw (p.1, p.2) (inl (c.in_err-process.ensures.only d stores core file))
 
+pub returns-in_err-check_settings-clause-fault : goal.returns-in_err-check_settings-clause-fault
+returns-in_err-check_settings-clause-fault g c =
+    let p = err_from_is_err_and c.from_residual-in_err-check_settings.result c.from_residual-in_err-check_settings.ensures.1 in
+    let changed = c.in_err-check_settings.ensures.changed in
+    let first = subst (λ (e : Sizes). IsFirstDifference (AgreeAt c.args.settings.now e (spec.sealing_of c.args.kept.now.head.sealer)) fixed_keys (Some changed.0)) c.device.ensures.value changed.2 in
+    rw (p.1, p.2) (inr (c.in_ok-process.process, changed.0, changed.1, c.in_ok-process.ensures.ok, first))
+
 pub returns-in_err-check_settings-clause-changed : goal.returns-in_err-check_settings-clause-changed
 returns-in_err-check_settings-clause-changed g c = λ d stores core file.
     let p = err_from_is_err_and c.from_residual-in_err-check_settings.result c.from_residual-in_err-check_settings.ensures.1 in

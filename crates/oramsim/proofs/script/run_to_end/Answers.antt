@@ -9,9 +9,9 @@ returns-in_err-put-in-Err-OutOfMemory-clause-err g c =
     raised _ _ put.field-0.0 c.from_residual.ensures.1
     (memory_cut _ _ _ _ put.field-0.0 (giving_up_as _ _ _ _ c.in-Err-OutOfMemory.field-0-is c.in-Err-OutOfMemory.ensures.err) put.ensures.cut put.ensures.fault)
 
-pub returns-in_ok-put-in-Err-OutOfMemory-clause-err : goal.returns-in_ok-put-in-Err-OutOfMemory-clause-err
-returns-in_ok-put-in-Err-OutOfMemory-clause-err g c =
+pub returns-in-Err-OutOfMemory-clause-err : goal.returns-in-Err-OutOfMemory-clause-err
+returns-in-Err-OutOfMemory-clause-err g c =
     memory_reported _ _ _ _ (giving_up_as _ _ _ _ c.in-Err-OutOfMemory.field-0-is c.in-Err-OutOfMemory.ensures.err) c.in_ok-put-in-Err-OutOfMemory.ensures.ok
 
-pub returns-in_default : goal.returns-in_default
-returns-in_default g c = search (rules, all_told)
+pub returns-clause-err : goal.returns-clause-err
+returns-clause-err g c = search (rules, all_told)
