@@ -13,7 +13,7 @@ use Rattle.oram_client.specs.declared.dialer.Limits.{Limits}
 use Rattle.oram_client.specs.declared.dialer.Trouble.{Trouble}
 use Rattle.oram_client.specs.declared.dialer.Trouble.TheVariants.{OutOfReach}
 
--- an honest host also counts as one that may lie
+-- the exchanges of an honest host are also possible for a host that may lie
 pub plain_run : (may_lie : Bool) (v : Scheme) (exchanges : List Exchange) (host after : Host) → HostRun host exchanges after → PlainRun may_lie v host exchanges after
 plain_run may_lie v [] host after run = run
 plain_run may_lie v (e ∷ exchanges) host after run = (run.0, inl run.1, plain_run may_lie v exchanges run.0 after run.2)

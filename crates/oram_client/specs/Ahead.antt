@@ -24,7 +24,7 @@ pub record ToHost (R W : Type 0) : Type 0 where
 abbrev pub most_due : ℕ
 most_due = 256
 
--- the frames of `count` answers, each of which says that the host is done
+-- what a host sends if it answers `count` messages as done: one frame for each
 abbrev pub dones : ℕ → List ℕ
 dones count = flat_map frame (replicate count done_answer)
 
@@ -52,20 +52,21 @@ pub record GivesOther (old new : Option (List ℕ)) (refusal : Option Refusal) (
 
 -- for readers and writers whose bytes `remaining` and `contents` give
 module _ {R W : Type 0} (remaining : R → Option (List ℕ)) (contents : W → Option (List ℕ)) where
-  -- `count` answers were read, each of which says that the host is done, and nothing was written.
+  -- The client read `count` answers. They all report a message as done. The client wrote nothing.
   pub record IsDrained (a : ToHost R W) (count : ℕ) (b : ToHost R W) : Type 0 where
     pub due : b.due + count ≡ a.due
     pub wrote : Appends (contents a.writer) (contents b.writer) []
     pub read : Consumes (remaining a.reader) (remaining b.reader) (dones count)
 
-  -- The next answer doesn't say that the host is done, or can't be read. Nothing was written.
+  -- The next answer doesn't report a message as done, or it can't be read. The client wrote nothing.
   pub record IsUndone (a : ToHost R W) (fault : SinkFault) (b : ToHost R W) : Type 0 where
     pub due : b.due ≡ a.due
     pub wrote : b.writer ≡ a.writer
     pub read : GivesNone (remaining a.reader) (remaining b.reader) fault ⊎ GivesOther (remaining a.reader) (remaining b.reader) b.refusal fault
 
-  -- `count` answers should have been read. Fewer were, each of which says that the host is done, and the next one doesn't or
-  -- can't be read; or what was written before couldn't be flushed, and nothing was read.
+  -- The client wanted to read `count` answers, and stopped early. Either it read fewer of them, which all report a message as
+  -- done, and the next one doesn't report that or can't be read. Or it couldn't flush what it had written before, and read
+  -- nothing.
   abbrev pub IsStopped : ToHost R W → ℕ → SinkFault → ToHost R W → Type 0
   IsStopped a count fault b =
       ((done : ℕ) × (mid : ToHost R W) × (done < count) × IsDrained a done mid × IsUndone mid fault b) ⊎ (IsDrained a 0 b × (b.reader ≡ a.reader) × (fault ≡ Link))
@@ -107,8 +108,7 @@ module _ {R W : Type 0} (remaining : R → Option (List ℕ)) (contents : W → 
   abbrev pub HasNoAnswer : ToHost R W → List ℕ → SinkFault → ToHost R W → Type 0
   HasNoAnswer a body fault b = IsUnsent a body fault b ⊎ IsUnanswered a body fault b
 
-  -- Messages were written one after another, and meanwhile `count` answers were read, each of which says
-  -- that the host is done.
+  -- The client wrote messages one after another. Meanwhile it read `count` answers, which all report a message as done.
   pub record ArePut (a : ToHost R W) (bodies : List (List ℕ)) (b : ToHost R W) : Type 0 where
     pub count : ℕ
     pub due : b.due + count ≡ a.due + length bodies
