@@ -14,7 +14,7 @@ use Rattle.oram_bucket.specs.Fault.{fault_behind, first_fault}
 use Rattle.oram_bucket.specs.Keystream.{key_byte, chacha_sealing, chacha_opening}
 
 sizes : Sizes
-sizes = record { blocks = 8; block_bytes = 16; slots = 2; top = 8; lifetime = 100 }
+sizes = record { blocks = 8; block_bytes = 16; slots = 2; top = 8; lifetime = 100; leaf_load = 1 }
 
 block : Cell
 block = record { address = 5; leaf = 3; content = replicate 16 255 }

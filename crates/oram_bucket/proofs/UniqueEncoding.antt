@@ -95,7 +95,7 @@ few_of_depth d i depth blocks is shallow = record { blocks = blocks; leaves = ap
 pub few_of_device : (d : Sizes) (i : ℕ) → IsDevice d → HasFew d i
 few_of_device d i of =
     let blocks = (blocks_in-range d of i).1 in
-    few_of_depth d i (depth_of d i) blocks refl (level_for-range (blocks_in d i) blocks).0
+    few_of_depth d i (depth_of d i) blocks refl (level_for-range d.leaf_load (blocks_in d i) of.some_load blocks).0
 
 pub small_block : (d : Sizes) (i : ℕ) → HasFew d i → (c : Cell) → IsBlockOf d i c → IsSmall d.block_bytes c
 small_block d i few c of = record { number = omega (arith, of.address_in, few.blocks); leaf_in = omega (arith, of.leaf_in, few.leaves); whole = of.whole }

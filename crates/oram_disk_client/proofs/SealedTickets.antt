@@ -45,7 +45,7 @@ nonces_tell_tickets d answered e ticket early = (
 
 -- one block, whose tree is one bucket
 abbrev single : Sizes
-single = record { blocks = 1; block_bytes = 16; slots = 1; top = 1; lifetime = 10 }
+single = record { blocks = 1; block_bytes = 16; slots = 1; top = 1; lifetime = 10; leaf_load = 1 }
 
 -- Three commands have their replies there: the STORE of the third one has the nonce 3, and that of the next one has 4.
 after_three : (next_nonce single 3 0 ≡ 4) × (store_nonce single 2 0 ≡ 3) × (store_nonce single 3 0 ≡ 4)

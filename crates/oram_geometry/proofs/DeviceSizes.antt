@@ -1,11 +1,11 @@
 -- The sizes of a device: how many trees, blocks and levels.
-use Rattle.std.proofs.Common.{◌≡◌, ℕ, zero, suc, ◌+◌, ◌-◌, ◌*◌, ◌/◌, ◌%◌, ◌^◌, ◌<◌, ◌≤◌, Bool, true, false, nat_le, inl, inr, refl, ap, sym, ◌∙◌, arith, add-one}
+use Rattle.std.proofs.Common.{◌≡◌, ℕ, zero, suc, ◌+◌, ◌-◌, ◌*◌, ◌/◌, ◌%◌, ◌^◌, ◌<◌, ◌≤◌, Bool, true, false, nat_le, inl, inr, refl, ap, sym, ◌∙◌, arith, add-one, mod-eq_of_lt}
 use Rattle.std.specs.Int.{div_ceil}
 use Rattle.std.proofs.lemmas.Nat.{div-add-mod', mul-le}
 use Rattle.std.proofs.lemmas.Grind.{div_ceil_times}
 use Rattle.std.proofs.lemmas.Bool.{cases_lt}
 use Rattle.std.proofs.lemmas.Bool.Decides.{nat_tests}
-use Rattle.std.proofs.Math.Nat.{div-div-eq-div-mul, div-one, pow-zero, pow-suc}
+use Rattle.std.proofs.Math.Nat.{div-div-eq-div-mul, div-one, pow-zero, pow-suc, pow-le-pow_right}
 use Rattle.oram_geometry.specs.Least.{IsLeastFrom}
 use Rattle.oram_geometry.specs.declared.Sizes.{Sizes}
 use Rattle.oram_geometry.specs.Sizes.{IsDevice, fanout, blocks_in, fits_table, trees_of, level_for, address_in}
@@ -90,22 +90,22 @@ trees_of-is d n l h = least_from-is (fits_table d) 1 12 n l (omega arith)
 pub trees_of-few : (d : Sizes) → IsDevice d → trees_of d ≤ 13
 trees_of-few d r = (trees_of-least d r).least 13 (omega arith) (last_fits d r)
 
--- the least level with as many nodes
-pub level_for-least : (n : ℕ) → n ≤ 2 ^ 24 → IsLeastFrom (λ l. nat_le n (2 ^ l)) 0 (level_for n)
+-- the least level whose nodes have room for n blocks
+pub level_for-least : (load n : ℕ) → 1 ≤ load → n ≤ 2 ^ 24 → IsLeastFrom (λ l. nat_le n (load * 2 ^ l)) 0 (level_for load n)
 unfolding level_for
-level_for-least n h = least_from-least (λ l. nat_le n (2 ^ l)) 0 24 (grind (arith, nat_tests))
+level_for-least load n some h = least_from-least (λ l. nat_le n (load * 2 ^ l)) 0 24 (grind (arith, nat_tests))
 
-pub level_for-is : (n l : ℕ) → IsLeastFrom (λ l. nat_le n (2 ^ l)) 0 l → l ≤ 24 → level_for n ≡ l
+pub level_for-is : (load n l : ℕ) → IsLeastFrom (λ l. nat_le n (load * 2 ^ l)) 0 l → l ≤ 24 → level_for load n ≡ l
 unfolding level_for
-level_for-is n l least h = least_from-is (λ l. nat_le n (2 ^ l)) 0 24 l least (omega arith)
+level_for-is load n l least h = least_from-is (λ l. nat_le n (load * 2 ^ l)) 0 24 l least (omega arith)
 
 passes : (m n : ℕ) → nat_le m n ≡ true → m ≤ n
 passes m n h = grind (arith, nat_tests)
 
-pub level_for-range : (n : ℕ) → n ≤ 2 ^ 24 → (level_for n ≤ 24) × (n ≤ 2 ^ level_for n)
-level_for-range n h =
-    let l = level_for-least n h in
-    (l.least 24 (omega arith) (grind (arith, nat_tests)), passes n (2 ^ level_for n) l.passes)
+pub level_for-range : (load n : ℕ) → 1 ≤ load → n ≤ 2 ^ 24 → (level_for load n ≤ 24) × (n ≤ load * 2 ^ level_for load n)
+level_for-range load n some h =
+    let l = level_for-least load n some h in
+    (l.least 24 (omega arith) (grind (arith, nat_tests)), passes n (load * 2 ^ level_for load n) l.passes)
 
 -- an address of a tree is below its number of blocks
 divided-below : (a n k : ℕ) → 0 < k → a < n → a / k < div_ceil n k
@@ -152,8 +152,26 @@ first_trees d t n low few e room before =
     let here : fits_table d t ≡ true = grind (arith, nat_tests) in
     sym (trees_of-is d t (record { begins = low; passes = here; least = λ m above passes. least_by (fits_table d) t m passes (before m above) }) few)
 
--- the first level with as many nodes is the least
-pub first_level : (n l : ℕ) → l ≤ 24 → n ≤ 2 ^ l → ((m : ℕ) → m < l → nat_le n (2 ^ m) ≡ false) → l ≡ level_for n
-first_level n l few enough before =
-    let here : nat_le n (2 ^ l) ≡ true = grind (arith, nat_tests) in
-    sym (level_for-is n l (record { begins = omega arith; passes = here; least = λ m above passes. least_by (λ k. nat_le n (2 ^ k)) l m passes (before m) }) few)
+-- the first level whose nodes have room is the least
+pub first_level : (load n l : ℕ) → l ≤ 24 → n ≤ load * 2 ^ l → ((m : ℕ) → m < l → nat_le n (load * 2 ^ m) ≡ false) → l ≡ level_for load n
+first_level load n l few enough before =
+    let here : nat_le n (load * 2 ^ l) ≡ true = grind (arith, nat_tests) in
+    sym (level_for-is load n l (record { begins = omega arith; passes = here; least = λ m above passes. least_by (λ k. nat_le n (load * 2 ^ k)) l m passes (before m) }) few)
+
+-- up to level 24 the blocks for which there is room fit a word of 32 bits
+pub load_fits : (load l : ℕ) → load ≤ 8 → l ≤ 24 → load * 2 ^ l % 2 ^ 32 ≡ load * 2 ^ l
+load_fits load l few deep =
+    let nodes : 2 ^ l ≤ 2 ^ 24 = pow-le-pow_right (omega arith) deep in
+    let room : load * 2 ^ l ≤ 8 * 2 ^ 24 = mul-le load (2 ^ l) 8 (2 ^ 24) few nodes in
+    mod-eq_of_lt (omega arith)
+
+-- if the nodes of a level have no room for the blocks, the level isn't the last
+pub more_levels : (load n l : ℕ) → 1 ≤ load → load ≤ 8 → n ≤ 2 ^ 24 → l ≤ 24 → load * 2 ^ l % 2 ^ 32 < n → (l < 24) × (nat_le n (load * 2 ^ l) ≡ false)
+more_levels load n l some few small deep short =
+    let room = load_fits load l few deep in (
+      elim (cases_lt l 24) [
+        | inl below ↦ below
+        | inr above ↦ absurd (let last : l ≡ 24 = omega arith in let most : load * 2 ^ l ≡ load * 2 ^ 24 = ap (λ (k : ℕ). load * 2 ^ k) last in omega (arith, room, most))
+      ],
+      grind (arith, nat_tests),
+    )

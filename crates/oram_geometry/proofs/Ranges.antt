@@ -1,4 +1,4 @@
--- If five numbers have no fault, each is in its range.
+-- If six numbers have no fault, each is in its range.
 use Rattle.std.proofs.Common.{◌≡◌, ℕ, ◌≤◌, ◌%◌, ◌^◌, ◌==◌, ◌&&◌, Bool, true, false, if◌then◌else◌, not, Option, Some, None, refl, arith}
 use Rattle.std.proofs.lemmas.Bool.Decides.{nat_tests}
 use Rattle.oram_geometry.specs.declared.Sizes.{Sizes}
@@ -27,12 +27,14 @@ in_ranges d e =
     let c = passed _ _ _ b.1 in
     let f = passed _ _ _ c.1 in
     let g = passed _ _ _ f.1 in
+    let h = passed _ _ _ g.1 in
     let bytes = both _ _ b.0 in
     let blocks = between 1 (2 ^ 24) d.blocks a.0 in
     let length = between 16 4096 d.block_bytes bytes.0 in
     let slots = between 1 8 d.slots c.0 in
     let top = between 1 (2 ^ 24) d.top f.0 in
     let lifetime = between 1 (2 ^ 40) d.lifetime g.0 in
+    let load = between 1 8 d.leaf_load h.0 in
     record {
       some_blocks = blocks.0;
       few_blocks = blocks.1;
@@ -45,4 +47,6 @@ in_ranges d e =
       few_top = top.1;
       some_lifetime = lifetime.0;
       few_lifetime = lifetime.1;
+      some_load = load.0;
+      few_load = load.1;
     }

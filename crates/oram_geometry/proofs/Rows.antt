@@ -1,14 +1,14 @@
--- Sizes of three devices, computed.
+-- Sizes of devices, computed.
 use Rattle.std.proofs.Common.{◌≡◌, refl, None, Some}
 use Rattle.oram_geometry.specs.declared.Sizes.{Sizes}
 use Rattle.oram_geometry.specs.Sizes.{blocks_in, trees_of, depth_of, level_for, address_in, leaf_of, range_fault}
 use Rattle.oram_geometry.specs.Least.{least_from}
 use Rattle.oram_geometry.specs.Path.{node_on}
-use Rattle.oram_geometry.specs.declared.ShapeFault.TheVariants.{BlockBytes}
+use Rattle.oram_geometry.specs.declared.ShapeFault.TheVariants.{BlockBytes, LeafLoad}
 
 -- 64 blocks of 16 bytes, with four entries of the position map in the client's table
 abbrev recursive : Sizes
-recursive = record { blocks = 64; block_bytes = 16; slots = 4; top = 4; lifetime = 100 }
+recursive = record { blocks = 64; block_bytes = 16; slots = 4; top = 4; lifetime = 100; leaf_load = 1 }
 
 three_trees : trees_of recursive ≡ 3
 unfolding trees_of least_from blocks_in
@@ -23,7 +23,7 @@ map_blocks = (refl, refl, refl)
 
 -- eight blocks, with every entry in the client's table
 abbrev small : Sizes
-small = record { blocks = 8; block_bytes = 16; slots = 4; top = 8; lifetime = 100 }
+small = record { blocks = 8; block_bytes = 16; slots = 4; top = 8; lifetime = 100; leaf_load = 1 }
 
 one_tree : (trees_of small ≡ 1) × (depth_of small 0 ≡ 3)
 unfolding trees_of level_for least_from blocks_in
@@ -39,7 +39,7 @@ path_of_six = (refl, refl, refl, refl)
 
 -- one block, whose tree is one bucket
 abbrev single : Sizes
-single = record { blocks = 1; block_bytes = 16; slots = 1; top = 1; lifetime = 10 }
+single = record { blocks = 1; block_bytes = 16; slots = 1; top = 1; lifetime = 10; leaf_load = 1 }
 
 one_bucket : (trees_of single ≡ 1) × (depth_of single 0 ≡ 0)
 unfolding trees_of level_for least_from blocks_in
@@ -48,5 +48,21 @@ one_bucket = (refl, refl)
 no_fault : range_fault small ≡ None
 no_fault = refl
 
-odd_bytes : range_fault (record { blocks = 8; block_bytes = 18; slots = 0; top = 0; lifetime = 0 }) ≡ Some BlockBytes
+odd_bytes : range_fault (record { blocks = 8; block_bytes = 18; slots = 0; top = 0; lifetime = 0; leaf_load = 0 }) ≡ Some BlockBytes
 odd_bytes = refl
+
+-- up to four blocks for each leaf: two levels fewer, and no tree has fewer levels than one
+abbrev packed : Sizes
+packed = record recursive { leaf_load = 4 }
+
+packed_depths : (trees_of packed ≡ 3) × (depth_of packed 0 ≡ 4) × (depth_of packed 1 ≡ 2) × (depth_of packed 2 ≡ 0)
+unfolding trees_of level_for least_from blocks_in
+packed_depths = (refl, refl, refl, refl)
+
+-- 21 leaves of three blocks are too few for 64 blocks, so there are 32
+three_each : depth_of (record recursive { leaf_load = 3 }) 0 ≡ 5
+unfolding level_for least_from blocks_in
+three_each = refl
+
+no_load : (range_fault (record small { leaf_load = 0 }) ≡ Some LeafLoad) × (range_fault (record small { leaf_load = 9 }) ≡ Some LeafLoad) × (range_fault (record small { leaf_load = 8 }) ≡ None)
+no_load = (refl, refl, refl)

@@ -1,4 +1,4 @@
--- The values that a device stores beside its five numbers.
+-- The values that a device stores beside its six numbers.
 use Rattle.std.specs.Prelude.{◌≡◌, ℕ, ◌<◌, List, slice_index}
 use Rattle.oram_geometry.specs.declared.Sizes.{Sizes}
 use Rattle.oram_geometry.specs.Sizes.{IsDevice, blocks_in, trees_of, depth_of}

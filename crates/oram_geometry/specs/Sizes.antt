@@ -4,7 +4,7 @@ use Rattle.std.specs.Int.{div_ceil}
 use Rattle.oram_geometry.specs.Least.{least_from}
 use Rattle.oram_geometry.specs.declared.Sizes.{Sizes}
 use Rattle.oram_geometry.specs.declared.ShapeFault.{ShapeFault}
-use Rattle.oram_geometry.specs.declared.ShapeFault.TheVariants.{Blocks, BlockBytes, Slots, Top, Lifetime}
+use Rattle.oram_geometry.specs.declared.ShapeFault.TheVariants.{Blocks, BlockBytes, Slots, Top, Lifetime, LeafLoad}
 
 -- the number of entries of a map block, at four bytes each
 abbrev pub fanout : Sizes → ℕ
@@ -23,17 +23,17 @@ fits_table d h = nat_le (blocks_in d (h - 1)) d.top
 unfoldable pub trees_of : Sizes → ℕ
 trees_of d = least_from (fits_table d) 1 12
 
--- the least level with at least n nodes
-unfoldable pub level_for : ℕ → ℕ
-level_for n = least_from (λ l. nat_le n (2 ^ l)) 0 24
+-- the least level whose nodes have room for n blocks, at `load` blocks each
+unfoldable pub level_for : ℕ → ℕ → ℕ
+level_for load n = least_from (λ l. nat_le n (load * 2 ^ l)) 0 24
 
--- whether a tree of depth l has at least as many leaves as tree i has blocks
+-- whether the leaves of a tree of depth l have room for the blocks of tree i, at `d.leaf_load` blocks each
 abbrev pub has_leaves : Sizes → ℕ → ℕ → Bool
-has_leaves d i l = nat_le (blocks_in d i) (2 ^ l)
+has_leaves d i l = nat_le (blocks_in d i) (d.leaf_load * 2 ^ l)
 
--- the depth of tree i: the least level with at least as many nodes as the tree has blocks
+-- the depth of tree i: the least level whose nodes have room for the tree's blocks, at `d.leaf_load` blocks each
 abbrev pub depth_of : Sizes → ℕ → ℕ
-depth_of d i = level_for (blocks_in d i)
+depth_of d i = level_for d.leaf_load (blocks_in d i)
 
 -- the address in tree i of the block that leads to the device's block a
 abbrev pub address_in : Sizes → ℕ → ℕ → ℕ
@@ -54,7 +54,7 @@ record_len_of d overhead = bucket_len d + overhead + 64
 abbrev pub is_between : ℕ → ℕ → ℕ → Bool
 is_between low high n = nat_le low n && nat_le n high
 
--- the first of the five numbers that is out of its range
+-- the first of the six numbers that is out of its range
 abbrev pub range_fault : Sizes → Option ShapeFault
 range_fault d =
     if not (is_between 1 (2 ^ 24) d.blocks) then Some Blocks
@@ -62,13 +62,14 @@ range_fault d =
     else if not (is_between 1 8 d.slots) then Some Slots
     else if not (is_between 1 (2 ^ 24) d.top) then Some Top
     else if not (is_between 1 (2 ^ 40) d.lifetime) then Some Lifetime
+    else if not (is_between 1 8 d.leaf_load) then Some LeafLoad
     else None
 
 abbrev pub device_unless : Sizes → Option ShapeFault → Result Sizes ShapeFault
 device_unless d None = Ok d
 device_unless d (Some fault) = Err fault
 
--- the device that the five numbers define, or the fault of the first one that is out of its range
+-- the device that the six numbers define, or the fault of the first one that is out of its range
 abbrev pub device_of : Sizes → Result Sizes ShapeFault
 device_of d = device_unless d (range_fault d)
 
@@ -79,8 +80,9 @@ fault_number BlockBytes = 2
 fault_number Slots = 3
 fault_number Top = 4
 fault_number Lifetime = 5
+fault_number LeafLoad = 6
 
--- the ranges of a device's five numbers
+-- the ranges of a device's six numbers
 pub record IsDevice (d : Sizes) : Type 0 where
   pub some_blocks : 1 ≤ d.blocks
   pub few_blocks : d.blocks ≤ 2 ^ 24
@@ -93,3 +95,5 @@ pub record IsDevice (d : Sizes) : Type 0 where
   pub few_top : d.top ≤ 2 ^ 24
   pub some_lifetime : 1 ≤ d.lifetime
   pub few_lifetime : d.lifetime ≤ 2 ^ 40
+  pub some_load : 1 ≤ d.leaf_load
+  pub few_load : d.leaf_load ≤ 8

@@ -1,7 +1,7 @@
-//! The values that follow from a device's five numbers.
+//! The values that follow from a device's six numbers.
 ghost use Rattle.std.specs.Prelude.{◌≡◌, ◌+◌, ◌^◌, ◌<◌, ◌≤◌, ℕ, slice_index};
 ghost use Rattle.oram_geometry.specs.declared.Sizes.{Sizes};
-ghost use Rattle.oram_geometry.specs.Sizes.{IsDevice, blocks_in, trees_of, level_for, is_between, range_fault};
+ghost use Rattle.oram_geometry.specs.Sizes.{IsDevice, blocks_in, trees_of, depth_of, level_for, is_between, range_fault};
 
 use crate::{MOST_TREES, ShapeFault, Sizes};
 
@@ -26,6 +26,8 @@ pub(crate) fn shape_fault(sizes: &Sizes) -> Option<ShapeFault>
         Some(ShapeFault::Top)
     } else if !is_between(1, 1 << 40, sizes.lifetime) {
         Some(ShapeFault::Lifetime)
+    } else if !is_between(1, 8, sizes.leaf_load) {
+        Some(ShapeFault::LeafLoad)
     } else {
         None
     }
@@ -57,26 +59,30 @@ pub(crate) fn tree_count(sizes: &Sizes, counts: &[u32; MOST_TREES]) -> u8
     trees
 }
 
-/// Returns the least level that has at least `blocks` nodes.
-fn depth_for(blocks: u32) -> u8
-    requires { blocks ≤ 2 ^ 24 }
-    ensures { result ≡ level_for blocks }
+/// Returns the least level whose nodes have room for `blocks` blocks, at `load` blocks each.
+fn depth_for(load: u32, blocks: u32) -> u8
+    requires some { 1 ≤ load }
+    requires few { load ≤ 8 }
+    requires blocks { blocks ≤ 2 ^ 24 }
+    ensures { result ≡ level_for load blocks }
 {
     let mut level = 0;
-    while 1 << level < blocks {
+    while load << level < blocks {
         level += 1;
     }
     level
 }
 
 /// Returns the depth of each tree, given the number of its blocks.
-pub(crate) fn depths_for(counts: &[u32; MOST_TREES]) -> [u8; MOST_TREES]
-    requires { (i : ℕ) → i < 13 → slice_index counts.now i ≤ 2 ^ 24 }
-    ensures { (i : ℕ) → i < 13 → slice_index result i ≡ level_for (slice_index counts.now i) }
+pub(crate) fn depths_for(sizes: &Sizes, counts: &[u32; MOST_TREES]) -> [u8; MOST_TREES]
+    requires ranges { IsDevice sizes.now }
+    requires counts { (i : ℕ) → i < 13 → slice_index counts.now i ≡ blocks_in sizes.now i }
+    ensures { (i : ℕ) → i < 13 → slice_index result i ≡ depth_of sizes.now i }
 {
+    let load = sizes.leaf_load as u32;
     let mut depths = [0; MOST_TREES];
     for tree in 0..MOST_TREES {
-        depths[tree] = depth_for(counts[tree]);
+        depths[tree] = depth_for(load, counts[tree]);
     }
     depths
 }

@@ -4,9 +4,12 @@
 //! from 0 (the root) to the tree's depth (the leaves). Tree 0 holds the device's data. Tree i + 1 holds the position
 //! map of tree i: each of its blocks has as many entries of four bytes as fit, one for each block of tree i. The
 //! client itself keeps the entries of the last tree, in its table.
+//!
+//! A tree has as few levels as its blocks allow, given how many of them there may be for each leaf: the leaf load. With a
+//! leaf load of 1 there is a leaf for each block.
 #![tactic(auto)]
 
-ghost use Rattle.std.specs.Prelude.{◌≡◌, ◌+◌, ◌-◌, ◌^◌, ◌<◌, ◌≤◌, ◌↔◌, ℕ};
+ghost use Rattle.std.specs.Prelude.{◌≡◌, ◌+◌, ◌-◌, ◌*◌, ◌^◌, ◌<◌, ◌≤◌, ◌↔◌, ℕ};
 ghost use Rattle.oram_geometry.specs.Least.{IsLeastFrom};
 ghost use Rattle.oram_geometry.specs.declared.Sizes.{Sizes};
 ghost use Rattle.oram_geometry.specs.Sizes.{IsDevice, fanout, blocks_in, fits_table, trees_of, has_leaves, depth_of, record_len_of, address_in, leaf_of, fault_number, device_of};
@@ -20,7 +23,7 @@ use std::marker::Model;
 /// The greatest number of trees that a device can have.
 pub const MOST_TREES: usize = 13;
 
-/// The five numbers that define a device.
+/// The six numbers that define a device.
 #[derive(Clone, Copy, Debug, PartialEq, Eq)]
 pub struct Sizes {
     /// Blocks of the device, from 1 to 2^24.
@@ -33,9 +36,11 @@ pub struct Sizes {
     pub top: u64,
     /// The greatest number of accepted commands, from 1 to 2^40.
     pub lifetime: u64,
+    /// The greatest number of blocks of a tree for each of its leaves, from 1 to 8.
+    pub leaf_load: u64,
 }
 
-/// Why five numbers define no device: the first number that is out of its range.
+/// Why six numbers define no device: the first number that is out of its range.
 #[derive(Clone, Copy, Debug, PartialEq, Eq)]
 pub enum ShapeFault {
     Blocks,
@@ -43,6 +48,7 @@ pub enum ShapeFault {
     Slots,
     Top,
     Lifetime,
+    LeafLoad,
 }
 
 impl ShapeFault {
@@ -56,11 +62,12 @@ impl ShapeFault {
             ShapeFault::Slots => 3,
             ShapeFault::Top => 4,
             ShapeFault::Lifetime => 5,
+            ShapeFault::LeafLoad => 6,
         }
     }
 }
 
-/// A block device: its five numbers, each in its range, and the values that follow from them, computed once.
+/// A block device: its six numbers, each in its range, and the values that follow from them, computed once.
 #[derive(Debug, Drop)]
 pub struct Device {
     sizes: Sizes,
@@ -82,7 +89,8 @@ impl Model for Device {
 }
 
 impl Device {
-    /// Makes a device of these sizes, or returns the fault of the first size that is out of its range.
+    /// Makes a device of these sizes, whose trees have a leaf for each block, or returns the fault of the first size
+    /// that is out of its range.
     pub fn new(
         blocks: u64,
         block_bytes: u64,
@@ -90,7 +98,22 @@ impl Device {
         top: u64,
         lifetime: u64,
     ) -> Result<Device, ShapeFault>
-        ensures { result ≡ device_of (record { blocks = blocks; block_bytes = block_bytes; slots = slots; top = top; lifetime = lifetime }) }
+        ensures { result ≡ device_of (record { blocks = blocks; block_bytes = block_bytes; slots = slots; top = top; lifetime = lifetime; leaf_load = 1 }) }
+    {
+        Device::packed(blocks, block_bytes, slots, top, lifetime, 1)
+    }
+
+    /// Makes a device of these sizes, whose trees have a leaf for each `leaf_load` blocks, or returns the fault of the
+    /// first size that is out of its range.
+    pub fn packed(
+        blocks: u64,
+        block_bytes: u64,
+        slots: u64,
+        top: u64,
+        lifetime: u64,
+        leaf_load: u64,
+    ) -> Result<Device, ShapeFault>
+        ensures { result ≡ device_of (record { blocks = blocks; block_bytes = block_bytes; slots = slots; top = top; lifetime = lifetime; leaf_load = leaf_load }) }
     {
         let sizes = Sizes {
             blocks,
@@ -98,13 +121,14 @@ impl Device {
             slots,
             top,
             lifetime,
+            leaf_load,
         };
         if let Some(fault) = shape_fault(&sizes) {
             return Err(fault);
         }
         let blocks = block_counts(&sizes);
         let trees = tree_count(&sizes, &blocks);
-        let depths = depths_for(&blocks);
+        let depths = depths_for(&sizes, &blocks);
         Ok(Device {
             sizes,
             trees,
@@ -167,6 +191,14 @@ impl Device {
         self.sizes.lifetime
     }
 
+    /// Returns the greatest number of blocks of a tree for each of its leaves.
+    pub fn leaf_load(&self) -> u64
+        ensures value { result ≡ self.now.leaf_load }
+        ensures range { (1 ≤ result) × (result ≤ 8) }
+    {
+        self.sizes.leaf_load
+    }
+
     /// Returns the number of position map entries in a map block, at four bytes each.
     pub fn fanout(&self) -> usize
         ensures value { result ≡ fanout self.now }
@@ -190,7 +222,7 @@ impl Device {
         requires { tree < trees_of self.now }
         ensures count { result ≡ depth_of self.now tree }
         ensures least { IsLeastFrom (has_leaves self.now tree) 0 result }
-        ensures enough { blocks_in self.now tree ≤ 2 ^ result }
+        ensures enough { blocks_in self.now tree ≤ self.now.leaf_load * 2 ^ result }
         ensures range { result ≤ 24 }
     {
         self.depths[tree as usize]

@@ -48,6 +48,8 @@ is_device = record {
   few_top = omega arith;
   some_lifetime = omega arith;
   few_lifetime = omega arith;
+  some_load = omega arith;
+  few_load = omega arith;
 }
 
 pub no_depth : 0 ≡ depth_of one_block.device 0

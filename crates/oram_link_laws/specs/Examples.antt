@@ -108,7 +108,7 @@ DirectSessionsAreStreamed = (v : Scheme) (words : ℕ → ℕ → List ℕ) (ses
 -- a device of one block of 16 bytes, whose sealer changes nothing
 abbrev pub one_block : Scheme
 one_block = record {
-  device = record { blocks = 1; block_bytes = 16; slots = 1; top = 1; lifetime = 1 };
+  device = record { blocks = 1; block_bytes = 16; slots = 1; top = 1; lifetime = 1; leaf_load = 1 };
   cipher = plain_cipher;
 }
 

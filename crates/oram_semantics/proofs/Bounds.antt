@@ -22,7 +22,7 @@ some_trees d = omega (arith, least_low (λ h. nat_le (blocks_in d (h - 1)) d.top
 -- no tree is deeper than 24
 pub depth_small : (d : Sizes) (i : ℕ) → depth_of d i ≤ 24
 unfolding level_for
-depth_small d i = least_high (λ l. nat_le (blocks_in d i) (2 ^ l)) 0 24
+depth_small d i = least_high (λ l. nat_le (blocks_in d i) (d.leaf_load * 2 ^ l)) 0 24
 
 -- a block of the device belongs to one block in each tree
 pub address_small : (d : Sizes) (i a : ℕ) → 0 < fanout d → a < d.blocks → address_in d i a < blocks_in d i

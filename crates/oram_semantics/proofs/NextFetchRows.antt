@@ -11,7 +11,7 @@ use Rattle.oram_semantics.specs.declared.events.Submission.{Submission}
 
 -- 64 blocks in three trees, of depths 6, 4 and 2. The table has an entry for each of the four blocks of tree 2.
 abbrev recursive : Sizes
-recursive = record { blocks = 64; block_bytes = 16; slots = 4; top = 4; lifetime = 100 }
+recursive = record { blocks = 64; block_bytes = 16; slots = 4; top = 4; lifetime = 100; leaf_load = 1 }
 
 -- the words that a command has in trees 0 and 1 don't matter here
 abbrev asks : ℕ → ℕ → ℕ → ℕ → Submission

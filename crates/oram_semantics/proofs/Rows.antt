@@ -35,7 +35,7 @@ use Rattle.oram_semantics.specs.declared.events.Submission.{Submission}
 -- 64 blocks in three trees, of depths 6, 4 and 2
 
 abbrev recursive : Sizes
-recursive = record { blocks = 64; block_bytes = 16; slots = 4; top = 4; lifetime = 100 }
+recursive = record { blocks = 64; block_bytes = 16; slots = 4; top = 4; lifetime = 100; leaf_load = 1 }
 
 abbrev first : Submission
 first = record { session = 1; ticket = 0; command = Read 37; words = 10 ∷ 11 ∷ 12 ∷ 13 ∷ 14 ∷ 15 ∷ [] }
@@ -70,7 +70,7 @@ nonces = refl
 
 abbrev small : Scheme
 small = record {
-  device = record { blocks = 2; block_bytes = 16; slots = 1; top = 2; lifetime = 10 };
+  device = record { blocks = 2; block_bytes = 16; slots = 1; top = 2; lifetime = 10; leaf_load = 1 };
   cipher = plain_cipher;
 }
 
@@ -159,7 +159,7 @@ refusals = refl
 -- eight blocks in one tree, under a host that keeps nothing: byte 0x80 alone is a good answer to a fetch too
 
 abbrev plain : Setting
-plain = record { scheme = record small { device = record { blocks = 8; block_bytes = 16; slots = 4; top = 8; lifetime = 100 } }; format = [] }
+plain = record { scheme = record small { device = record { blocks = 8; block_bytes = 16; slots = 4; top = 8; lifetime = 100; leaf_load = 1 } }; format = [] }
 
 abbrev read_of : ℕ → Step
 read_of address = record { event = Submit 1 (Read address) (6 ∷ 3 ∷ []); accepts = true; sends = [] }

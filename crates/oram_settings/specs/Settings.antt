@@ -85,7 +85,7 @@ IsDocumentOf text s = (table : Members) × (parse_document text ≡ Some table) 
 -- the device with this size in bytes, a whole number of blocks
 abbrev pub IsDeviceOf : ℕ → ℕ → ℕ → ℕ → Sizes → Type 0
 IsDeviceOf size block slots table device = (blocks : ℕ) × (blocks * block ≡ size)
-    × (device_of (record { blocks = blocks; block_bytes = block; slots = slots; top = table; lifetime = 2 ^ 40 }) ≡ Ok device)
+    × (device_of (record { blocks = blocks; block_bytes = block; slots = slots; top = table; lifetime = 2 ^ 40; leaf_load = 1 }) ≡ Ok device)
 
 -- the text of the settings file of a new disk with this size in bytes and this key; the settings that have defaults are in it
 -- as comments

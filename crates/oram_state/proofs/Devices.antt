@@ -1,8 +1,8 @@
 -- The front of a file: the device and the mode.
-use Rattle.std.proofs.Common.{◌≡◌, ℕ, ◌^◌, Bool, true, false, cond, List, ◌∷◌, ◌++◌, Option, Some, None, Ok, Err, refl, sym, ap, ◌∙◌, append_assoc, arith}
+use Rattle.std.proofs.Common.{◌≡◌, ℕ, ◌+◌, ◌-◌, ◌^◌, Bool, true, false, cond, List, ◌∷◌, ◌++◌, Option, Some, None, Ok, Err, refl, sym, ap, ◌∙◌, subst, append_assoc, arith}
 use Rattle.std.specs.Prelude.{IfOk, ◌&&◌, ◌==◌, ⊤}
 use Rattle.std.proofs.lemmas.Bool.{le-leb, eqb-true}
-use Rattle.std.specs.Int.{w32, w64}
+use Rattle.std.specs.Int.{w16, w32, w64}
 use Rattle.oram_geometry.specs.declared.Sizes.{Sizes}
 use Rattle.oram_geometry.specs.declared.ShapeFault.{ShapeFault}
 use Rattle.oram_geometry.specs.Sizes.{IsDevice, device_of, device_unless, range_fault}
@@ -11,10 +11,10 @@ use Rattle.oram_state.specs.declared.fault.StateFault.TheVariants.{Content}
 use Rattle.oram_state.specs.declared.mode.Mode.{Mode}
 use Rattle.oram_state.specs.declared.mode.Mode.TheVariants.{Idle, Failed, Waiting, Stalled}
 use Rattle.oram_state.specs.declared.saved.Head.{Head}
-use Rattle.oram_state.specs.StateBytes.{short, long, device_text, mode_number}
+use Rattle.oram_state.specs.StateBytes.{half, short, long, device_text, mode_number}
 use Rattle.oram_state.specs.WellSized.{IsShort, IsLong}
 use Rattle.oram_state.specs.Parser.{known, mode_in, next_byte, next_device, next_head, next_number}
-use Rattle.oram_state.proofs.Tools.{IsBytes, Took, took_both, then_ok, goes, byte_takes, byte_again, short_takes, short_again, long_takes, long_again}
+use Rattle.oram_state.proofs.Tools.{IsBytes, Took, took_both, then_ok, goes, byte_takes, byte_again, half_takes, half_again, short_takes, short_again, long_takes, long_again}
 
 -- ---- the device
 
@@ -37,31 +37,43 @@ known_again d h =
     let u = le-leb d.top (2 ^ 24) h.few_top in
     let v = le-leb 1 d.lifetime h.some_lifetime in
     let w = le-leb d.lifetime (2 ^ 40) h.few_lifetime in
-    rw (a, b, p, q, h.whole_words, r, s, t, u, v, w) refl
+    let x = le-leb 1 d.leaf_load h.some_load in
+    let y = le-leb d.leaf_load 8 h.few_load in
+    rw (a, b, p, q, h.whole_words, r, s, t, u, v, w, x, y) refl
+
+-- a device, with its leaf load as it is read back
+load_again : (d : Sizes) → IsDevice d → known (device_of (record d { leaf_load = d.leaf_load - 1 + 1 })) ≡ Ok d
+load_again d h =
+    let same : d.leaf_load ≡ d.leaf_load - 1 + 1 = (let some = h.some_load in omega arith) in
+    subst (λ (n : ℕ). known (device_of (record d { leaf_load = n })) ≡ Ok d) same (known_again d h)
 
 pub device_takes : (text : List ℕ) → IsBytes text → IfOk (next_device text) (λ x. Took text (device_text x.0) x.1 × IsDevice x.0)
 unfolding next_device
 device_takes text h =
     then_ok _ _ (next_number w32 text) _ (short_takes text h) (λ a pa.
     then_ok _ _ (next_number w32 a.1) _ (short_takes a.1 pa.0.bytes) (λ b pb.
-    then_ok _ _ (next_number w32 b.1) _ (short_takes b.1 pb.0.bytes) (λ c pc.
+    then_ok _ _ (next_number w16 b.1) _ (half_takes b.1 pb.0.bytes) (λ m pm.
+    then_ok _ _ (next_number w16 m.1) _ (half_takes m.1 pm.0.bytes) (λ c pc.
     then_ok _ _ (next_number w32 c.1) _ (short_takes c.1 pc.0.bytes) (λ d pd.
     then_ok _ _ (next_number w64 d.1) _ (long_takes d.1 pd.0.bytes) (λ e pe.
-    let s : Sizes = record { blocks = a.0; block_bytes = b.0; slots = c.0; top = d.0; lifetime = e.0 } in
+    let s : Sizes = record { blocks = a.0; block_bytes = b.0; slots = c.0; top = d.0; lifetime = e.0; leaf_load = m.0 + 1 } in
+    let less : m.0 ≡ m.0 + 1 - 1 = omega arith in
+    let pm' : Took b.1 (half (m.0 + 1 - 1)) m.1 = subst (λ (n : ℕ). Took b.1 (half n) m.1) less pm.0 in
     then_ok _ _ (known (device_of s)) _ (known_takes s) (λ f pf.
-    (rw pf.0 (took_both (took_both (took_both (took_both pa.0 pb.0) pc.0) pd.0) pe.0), pf.1)))))))
+    (rw pf.0 (took_both (took_both (took_both (took_both (took_both pa.0 pb.0) pm') pc.0) pd.0) pe.0), pf.1))))))))
 
 pub device_again : (d : Sizes) (rest : List ℕ) → IsDevice d → next_device (device_text d ++ rest) ≡ Ok (d, rest)
 unfolding next_device
 device_again d rest h =
-    let regrouped : device_text d ++ rest ≡ short d.blocks ++ (short d.block_bytes ++ (short d.slots ++ (short d.top ++ (long d.lifetime ++ rest)))) = simp append_assoc in
+    let regrouped : device_text d ++ rest ≡ short d.blocks ++ (short d.block_bytes ++ (half (d.leaf_load - 1) ++ (half d.slots ++ (short d.top ++ (long d.lifetime ++ rest))))) = simp append_assoc in
     ap next_device regrouped
     ∙ goes _ _ _ _ (short_again d.blocks _ (omega (arith, h.few_blocks)))
     (goes _ _ _ _ (short_again d.block_bytes _ (omega (arith, h.few_bytes)))
-    (goes _ _ _ _ (short_again d.slots _ (omega (arith, h.few_slots)))
+    (goes _ _ _ _ (half_again (d.leaf_load - 1) _ (omega (arith, h.few_load)))
+    (goes _ _ _ _ (half_again d.slots _ (omega (arith, h.few_slots)))
     (goes _ _ _ _ (short_again d.top _ (omega (arith, h.few_top)))
     (goes _ _ _ _ (long_again d.lifetime rest (omega (arith, h.few_lifetime)))
-    (goes _ _ _ _ (known_again d h) refl)))))
+    (goes _ _ _ _ (load_again d h) refl))))))
 
 -- ---- the mode
 

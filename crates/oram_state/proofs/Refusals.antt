@@ -1,7 +1,7 @@
 -- The fields of a file are refused with only one fault: Content.
-use Rattle.std.proofs.Common.{◌≡◌, ℕ, zero, suc, ◌*◌, Bool, true, false, cond, List, [], ◌∷◌, length, take, drop, Result, Ok, Err, refl, subst, inl, inr}
+use Rattle.std.proofs.Common.{◌≡◌, ℕ, zero, suc, ◌+◌, ◌*◌, Bool, true, false, cond, List, [], ◌∷◌, length, take, drop, Result, Ok, Err, refl, subst, inl, inr}
 use Rattle.std.specs.Prelude.{IfErr, ◌==◌, ◌&&◌, ◌⊎◌, nat_lt}
-use Rattle.std.specs.Int.{Width, w32, w64, byte_len, from_be_bytes}
+use Rattle.std.specs.Int.{Width, w16, w32, w64, byte_len, from_be_bytes}
 use Rattle.oram_geometry.specs.declared.Sizes.{Sizes}
 use Rattle.oram_geometry.specs.declared.ShapeFault.{ShapeFault}
 use Rattle.oram_geometry.specs.Sizes.{device_of, is_between, trees_of}
@@ -62,11 +62,12 @@ unfolding next_device
 device_refuses text =
     both_steps (next_number w32 text) _ (number_refuses w32 text) (λ a.
     both_steps (next_number w32 a.1) _ (number_refuses w32 a.1) (λ b.
-    both_steps (next_number w32 b.1) _ (number_refuses w32 b.1) (λ c.
+    both_steps (next_number w16 b.1) _ (number_refuses w16 b.1) (λ m.
+    both_steps (next_number w16 m.1) _ (number_refuses w16 m.1) (λ c.
     both_steps (next_number w32 c.1) _ (number_refuses w32 c.1) (λ e.
     both_steps (next_number w64 e.1) _ (number_refuses w64 e.1) (λ f.
-    both_steps (known (device_of (record { blocks = a.0; block_bytes = b.0; slots = c.0; top = e.0; lifetime = f.0 }))) _
-    (known_refuses (device_of (record { blocks = a.0; block_bytes = b.0; slots = c.0; top = e.0; lifetime = f.0 }))) (λ g. tt))))))
+    both_steps (known (device_of (record { blocks = a.0; block_bytes = b.0; slots = c.0; top = e.0; lifetime = f.0; leaf_load = m.0 + 1 }))) _
+    (known_refuses (device_of (record { blocks = a.0; block_bytes = b.0; slots = c.0; top = e.0; lifetime = f.0; leaf_load = m.0 + 1 }))) (λ g. tt)))))))
 
 mode_refuses : (version byte : ℕ) → Refuses (mode_in version byte)
 mode_refuses version byte =

@@ -1,13 +1,13 @@
 -- What a reader takes from the front of a text, and what was written there.
 use Rattle.std.proofs.Common.{◌≡◌, ℕ, suc, ◌+◌, ◌^◌, ◌<◌, ◌≤◌, Bool, true, false, cond, ltb, List, [], ◌∷◌, ◌++◌, length, get_or, take, drop, Result, Ok, Err, refl, sym, ap, ◌∙◌, append_assoc, arith, inl, inr}
 use Rattle.std.specs.Prelude.{IfOk}
-use Rattle.std.specs.Int.{Width, w32, w64, byte_len, from_be_bytes}
+use Rattle.std.specs.Int.{Width, w16, w32, w64, byte_len, from_be_bytes}
 use Rattle.std.proofs.lemmas.Bool.{cases_lt, ltb-false, le-ltb}
 use Rattle.std.proofs.lemmas.List.{take_at, drop_at, take-append-drop, length-append, length-take, get_or-drop, get_or-take, get_or_past}
-use Rattle.std.proofs.lemmas.Nat.{be_bytes_4, be_bytes_8, from_be_bytes-to_be_bytes_4, from_be_bytes-to_be_bytes_8}
+use Rattle.std.proofs.lemmas.Nat.{be_bytes_2, be_bytes_4, be_bytes_8, from_be_bytes-to_be_bytes_2, from_be_bytes-to_be_bytes_4, from_be_bytes-to_be_bytes_8}
 use Rattle.oram_state.specs.declared.fault.StateFault.{StateFault}
 use Rattle.oram_state.specs.declared.fault.StateFault.TheVariants.{Content}
-use Rattle.oram_state.specs.StateBytes.{short, long}
+use Rattle.oram_state.specs.StateBytes.{half, short, long}
 use Rattle.oram_state.specs.WellSized.{IsShort, IsLong}
 use Rattle.oram_state.specs.Parser.{◌>>=◌, next_byte, next_bytes, next_number, unless}
 
@@ -86,6 +86,15 @@ pub record IsWide (w : Width) (limit : ℕ) (spelled : ℕ → List ℕ) : Type 
   pub again : (n : ℕ) → n < limit → from_be_bytes w (spelled n) ≡ n
   pub below : (bytes : List ℕ) → IsBytes bytes → from_be_bytes w bytes < limit
 
+pub is_half : IsWide w16 (2 ^ 16) half
+unfolding half
+is_half = record {
+  len = λ n. refl;
+  back = λ bytes len fits. be_bytes_2 bytes _ len fits refl;
+  again = λ n lt. from_be_bytes-to_be_bytes_2 n lt;
+  below = λ bytes fits. omega (arith, fits 0, fits 1);
+}
+
 pub is_short : IsWide w32 (2 ^ 32) short
 unfolding short
 is_short = record {
@@ -125,11 +134,17 @@ number_again w limit spelled wide n rest lt =
     let enough : ltb (length (spelled n ++ rest)) (byte_len w) ≡ false = le-ltb _ _ (omega (arith, length-append (spelled n) rest)) in
     rw (enough, take_at (spelled n) rest (byte_len w) len, drop_at (spelled n) rest (byte_len w) len, wide.again n lt) refl
 
+pub half_takes : (text : List ℕ) → IsBytes text → IfOk (next_number w16 text) (λ x. Took text (half x.0) x.1 × (x.0 < 2 ^ 16))
+half_takes text h = number_takes w16 (2 ^ 16) half is_half text h
+
 pub short_takes : (text : List ℕ) → IsBytes text → IfOk (next_number w32 text) (λ x. Took text (short x.0) x.1 × IsShort x.0)
 short_takes text h = number_takes w32 (2 ^ 32) short is_short text h
 
 pub long_takes : (text : List ℕ) → IsBytes text → IfOk (next_number w64 text) (λ x. Took text (long x.0) x.1 × IsLong x.0)
 long_takes text h = number_takes w64 (2 ^ 64) long is_long text h
+
+pub half_again : (n : ℕ) (rest : List ℕ) → n < 2 ^ 16 → next_number w16 (half n ++ rest) ≡ Ok (n, rest)
+half_again n rest lt = number_again w16 (2 ^ 16) half is_half n rest lt
 
 pub short_again : (n : ℕ) (rest : List ℕ) → IsShort n → next_number w32 (short n ++ rest) ≡ Ok (n, rest)
 short_again n rest lt = number_again w32 (2 ^ 32) short is_short n rest lt

@@ -1,6 +1,6 @@
 -- How to read a state file from front to back, up to its first fault.
-use Rattle.std.specs.Prelude.{◌≡◌, ℕ, zero, suc, ◌-◌, ◌*◌, Bool, true, false, ◌&&◌, ◌||◌, ◌==◌, nat_eq, nat_lt, nat_le, if◌then◌else◌, List, [], ◌∷◌, length, take, drop, slice_range, codes, Option, Some, None, Result, Ok, Err, ⊤}
-use Rattle.std.specs.Int.{Width, w32, w64, byte_len, from_be_bytes}
+use Rattle.std.specs.Prelude.{◌≡◌, ℕ, zero, suc, ◌+◌, ◌-◌, ◌*◌, Bool, true, false, ◌&&◌, ◌||◌, ◌==◌, nat_eq, nat_lt, nat_le, if◌then◌else◌, List, [], ◌∷◌, length, take, drop, slice_range, codes, Option, Some, None, Result, Ok, Err, ⊤}
+use Rattle.std.specs.Int.{Width, w16, w32, w64, byte_len, from_be_bytes}
 use Rattle.std.specs.List.{starts_with}
 use Rattle.std.specs.Cmp.Lexicographic.{pointwise}
 use Rattle.sha2.specs.Sha256.{sha256}
@@ -88,10 +88,11 @@ unfoldable pub next_device : List ℕ → Reading Sizes
 next_device text = do
   blocks ← next_number w32 text
   block_bytes ← next_number w32 blocks.1
-  slots ← next_number w32 block_bytes.1
+  more_load ← next_number w16 block_bytes.1
+  slots ← next_number w16 more_load.1
   top ← next_number w32 slots.1
   lifetime ← next_number w64 top.1
-  device ← known (device_of (record { blocks = blocks.0; block_bytes = block_bytes.0; slots = slots.0; top = top.0; lifetime = lifetime.0 }))
+  device ← known (device_of (record { blocks = blocks.0; block_bytes = block_bytes.0; slots = slots.0; top = top.0; lifetime = lifetime.0; leaf_load = more_load.0 + 1 }))
   Ok (device, lifetime.1)
 
 -- the mode for this byte; the first version has no files of cores at work

@@ -1,7 +1,7 @@
 -- The state file of a client: the bytes that spell the parts of a core. All numbers are big-endian.
-use Rattle.std.specs.Prelude.{ℕ, ◌+◌, Bool, true, false, List, [], ◌∷◌, ◌++◌, length, codes, Option, Some, None}
+use Rattle.std.specs.Prelude.{ℕ, ◌+◌, ◌-◌, Bool, true, false, List, [], ◌∷◌, ◌++◌, length, codes, Option, Some, None}
 use Rattle.std.specs.List.{flat_map}
-use Rattle.std.specs.Int.{w32, w64, to_be_bytes}
+use Rattle.std.specs.Int.{w16, w32, w64, to_be_bytes}
 use Rattle.sha2.specs.Sha256.{sha256}
 use Rattle.oram_geometry.specs.declared.Sizes.{Sizes}
 use Rattle.oram_bucket.specs.Cell.{Cell}
@@ -15,16 +15,20 @@ use Rattle.oram_core.specs.declared.parts.Pending.{Pending}
 use Rattle.oram_state.specs.declared.mode.Mode.{Mode}
 use Rattle.oram_state.specs.declared.mode.Mode.TheVariants.{Idle, Failed, Waiting, Stalled}
 
--- a number in four bytes, and one in eight
+-- a number in two bytes, one in four, and one in eight
+unfoldable pub half : ℕ → List ℕ
+half n = to_be_bytes w16 n
+
 unfoldable pub short : ℕ → List ℕ
 short n = to_be_bytes w32 n
 
 unfoldable pub long : ℕ → List ℕ
 long n = to_be_bytes w64 n
 
--- the five numbers of a device
+-- the six numbers of a device; of the leaf load there is what it has more than 1, so that with a leaf load of 1 the slots
+-- are a number in four bytes
 abbrev pub device_text : Sizes → List ℕ
-device_text d = short d.blocks ++ short d.block_bytes ++ short d.slots ++ short d.top ++ long d.lifetime
+device_text d = short d.blocks ++ short d.block_bytes ++ half (d.leaf_load - 1) ++ half d.slots ++ short d.top ++ long d.lifetime
 
 -- a block of a stash
 abbrev pub block_text : Cell → List ℕ

@@ -1,7 +1,7 @@
 //! Reads the fields of a file, one after the other: each function returns the field at the front and the bytes after it.
 
 ghost use Rattle.std.specs.Prelude.{◌≡◌, length, IfOk};
-ghost use Rattle.std.specs.Int.{w32, w64};
+ghost use Rattle.std.specs.Int.{w16, w32, w64};
 ghost use Rattle.oram_state.specs.Parser.{Gives, many, next_byte, next_bytes, next_number};
 
 use crate::fault::StateFault;
@@ -28,6 +28,17 @@ pub(crate) fn read_byte(bytes: &[u8]) -> Result<(u8, &[u8]), StateFault>
         [] => Err(StateFault::Content),
         [byte, rest @ ..] => Ok((*byte, rest)),
     }
+}
+
+#[tactic(auto, unfolding(crate::specs::Parser::next_number))]
+pub(crate) fn read_half(bytes: &[u8]) -> Result<(u16, &[u8]), StateFault>
+    ensures { Gives (λ x. (x.0, x.1.now)) result (next_number w16 bytes.now) }
+{
+    if bytes.len() < 2 {
+        return Err(StateFault::Content);
+    }
+    let (front, rest) = bytes.split_at(2);
+    Ok((BigEndian::read_u16(front), rest))
 }
 
 #[tactic(auto, unfolding(crate::specs::Parser::next_number))]

@@ -3,7 +3,7 @@
 ghost use Rattle.oram_state.specs.Parser.{Gives, many, next_block, next_device, next_failure, next_reason, next_tree, reason_in};
 
 use crate::fault::StateFault;
-use crate::fields::{read_byte, read_bytes, read_long, read_short};
+use crate::fields::{read_byte, read_bytes, read_half, read_long, read_short};
 use crate::mode::Mode;
 use oram_bucket::Block;
 use oram_core::Reason;
@@ -18,15 +18,17 @@ pub(crate) fn read_device(bytes: &[u8]) -> Result<(Device, &[u8]), StateFault>
 {
     let (blocks, rest) = read_short(bytes)?;
     let (block_bytes, rest) = read_short(rest)?;
-    let (slots, rest) = read_short(rest)?;
+    let (more_load, rest) = read_half(rest)?;
+    let (slots, rest) = read_half(rest)?;
     let (top, rest) = read_short(rest)?;
     let (lifetime, rest) = read_long(rest)?;
-    let device = Device::new(
+    let device = Device::packed(
         blocks.into(),
         block_bytes.into(),
         slots.into(),
         top.into(),
         lifetime,
+        u64::from(more_load) + 1,
     )?;
     Ok((device, rest))
 }

@@ -3,7 +3,7 @@
 ghost use Rattle.std.specs.Prelude.{◌≡◌, ◌≤◌, ◌<◌, ◌^◌, ◌++◌, length, take, drop, All, IfOk, OnOk};
 ghost use Rattle.std.specs.List.{flat_map};
 ghost use Rattle.oram_state.specs.declared.frame.TheConstants.{LENGTH_END};
-ghost use Rattle.oram_state.specs.StateBytes.{block_text, body, command_text, device_text, fields_text, head_text, long, pending_text, reason_text, rest_text, short, state_file, tree_text, work_fields, work_of};
+ghost use Rattle.oram_state.specs.StateBytes.{block_text, body, command_text, device_text, fields_text, half, head_text, long, pending_text, reason_text, rest_text, short, state_file, tree_text, work_fields, work_of};
 ghost use Rattle.oram_state.specs.WellSized.{CommandFits, FitsFields, HasCounts, IsLong};
 
 use crate::frame::{FRAME_LEN, LENGTH_END, MAGIC, VERSION_END};
@@ -97,6 +97,13 @@ fn room(parts: &Parts) -> usize {
         .saturating_add(parts.message.len())
 }
 
+#[tactic(auto, unfolding(crate::specs::StateBytes::half))]
+fn push_half(out: &mut Vec<u8>, number: u16) -> Result<(), AllocError>
+    ensures { OnOk result (out.new.items ≡ out.old.items ++ half number) }
+{
+    out.extend_from_slice(&number.to_be_bytes())
+}
+
 #[tactic(auto, unfolding(crate::specs::StateBytes::short))]
 fn push_short(out: &mut Vec<u8>, number: u32) -> Result<(), AllocError>
     ensures { OnOk result (out.new.items ≡ out.old.items ++ short number) }
@@ -117,7 +124,8 @@ fn push_device(out: &mut Vec<u8>, device: &Device) -> Result<(), AllocError>
     prove!(0 < device.trees());
     push_short(out, device.blocks_in(0))?;
     push_short(out, device.block_bytes() as u32)?;
-    push_short(out, device.slots() as u32)?;
+    push_half(out, (device.leaf_load() - 1) as u16)?;
+    push_half(out, device.slots() as u16)?;
     push_short(out, device.top() as u32)?;
     push_long(out, device.lifetime())
 }

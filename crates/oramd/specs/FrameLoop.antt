@@ -20,7 +20,7 @@ use Rattle.oramd.specs.declared.faults.Fault.TheVariants.{Hex, OutOfMemory, Stal
 
 -- 64 blocks of 16 bytes in one tree
 abbrev pub loop_sizes : Sizes
-loop_sizes = record { blocks = 64; block_bytes = 16; slots = 4; top = 64; lifetime = 100 }
+loop_sizes = record { blocks = 64; block_bytes = 16; slots = 4; top = 64; lifetime = 100; leaf_load = 1 }
 
 -- unsealed
 abbrev pub loop_scheme : Scheme

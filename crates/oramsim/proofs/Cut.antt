@@ -98,7 +98,7 @@ obeyed_cut p from m bytes line result old new cut some e is f =
 
 -- A line made no device.
 started_at : (stage : Stage) (head : List ℕ) (from : Option Machine) (bytes : List ℕ) (blocks block_bytes slots top lifetime : ℕ) (made : Result Sizes ShapeFault) (fault : SimFault) (old new : Option (List ℕ)) →
-    made ≡ device_of (record { blocks = blocks; block_bytes = block_bytes; slots = slots; top = top; lifetime = lifetime })
+    made ≡ device_of (record { blocks = blocks; block_bytes = block_bytes; slots = slots; top = top; lifetime = lifetime; leaf_load = 1 })
     → ((h : List ℕ) → GivesUpAt (behind h) ⊤ (λ q. (q ≡ behind h) ⊎ Starts h made q) fault old new)
     → (length bytes == 0) ≡ false → line_of bytes ≡ Some (Device blocks block_bytes slots top lifetime) → StandsAt stage None
     → GivesUpAt (record { stage = stage; head = head }) (IsUnmeddledAt (record { stage = stage; head = head }) from bytes) (Advances (record { stage = stage; head = head }) bytes) fault old new
@@ -112,7 +112,7 @@ started_at None head from bytes blocks block_bytes slots top lifetime made fault
     (c.0, leads, c.2, (λ on. c.3 tt), c.4)
 
 pub started_cut : (p : Point) (from : Option Machine) (bytes : List ℕ) (blocks block_bytes slots top lifetime : ℕ) (made : Result Sizes ShapeFault) (fault : SimFault) (old new : Option (List ℕ)) →
-    made ≡ device_of (record { blocks = blocks; block_bytes = block_bytes; slots = slots; top = top; lifetime = lifetime })
+    made ≡ device_of (record { blocks = blocks; block_bytes = block_bytes; slots = slots; top = top; lifetime = lifetime; leaf_load = 1 })
     → ((h : List ℕ) → GivesUpAt (behind h) ⊤ (λ q. (q ≡ behind h) ⊎ Starts h made q) fault old new)
     → (length bytes == 0) ≡ false → line_of bytes ≡ Some (Device blocks block_bytes slots top lifetime) → StandsAt p.stage None
     → GivesUpAt p (IsUnmeddledAt p from bytes) (Advances p bytes) fault old new

@@ -77,7 +77,7 @@ refused_some p m bytes line result old new bad some e f done = refused_at p.stag
 
 -- A device was made where there was none.
 started_at : (stage : Stage) (head : List ℕ) (from m : Option Machine) (bytes : List ℕ) (blocks block_bytes slots top lifetime : ℕ) (made : Result Sizes ShapeFault) (old new : Option (List ℕ)) →
-    made ≡ device_of (record { blocks = blocks; block_bytes = block_bytes; slots = slots; top = top; lifetime = lifetime })
+    made ≡ device_of (record { blocks = blocks; block_bytes = block_bytes; slots = slots; top = top; lifetime = lifetime; leaf_load = 1 })
     → ((h : List ℕ) → (q : Point) × Starts h made q × RunsOnAt (record { stage = None; head = h }) q m old new × IsFaithfulAt q.stage m)
     → (length bytes == 0) ≡ false → line_of bytes ≡ Some (Device blocks block_bytes slots top lifetime) → StandsAt stage None
     → Passed (record { stage = stage; head = head }) bytes from m old new
@@ -88,7 +88,7 @@ started_at None head from m bytes blocks block_bytes slots top lifetime made old
     (k.0, passes_line p k.0 bytes (Device blocks block_bytes slots top lifetime) some e (subst (λ (o : Result Sizes ShapeFault). Starts head o k.0) is k.1), k.2, λ harmless h. k.3)
 
 pub started : (p : Point) (from m : Option Machine) (bytes : List ℕ) (blocks block_bytes slots top lifetime : ℕ) (made : Result Sizes ShapeFault) (old new : Option (List ℕ)) →
-    made ≡ device_of (record { blocks = blocks; block_bytes = block_bytes; slots = slots; top = top; lifetime = lifetime })
+    made ≡ device_of (record { blocks = blocks; block_bytes = block_bytes; slots = slots; top = top; lifetime = lifetime; leaf_load = 1 })
     → ((h : List ℕ) → (q : Point) × Starts h made q × RunsOnAt (record { stage = None; head = h }) q m old new × IsFaithfulAt q.stage m)
     → (length bytes == 0) ≡ false → line_of bytes ≡ Some (Device blocks block_bytes slots top lifetime) → StandsAt p.stage None → Passed p bytes from m old new
 started p from m bytes blocks block_bytes slots top lifetime made old new is began some e f = started_at p.stage p.head from m bytes blocks block_bytes slots top lifetime made old new is began some e f
@@ -99,7 +99,7 @@ head_made head (Err fault) q k clean = subst (λ (u : Point). Clean u.head) (sym
 
 head_done : (stage : Stage) (p q : Point) (line : Line) → IsDone p stage line q → Clean p.head → Clean q.head
 head_done (Some r) p q line k clean = subst (λ (u : Point). Clean u.head) (sym k.2) clean
-head_done None p q (Device blocks block_bytes slots top lifetime) k clean = head_made p.head (device_of (record { blocks = blocks; block_bytes = block_bytes; slots = slots; top = top; lifetime = lifetime })) q k clean
+head_done None p q (Device blocks block_bytes slots top lifetime) k clean = head_made p.head (device_of (record { blocks = blocks; block_bytes = block_bytes; slots = slots; top = top; lifetime = lifetime; leaf_load = 1 })) q k clean
 head_done None p q (CoreEvent e) k clean = absurd k
 head_done None p q Answer k clean = absurd k
 head_done None p q Drain k clean = absurd k

@@ -139,7 +139,7 @@ Starts head (Err fault) q = q ≡ record { stage = None; head = head ++ shape_te
 abbrev pub IsDone : Point → Stage → Line → Point → Type 0
 IsDone p (Some r) line q = (later : Running) × Obeys r line later × (q ≡ record { stage = Some later; head = p.head })
 IsDone p None (Device blocks block_bytes slots top lifetime) q =
-    Starts p.head (device_of (record { blocks = blocks; block_bytes = block_bytes; slots = slots; top = top; lifetime = lifetime })) q
+    Starts p.head (device_of (record { blocks = blocks; block_bytes = block_bytes; slots = slots; top = top; lifetime = lifetime; leaf_load = 1 })) q
 IsDone p None (CoreEvent e) q = ⊥
 IsDone p None Answer q = ⊥
 IsDone p None Drain q = ⊥

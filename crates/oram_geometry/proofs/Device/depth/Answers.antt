@@ -18,10 +18,11 @@ returns c =
     let m : IsMeasured d i.trees i.blocks i.depths = subst (λ (d : Sizes). IsMeasured d i.trees i.blocks i.depths) c.self.view_is c.self.invariant in
     let e = m.each_depth c.args.tree (omega (arith, trees_of-few d m.ranges, c.requires)) in
     let few = (blocks_in-range d m.ranges c.args.tree).1 in
-    let range = level_for-range (blocks_in d c.args.tree) few in
+    let some = m.ranges.some_load in
+    let range = level_for-range d.leaf_load (blocks_in d c.args.tree) some few in
     record {
       count = e;
-      least = rw e (level_for-least (blocks_in d c.args.tree) few);
+      least = rw e (level_for-least d.leaf_load (blocks_in d c.args.tree) some few);
       enough = rw e range.1;
       range = rw e range.0;
     }
