@@ -9,7 +9,7 @@ use Rattle.std.specs.List.{flat_map}
 use Rattle.std.specs.Int.{w32, to_be_bytes, from_be_bytes}
 use Rattle.oram_geometry.specs.declared.Sizes.{Sizes}
 use Rattle.oram_geometry.specs.Sizes.{IsDevice, blocks_in, depth_of, bucket_len}
-use Rattle.oram_geometry.proofs.DeviceSizes.{blocks_in-range, level_for-range}
+use Rattle.oram_geometry.proofs.DeviceSizes.{blocks_in-range, blocks_in-room, level_for-range}
 use Rattle.oram_bucket.specs.Bytes.{IsBytes}
 use Rattle.oram_bucket.specs.Cell.{Cell}
 use Rattle.oram_bucket.specs.SealedBlocks.{Reads}
@@ -82,10 +82,10 @@ slots-injective len a b (c ∷ xs) (d ∷ ys) x y e =
 
 -- the bounds on the blocks and leaves of a device's trees
 pub record HasFew (d : Sizes) (i : ℕ) : Type 0 where
-  pub blocks : blocks_in d i ≤ 2 ^ 24
+  pub blocks : blocks_in d i ≤ 2 ^ 26
   pub leaves : 2 ^ depth_of d i ≤ 2 ^ 24
 
-pub few_of_depth : (d : Sizes) (i depth : ℕ) → blocks_in d i ≤ 2 ^ 24 → depth ≡ depth_of d i → depth ≤ 24 → HasFew d i
+pub few_of_depth : (d : Sizes) (i depth : ℕ) → blocks_in d i ≤ 2 ^ 26 → depth ≡ depth_of d i → depth ≤ 24 → HasFew d i
 few_of_depth d i depth blocks is shallow = record { blocks = blocks; leaves = ap (λ (n : ℕ). 2 ^ n) (sym is) ∙≤ pow-le-pow_right {n = 2} (omega arith) shallow }
   where
     infixl 10 ◌∙≤◌
@@ -95,7 +95,7 @@ few_of_depth d i depth blocks is shallow = record { blocks = blocks; leaves = ap
 pub few_of_device : (d : Sizes) (i : ℕ) → IsDevice d → HasFew d i
 few_of_device d i of =
     let blocks = (blocks_in-range d of i).1 in
-    few_of_depth d i (depth_of d i) blocks refl (level_for-range d.leaf_load (blocks_in d i) of.some_load blocks).0
+    few_of_depth d i (depth_of d i) blocks refl (level_for-range d.leaf_load (blocks_in d i) (blocks_in-room d of i)).0
 
 pub small_block : (d : Sizes) (i : ℕ) → HasFew d i → (c : Cell) → IsBlockOf d i c → IsSmall d.block_bytes c
 small_block d i few c of = record { number = omega (arith, of.address_in, few.blocks); leaf_in = omega (arith, of.leaf_in, few.leaves); whole = of.whole }

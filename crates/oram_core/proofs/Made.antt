@@ -57,7 +57,7 @@ pub new_sound : {K : Type 0} (v : Scheme) (putting : K → List ℕ → K → Ty
     → s.table ≡ replicate (blocks_in v.device (trees_of v.device - 1)) 0 → s.trees ≡ trees → s.next ≡ 0 → s.nonce ≡ formatted v.device → s.queue ≡ [] → s.entry_number ≡ 0 → s.held_entry ≡ 0 → s.held_data ≡ [] → s.message ≡ [] → s.lost ≡ false → s.failure ≡ None → IsSound v.device v.cipher.overhead s
 new_sound v putting from to trees s device small a table_is trees_is next_is nonce_is queue_is stage_is map_entry_is before_is last_is lost_is alive =
     let d = v.device in
-    let few : trees_of d ≤ 13 = trees_of-few d device in
+    let few : trees_of d ≤ 14 = trees_of-few d device in
     let tree = λ (ts : List Tree) (i : ℕ). slice_index_or ts i no_tree in
     let Named = λ (xs : List ℕ). All (λ e. e ≤ 2 ^ depth_of d (trees_of d - 1)) xs in
     let Kept = λ (ts : List Tree). (i : ℕ) → i < trees_of d → IsTreeKept d i (tree ts i) in

@@ -26,7 +26,7 @@ use Rattle.oram_core.proofs.Sound.{HasOldest, has_oldest, stage_within, fetched_
 -- the number of stages is small
 pub stage_small : (d : Sizes) (o : ℕ) (s : State) → IsSound d o s → s.entry_number < 26
 stage_small d o s h =
-    let few : trees_of d ≤ 13 = trees_of-few d h.ranges in
+    let few : trees_of d ≤ 14 = trees_of-few d h.ranges in
     let within : s.entry_number < 2 * trees_of d = stage_within d o s h in
     omega (arith, few, within)
 

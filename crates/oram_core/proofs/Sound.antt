@@ -520,12 +520,12 @@ buckets_small d (suc n) = let deep : depth_of d n ≤ 24 = depth_small d n in om
 pub nonce_low : (d : Sizes) (o : ℕ) (s : State) → IsSound d o s → s.failure ≡ None → s.nonce < 2 ^ 62
 nonce_low d o s h alive =
     let q = healthy_of d o s h alive in
-    let few : trees_of d ≤ 13 = trees_of-few d h.ranges in
+    let few : trees_of d ≤ 14 = trees_of-few d h.ranges in
     let n : ℕ = s.next - length s.queue in
-    let one : buckets_below d (trees_of d) ≤ 25 * 13 = omega (arith, buckets_small d (trees_of d), few) in
+    let one : buckets_below d (trees_of d) ≤ 25 * 14 = omega (arith, buckets_small d (trees_of d), few) in
     let l : d.lifetime ≤ 2 ^ 40 = h.ranges.few_lifetime in
-    let many : n * buckets_below d (trees_of d) ≤ 2 ^ 40 * (25 * 13) = mul-le-mul (let t = h.next in let low : n ≤ 2 ^ 40 = omega (arith, t, l) in low) one in
-    let f : formatted d ≤ 13 * 2 ^ 25 = let small = formatted_small d (trees_of d) in omega (arith, small, few) in
+    let many : n * buckets_below d (trees_of d) ≤ 2 ^ 40 * (25 * 14) = mul-le-mul (let t = h.next in let low : n ≤ 2 ^ 40 = omega (arith, t, l) in low) one in
+    let f : formatted d ≤ 14 * 2 ^ 25 = let small = formatted_small d (trees_of d) in omega (arith, small, few) in
     let is = q.nonce in
     omega (arith, is, many, f, one)
 

@@ -2,7 +2,7 @@
 use Rattle.std.proofs.Common.{◌≡◌, ℕ, ◌≤◌, ◌%◌, ◌^◌, ◌==◌, ◌&&◌, Bool, true, false, if◌then◌else◌, not, Option, Some, None, refl, arith}
 use Rattle.std.proofs.lemmas.Bool.Decides.{nat_tests}
 use Rattle.oram_geometry.specs.declared.Sizes.{Sizes}
-use Rattle.oram_geometry.specs.Sizes.{IsDevice, is_between, range_fault}
+use Rattle.oram_geometry.specs.Sizes.{IsDevice, is_between, most_blocks, range_fault}
 use Rattle.oram_geometry.specs.declared.ShapeFault.{ShapeFault}
 
 -- the next test, if the one before it found no fault
@@ -22,19 +22,20 @@ equal m n h = grind (arith, nat_tests)
 
 pub in_ranges : (d : Sizes) → range_fault d ≡ None → IsDevice d
 in_ranges d e =
-    let a = passed _ _ _ e in
+    let loads = passed _ _ _ e in
+    let a = passed _ _ _ loads.1 in
     let b = passed _ _ _ a.1 in
     let c = passed _ _ _ b.1 in
     let f = passed _ _ _ c.1 in
     let g = passed _ _ _ f.1 in
     let h = passed _ _ _ g.1 in
     let bytes = both _ _ b.0 in
-    let blocks = between 1 (2 ^ 24) d.blocks a.0 in
+    let blocks = between 1 (most_blocks d.leaf_load) d.blocks a.0 in
     let length = between 16 4096 d.block_bytes bytes.0 in
     let slots = between 1 8 d.slots c.0 in
-    let top = between 1 (2 ^ 24) d.top f.0 in
+    let top = between 1 (most_blocks d.leaf_load) d.top f.0 in
     let lifetime = between 1 (2 ^ 40) d.lifetime g.0 in
-    let load = between 1 8 d.leaf_load h.0 in
+    let load = between 1 8 d.leaf_load loads.0 in
     record {
       some_blocks = blocks.0;
       few_blocks = blocks.1;
@@ -49,4 +50,5 @@ in_ranges d e =
       few_lifetime = lifetime.1;
       some_load = load.0;
       few_load = load.1;
+      room = h.0;
     }

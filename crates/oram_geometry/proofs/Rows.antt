@@ -1,10 +1,10 @@
 -- Sizes of devices, computed.
-use Rattle.std.proofs.Common.{◌≡◌, refl, None, Some}
+use Rattle.std.proofs.Common.{◌≡◌, ℕ, ◌+◌, ◌^◌, refl, None, Some}
 use Rattle.oram_geometry.specs.declared.Sizes.{Sizes}
 use Rattle.oram_geometry.specs.Sizes.{blocks_in, trees_of, depth_of, level_for, address_in, leaf_of, range_fault}
 use Rattle.oram_geometry.specs.Least.{least_from}
 use Rattle.oram_geometry.specs.Path.{node_on}
-use Rattle.oram_geometry.specs.declared.ShapeFault.TheVariants.{BlockBytes, LeafLoad}
+use Rattle.oram_geometry.specs.declared.ShapeFault.TheVariants.{Blocks, BlockBytes, LeafLoad}
 
 -- 64 blocks of 16 bytes, with four entries of the position map in the client's table
 abbrev recursive : Sizes
@@ -48,7 +48,7 @@ one_bucket = (refl, refl)
 no_fault : range_fault small ≡ None
 no_fault = refl
 
-odd_bytes : range_fault (record { blocks = 8; block_bytes = 18; slots = 0; top = 0; lifetime = 0; leaf_load = 0 }) ≡ Some BlockBytes
+odd_bytes : range_fault (record { blocks = 8; block_bytes = 18; slots = 0; top = 0; lifetime = 0; leaf_load = 1 }) ≡ Some BlockBytes
 odd_bytes = refl
 
 -- up to four blocks for each leaf: two levels fewer, and no tree has fewer levels than one
@@ -64,5 +64,26 @@ three_each : depth_of (record recursive { leaf_load = 3 }) 0 ≡ 5
 unfolding level_for least_from blocks_in
 three_each = refl
 
-no_load : (range_fault (record small { leaf_load = 0 }) ≡ Some LeafLoad) × (range_fault (record small { leaf_load = 9 }) ≡ Some LeafLoad) × (range_fault (record small { leaf_load = 8 }) ≡ None)
-no_load = (refl, refl, refl)
+no_load : (range_fault (record small { leaf_load = 0 }) ≡ Some LeafLoad) × (range_fault (record small { leaf_load = 9 }) ≡ Some LeafLoad)
+no_load = (refl, refl)
+
+-- four slots have room for five blocks to a leaf, and eight for eight; fewer than four have room for one
+loads_of_four : (range_fault (record small { leaf_load = 5 }) ≡ None) × (range_fault (record small { leaf_load = 6 }) ≡ Some LeafLoad)
+loads_of_four = (refl, refl)
+
+loads_of_others : (range_fault (record small { slots = 8; leaf_load = 8 }) ≡ None) × (range_fault (record small { slots = 3; leaf_load = 2 }) ≡ Some LeafLoad) × (range_fault (record small { slots = 1 }) ≡ None)
+loads_of_others = (refl, refl, refl)
+
+-- a disk of 256 GiB in blocks of 4 KiB has 2 ^ 26 of them, and takes a load of four or more
+abbrev large : ℕ → Sizes
+large load = record { blocks = 2 ^ 26; block_bytes = 4096; slots = 4; top = 2 ^ 26; lifetime = 100; leaf_load = load }
+
+large_loads : (range_fault (large 3) ≡ Some Blocks) × (range_fault (large 4) ≡ None) × (range_fault (large 5) ≡ None)
+large_loads = (refl, refl, refl)
+
+one_more_block : range_fault (record (large 5) { blocks = 2 ^ 26 + 1 }) ≡ Some Blocks
+one_more_block = refl
+
+large_depths : (depth_of (large 4) 0 ≡ 24) × (depth_of (large 5) 0 ≡ 24)
+unfolding level_for least_from blocks_in
+large_depths = (refl, refl)

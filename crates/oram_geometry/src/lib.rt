@@ -21,22 +21,23 @@ use counts::{block_counts, depths_for, shape_fault, tree_count};
 use std::marker::Model;
 
 /// The greatest number of trees that a device can have.
-pub const MOST_TREES: usize = 13;
+pub const MOST_TREES: usize = 14;
 
 /// The six numbers that define a device.
 #[derive(Clone, Copy, Debug, PartialEq, Eq)]
 pub struct Sizes {
-    /// Blocks of the device, from 1 to 2^24.
+    /// Blocks of the device, from 1 to 2^24 for each block of the leaf load, and never more than 2^26.
     pub blocks: u64,
     /// Bytes of a block, a multiple of 4 from 16 to 4,096.
     pub block_bytes: u64,
     /// Slots of a bucket, from 1 to 8.
     pub slots: u64,
-    /// The greatest number of entries of the client's table, from 1 to 2^24.
+    /// The greatest number of entries of the client's table, from 1 to the greatest number of blocks.
     pub top: u64,
     /// The greatest number of accepted commands, from 1 to 2^40.
     pub lifetime: u64,
-    /// The greatest number of blocks of a tree for each of its leaves, from 1 to 8.
+    /// The greatest number of blocks of a tree for each of its leaves, from 1 to 8. From 2 on, a bucket has four slots or more, and
+    /// five of them for each four blocks of the load: otherwise a tree has too little room, and the stash grows.
     pub leaf_load: u64,
 }
 
@@ -149,11 +150,11 @@ impl Device {
         }
     }
 
-    /// Returns the number of trees, from 1 to 13.
+    /// Returns the number of trees, from 1 to 14.
     pub fn trees(&self) -> u8
         ensures count { result ≡ trees_of self.now }
         ensures least { IsLeastFrom (fits_table self.now) 1 result }
-        ensures few { result ≤ 13 }
+        ensures few { result ≤ 14 }
         ensures ranges { IsDevice self.now }
     {
         self.trees
@@ -178,7 +179,7 @@ impl Device {
     /// Returns the greatest number of entries of the client's table.
     pub fn top(&self) -> u64
         ensures value { result ≡ self.now.top }
-        ensures range { (1 ≤ result) × (result ≤ 2 ^ 24) }
+        ensures range { (1 ≤ result) × (result ≤ 2 ^ 26) }
     {
         self.sizes.top
     }
@@ -212,7 +213,7 @@ impl Device {
         requires { tree < trees_of self.now }
         ensures count { result ≡ blocks_in self.now tree }
         ensures first { tree ≡ 0 → result ≡ self.now.blocks }
-        ensures range { (1 ≤ result) × (result ≤ 2 ^ 24) }
+        ensures range { (1 ≤ result) × (result ≤ 2 ^ 26) }
     {
         self.blocks[tree as usize]
     }

@@ -17,7 +17,7 @@ least_high p at (suc fuel) = elim (p at) as (λ b. cond b at (least_from p (at +
 
 pub some_trees : (d : Sizes) → 0 < trees_of d
 unfolding trees_of
-some_trees d = omega (arith, least_low (λ h. nat_le (blocks_in d (h - 1)) d.top) 1 12)
+some_trees d = omega (arith, least_low (λ h. nat_le (blocks_in d (h - 1)) d.top) 1 13)
 
 -- no tree is deeper than 24
 pub depth_small : (d : Sizes) (i : ℕ) → depth_of d i ≤ 24

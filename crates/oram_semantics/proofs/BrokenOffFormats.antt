@@ -33,7 +33,7 @@ tree_made : (v : Scheme) (i : ℕ) → IsDevice v.device → IsCipher v.cipher �
 tree_made v i device law below =
     let d = v.device in
     let nonce : ℕ = formatted_below d i in
-    let few : trees_of d ≤ 13 = trees_of-few d device in
+    let few : trees_of d ≤ 14 = trees_of-few d device in
     let fits : nonce + node_count (depth_of d i) ≤ 2 ^ 64 =
     omega (arith, formatted_small d i, node_count-small (depth_of d i) (depth_small d i)) in
     let bodies = puts (λ n. v.cipher.sealing n (spelling d [])) i (depth_of d i) nonce 0 in

@@ -5,7 +5,8 @@ use Rattle.std.proofs.lemmas.Bool.{le-leb, eqb-true}
 use Rattle.std.specs.Int.{w16, w32, w64}
 use Rattle.oram_geometry.specs.declared.Sizes.{Sizes}
 use Rattle.oram_geometry.specs.declared.ShapeFault.{ShapeFault}
-use Rattle.oram_geometry.specs.Sizes.{IsDevice, device_of, device_unless, range_fault}
+use Rattle.oram_geometry.specs.Sizes.{IsDevice, device_of, device_unless, most_blocks, range_fault}
+use Rattle.oram_geometry.proofs.DeviceSizes.{most_blocks-range}
 use Rattle.oram_geometry.proofs.Ranges.{in_ranges}
 use Rattle.oram_state.specs.declared.fault.StateFault.TheVariants.{Content}
 use Rattle.oram_state.specs.declared.mode.Mode.{Mode}
@@ -28,18 +29,19 @@ known_takes s = known_by s (range_fault s) refl
 known_again : (d : Sizes) → IsDevice d → known (device_of d) ≡ Ok d
 known_again d h =
     let a = le-leb 1 d.blocks h.some_blocks in
-    let b = le-leb d.blocks (2 ^ 24) h.few_blocks in
+    let b = le-leb d.blocks (most_blocks d.leaf_load) h.few_blocks in
     let p = le-leb 16 d.block_bytes h.some_bytes in
     let q = le-leb d.block_bytes 4096 h.few_bytes in
     let r = le-leb 1 d.slots h.some_slots in
     let s = le-leb d.slots 8 h.few_slots in
     let t = le-leb 1 d.top h.some_top in
-    let u = le-leb d.top (2 ^ 24) h.few_top in
+    let u = le-leb d.top (most_blocks d.leaf_load) h.few_top in
     let v = le-leb 1 d.lifetime h.some_lifetime in
     let w = le-leb d.lifetime (2 ^ 40) h.few_lifetime in
     let x = le-leb 1 d.leaf_load h.some_load in
     let y = le-leb d.leaf_load 8 h.few_load in
-    rw (a, b, p, q, h.whole_words, r, s, t, u, v, w, x, y) refl
+    let z = h.room in
+    rw (a, b, p, q, h.whole_words, r, s, t, u, v, w, x, y, z) refl
 
 -- a device, with its leaf load as it is read back
 load_again : (d : Sizes) → IsDevice d → known (device_of (record d { leaf_load = d.leaf_load - 1 + 1 })) ≡ Ok d
@@ -67,11 +69,11 @@ unfolding next_device
 device_again d rest h =
     let regrouped : device_text d ++ rest ≡ short d.blocks ++ (short d.block_bytes ++ (half (d.leaf_load - 1) ++ (half d.slots ++ (short d.top ++ (long d.lifetime ++ rest))))) = simp append_assoc in
     ap next_device regrouped
-    ∙ goes _ _ _ _ (short_again d.blocks _ (omega (arith, h.few_blocks)))
+    ∙ goes _ _ _ _ (short_again d.blocks _ (omega (arith, h.few_blocks, (most_blocks-range d.leaf_load).1)))
     (goes _ _ _ _ (short_again d.block_bytes _ (omega (arith, h.few_bytes)))
     (goes _ _ _ _ (half_again (d.leaf_load - 1) _ (omega (arith, h.few_load)))
     (goes _ _ _ _ (half_again d.slots _ (omega (arith, h.few_slots)))
-    (goes _ _ _ _ (short_again d.top _ (omega (arith, h.few_top)))
+    (goes _ _ _ _ (short_again d.top _ (omega (arith, h.few_top, (most_blocks-range d.leaf_load).1)))
     (goes _ _ _ _ (long_again d.lifetime rest (omega (arith, h.few_lifetime)))
     (goes _ _ _ _ (load_again d h) refl))))))
 

@@ -237,7 +237,7 @@ middle_all P [] (y ∷ ys) zs all = All-cons P y ys (All-head P y (ys ++ zs) all
 middle_all P (x ∷ xs) ys zs all = middle_all P xs ys zs (All-tail P x (xs ++ (ys ++ zs)) all)
 
 -- the numbers of blocks and bytes are small
-module _ (b blocks : ℕ) (some : 0 < b) (few : blocks ≤ 2 ^ 24) (bound : b * blocks < 2 ^ 63) where
+module _ (b blocks : ℕ) (some : 0 < b) (few : blocks ≤ 2 ^ 26) (bound : b * blocks < 2 ^ 63) where
   pub all_bound : (ops : List Operation) → All (IsWithin (b * blocks)) ops → All (λ (op : Operation). place_of op + len_of op < 2 ^ 63) ops
   all_bound [] within = All-nil (λ (op : Operation). place_of op + len_of op < 2 ^ 63)
   all_bound (op ∷ ops) within =

@@ -151,7 +151,7 @@ impl<S: Sealer, B: BatchLink, K: Keeper, T: Tape> Volume<S, B, K, T> {
     /// Returns the number of blocks of the disk.
     fn blocks_in_all(&self) -> u32
         ensures value { result ≡ self.now.core.device.blocks }
-        ensures bound { result ≤ 2 ^ 24 }
+        ensures bound { result ≤ 2 ^ 26 }
         ensures size { self.now.core.device.block_bytes * self.now.core.device.blocks < 2 ^ 63 }
         ensures block { (16 ≤ self.now.core.device.block_bytes) × (self.now.core.device.block_bytes ≤ 4096) }
     {

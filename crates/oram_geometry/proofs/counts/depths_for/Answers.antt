@@ -1,13 +1,13 @@
 use Rattle.std.proofs.Common.{◌≡◌, ◌≢◌, ◌<◌, length, ap, ◌∙◌, arith, below_more, get_or-set_other, get_or-set_same}
 use Rattle.std.proofs.Math.ListN.{length-set}
 use Rattle.oram_geometry.specs.Sizes.{depth_of, level_for}
-use Rattle.oram_geometry.proofs.DeviceSizes.{blocks_in-range}
+use Rattle.oram_geometry.proofs.DeviceSizes.{blocks_in-room}
 use Rattle.oram_geometry.proofs.counts.depths_for.Goals as goal
 
 pub depth_for-requires-clause-blocks : goal.depth_for-requires-clause-blocks
 depth_for-requires-clause-blocks c =
     let e = c.requires.counts c.loop-tree.tree (omega arith) in
-    rw e (blocks_in-range c.args.sizes.now c.requires.ranges c.loop-tree.tree).1
+    rw e (blocks_in-room c.args.sizes.now c.requires.ranges c.loop-tree.tree)
 
 pub loop-tree-preserved : goal.loop-tree-preserved
 loop-tree-preserved c =

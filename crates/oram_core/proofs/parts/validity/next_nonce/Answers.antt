@@ -10,23 +10,23 @@ use Rattle.oram_core.proofs.parts.validity.next_nonce.Goals as goal
 pub overflow_mul-result : goal.overflow_mul-result
 overflow_mul-result c =
     let d = c.args.device.now in
-    let path : c.path_buckets.result ≤ 25 * 13 = omega (arith, c.path_buckets.ensures, buckets_small d (trees_of d), c.trees.ensures.few, c.trees.ensures.count) in
-    let many : c.args.answered * c.path_buckets.result ≤ 2 ^ 40 * (25 * 13) = mul-le-mul c.requires.answered path in
+    let path : c.path_buckets.result ≤ 25 * 14 = omega (arith, c.path_buckets.ensures, buckets_small d (trees_of d), c.trees.ensures.few, c.trees.ensures.count) in
+    let many : c.args.answered * c.path_buckets.result ≤ 2 ^ 40 * (25 * 14) = mul-le-mul c.requires.answered path in
     omega (arith, many)
 
 pub overflow_add-result : goal.overflow_add-result
 overflow_add-result c =
     let d = c.args.device.now in
-    let path : c.path_buckets.result ≤ 25 * 13 = omega (arith, c.path_buckets.ensures, buckets_small d (trees_of d), c.trees.ensures.few, c.trees.ensures.count) in
-    let many : c.args.answered * c.path_buckets.result ≤ 2 ^ 40 * (25 * 13) = mul-le-mul c.requires.answered path in
+    let path : c.path_buckets.result ≤ 25 * 14 = omega (arith, c.path_buckets.ensures, buckets_small d (trees_of d), c.trees.ensures.few, c.trees.ensures.count) in
+    let many : c.args.answered * c.path_buckets.result ≤ 2 ^ 40 * (25 * 14) = mul-le-mul c.requires.answered path in
     omega (arith, many, c.formatted.ensures, formatted_small d (trees_of d), c.trees.ensures.few, c.trees.ensures.count)
 
 pub overflow_add-result-2 : goal.overflow_add-result-2
 overflow_add-result-2 c =
     let d = c.args.device.now in
-    let path : c.path_buckets.result ≤ 25 * 13 = omega (arith, c.path_buckets.ensures, buckets_small d (trees_of d), c.trees.ensures.few, c.trees.ensures.count) in
-    let rest : c.path_buckets-2.result ≤ 25 * 13 = omega (arith, c.path_buckets-2.ensures, buckets_small d (trees_of d), c.trees.ensures.few, c.trees.ensures.count) in
-    let many : c.args.answered * c.path_buckets.result ≤ 2 ^ 40 * (25 * 13) = mul-le-mul c.requires.answered path in
+    let path : c.path_buckets.result ≤ 25 * 14 = omega (arith, c.path_buckets.ensures, buckets_small d (trees_of d), c.trees.ensures.few, c.trees.ensures.count) in
+    let rest : c.path_buckets-2.result ≤ 25 * 14 = omega (arith, c.path_buckets-2.ensures, buckets_small d (trees_of d), c.trees.ensures.few, c.trees.ensures.count) in
+    let many : c.args.answered * c.path_buckets.result ≤ 2 ^ 40 * (25 * 14) = mul-le-mul c.requires.answered path in
     omega (arith, many, rest, c.formatted.ensures, formatted_small d (trees_of d), c.trees.ensures.few, c.trees.ensures.count)
 
 pub returns : goal.returns

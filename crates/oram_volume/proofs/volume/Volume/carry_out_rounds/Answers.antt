@@ -64,7 +64,7 @@ pub next_round-requires-clause-bound : goal.next_round-requires-clause-bound
 next_round-requires-clause-bound g c =
     let d = c.args.self.now.core.device in
     let some : 0 < d.block_bytes = omega (arith, c.blocks_in_all-blocks.ensures.block.0) in
-    let few : d.blocks ≤ 2 ^ 24 = omega (arith, c.blocks_in_all-blocks.ensures.bound, c.blocks_in_all-blocks.ensures.value) in
+    let few : d.blocks ≤ 2 ^ 26 = omega (arith, c.blocks_in_all-blocks.ensures.bound, c.blocks_in_all-blocks.ensures.value) in
     all_bound d.block_bytes d.blocks some few c.blocks_in_all-blocks.ensures.size c.args.operations.now c.requires.within
 
 pub next_round-requires-clause-numbers : goal.next_round-requires-clause-numbers
@@ -72,7 +72,7 @@ next_round-requires-clause-numbers g c =
     let d = c.args.self.now.core.device in
     let same : c.block_bytes-block.result ≡ d.block_bytes = search rules in
     let some : 0 < d.block_bytes = omega (arith, c.blocks_in_all-blocks.ensures.block.0) in
-    let few : d.blocks ≤ 2 ^ 24 = omega (arith, c.blocks_in_all-blocks.ensures.bound, c.blocks_in_all-blocks.ensures.value) in
+    let few : d.blocks ≤ 2 ^ 26 = omega (arith, c.blocks_in_all-blocks.ensures.bound, c.blocks_in_all-blocks.ensures.value) in
     subst (λ (n : ℕ). All (λ op. place_of op / n + len_of op / n < 2 ^ 32) c.args.operations.now) (sym same)
     (all_numbers d.block_bytes d.blocks some few c.blocks_in_all-blocks.ensures.size c.args.operations.now c.requires.whole c.requires.within)
 
