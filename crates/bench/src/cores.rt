@@ -22,8 +22,8 @@ use std::time::{Duration, Instant};
 
 const ACCESSES: u32 = 2_000;
 
-/// More messages than an access has: a fetch and a store for each of at most 13 trees.
-const MOST_MESSAGES: u32 = 27;
+/// More messages than an access has: a fetch and a store for each of at most 14 trees.
+const MOST_MESSAGES: u32 = 29;
 
 const FETCH: u8 = 1;
 

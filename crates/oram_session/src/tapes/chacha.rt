@@ -11,7 +11,7 @@ use std::fmt;
 #[derive(Clone, Copy)]
 pub struct ChaChaTape {
     pub key: [u8; 32],
-    /// The number of trees of the device, from 1 to 13.
+    /// The number of trees of the device, from 1 to 14.
     pub trees: u8,
 }
 
