@@ -24,7 +24,7 @@ use Rattle.oram_core.proofs.Small.{map_entry_none}
 use Rattle.oram_core.proofs.Sound.{HasOldest, has_oldest, stage_within, fetched_as, finished_as, stored_as}
 
 -- the number of stages is small
-pub stage_small : (d : Sizes) (o : ℕ) (s : State) → IsSound d o s → s.entry_number < 26
+pub stage_small : (d : Sizes) (o : ℕ) (s : State) → IsSound d o s → s.entry_number < 28
 stage_small d o s h =
     let few : trees_of d ≤ 14 = trees_of-few d h.ranges in
     let within : s.entry_number < 2 * trees_of d = stage_within d o s h in

@@ -15,7 +15,7 @@ use Rattle.oram_core.proofs.Judged.{access_used, unreadable_used, readable_now, 
 use Rattle.oram_core.proofs.LocalRule.{Waits, waits}
 use Rattle.oram_core.proofs.AnswerVerdicts.{lends, gives_back, lent_within}
 use Rattle.oram_core.proofs.Accesses.{access_moves, ready_tree}
-use Rattle.oram_hash.specs.Path.{Path, with_bytes}
+use Rattle.oram_hash.specs.Path.{Path, path_of, with_bytes}
 use Rattle.oram_bucket.specs.Cell.{Cell}
 use Rattle.oram_bucket.specs.SealedBlocks.{Reads}
 use Rattle.oram_hash.specs.Tree.{IsPathOf}
@@ -340,3 +340,9 @@ fail-requires-clause-replies g c = c.fail-replies.ensures
 
 pub fail-requires-clause-reason : goal.fail-requires-clause-reason
 fail-requires-clause-reason g c = (subst (λ (u : CoreValue g.row.S.Denot). c.path_access-path_access.result.tree < trees_of u.device) (sym c.self.view_is) c.path_access-path_access.ensures.ranges.0, from_root _)
+
+pub access_to-looked-requires-clause-path : goal.access_to-looked-requires-clause-path
+access_to-looked-requires-clause-path g c =
+    let h = lends g.S.Sealer.cipher _ c.args.self.now c.index_mut.result.now c.from.result c.path_access-path_access.result.tree c.self.view_is c.self.invariant c.requires.waiting c.from.ensures c.path_access-path_access.ensures.tree c.index_mut.ensures.value in
+    subst (λ (u : CoreValue g.row.S.Denot). c.args.path.now ≡ path_of u.device c.index_mut.result.now.number c.path_access-path_access.result.leaf (g.S.Sealer.cipher u.sealer).overhead c.args.path.now.bytes) (sym c.self.view_is)
+    (rw (h.number, c.path_access-path_access.ensures.tree, c.path_access-path_access.ensures.leaf) c.requires.path)
