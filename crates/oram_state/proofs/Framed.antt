@@ -14,7 +14,7 @@ use Rattle.oram_semantics.specs.declared.events.Reason.{Reason}
 use Rattle.oram_core.specs.Parts.{Parts}
 use Rattle.oram_core.specs.declared.parts.Pending.{Pending}
 use Rattle.oram_state.specs.declared.fault.StateFault.{StateFault}
-use Rattle.oram_state.specs.declared.fault.StateFault.TheVariants.{Magic, Version, Length, Digest}
+use Rattle.oram_state.specs.declared.fault.StateFault.TheVariants.{Magic, Version, Length, Digest, Content}
 use Rattle.oram_state.specs.declared.saved.Saved.{Saved}
 use Rattle.oram_state.specs.StateBytes.{Work, short, long, body, with_digest, fields_text, mode_by, mode_of, work_of}
 use Rattle.oram_state.specs.WellSized.{AreFieldsOf, IsWellSized, IsWorkBy, HasFile, IsFileOf}
@@ -157,13 +157,16 @@ known_file version p (inr e) = inr e
 pub state_takes : (text : List ℕ) → IsBytes text → IfOk (state_in text) (λ s. (version : ℕ) × IsFileOf text version s.overhead s.parts)
 unfolding state_in
 state_takes text h =
-    then_ok _ _ (fields_in text) _ (fields_takes text h) (λ a pa. last a.0 a.1 (saved_in a.0 a.1) pa.0 pa.1 (all_takes a.0 a.1 pa.2))
-  where
-    last : (version : ℕ) (fields : List ℕ) (r : Result Saved StateFault) → text ≡ with_digest (body version fields) → IsKnown version
-        → IfOk r (λ s. (fields ≡ fields_text s.overhead s.parts) × MayTell version s) → IfOk r (λ s. (version : ℕ) × IsFileOf text version s.overhead s.parts)
-    last version fields (Ok s) e is_known p =
-        (version, record { version_known = has_file version s.parts is_known p.1.0 p.1.2; overhead_fits = p.1.1; sized = p.1.2; spelled = e ∙ ap (λ (x : List ℕ). with_digest (body version x)) p.0 })
-    last version fields (Err why) e is_known p = tt
+    then_ok _ _ (fields_in text) _ (fields_takes text h) (λ a pa.
+    then_ok _ _ (saved_in a.0 a.1) _ (all_takes a.0 a.1 pa.2) (λ s ps.
+    then_ok _ _ (unless Content (s.parts.device.leaf_load == 1)) _ (unless_ok Content (s.parts.device.leaf_load == 1)) (λ _ one.
+    (a.0, record {
+      version_known = has_file a.0 s.parts pa.1 ps.1.0 ps.1.2;
+      load = eqb-true s.parts.device.leaf_load 1 one;
+      overhead_fits = ps.1.1;
+      sized = ps.1.2;
+      spelled = pa.0 ∙ ap (λ (x : List ℕ). with_digest (body a.0 x)) ps.0;
+    }))))
 
 -- and the file of parts is read as these parts
 pub state_again : (text : List ℕ) (version overhead : ℕ) (p : Parts) → length text < 2 ^ 64 → IsFileOf text version overhead p → state_in text ≡ Ok (record { overhead = overhead; parts = p })
@@ -173,7 +176,8 @@ state_again text version overhead p fits h =
     let fields = fields_text overhead p in
     ap state_in h.spelled
     ∙ goes _ _ _ _ (fields_again version fields (known_file version p h.version_known) (subst (λ (x : List ℕ). length x < 2 ^ 64) h.spelled fits))
-    (all_again version s (is_mode version p.failure p.waiting p.stalled h.version_known, h.overhead_fits, h.sized))
+    (goes _ _ _ _ (all_again version s (is_mode version p.failure p.waiting p.stalled h.version_known, h.overhead_fits, h.sized))
+    (passes Content _ _ _ (ap (λ (n : ℕ). n == 1) h.load) refl))
 
 pub found : (text : List ℕ) (r : Result Saved StateFault) → IsBytes text → Gives (λ s. s) r (state_in text) → IfOk r (λ s. (version : ℕ) × IsFileOf text version s.overhead s.parts)
 found text (Ok s) h e = subst (λ (x : Result Saved StateFault). IfOk x (λ s. (version : ℕ) × IsFileOf text version s.overhead s.parts)) e (state_takes text h)

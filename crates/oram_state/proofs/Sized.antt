@@ -168,13 +168,13 @@ well_sized o p are fit =
 
 -- ---- the core that a file belongs to
 
-pub saved_as : (text : List ℕ) (o n : ℕ) (p : Parts) (d : Sizes) (s : State) → n ≡ o → p ≡ parts_of d s → state_of p ≡ s → AreParts o p → text ≡ state_file 2 n p → FitsFields p → IsSaved text o d s
-saved_as text o n p d s overhead_is same again are spelled fit =
+pub saved_as : (text : List ℕ) (o n : ℕ) (p : Parts) (d : Sizes) (s : State) → n ≡ o → p ≡ parts_of d s → state_of p ≡ s → AreParts o p → text ≡ state_file 2 n p → FitsFields p → d.leaf_load ≡ 1 → IsSaved text o d s
+saved_as text o n p d s overhead_is same again are spelled fit one =
     let small = are.sound.small in
     record {
       version = 2;
       parts = p;
-      file = record { version_known = inr refl; overhead_fits = omega (arith, small); sized = well_sized o p are fit; spelled = spelled ∙ ap (λ (k : ℕ). state_file 2 k p) overhead_is };
+      file = record { version_known = inr refl; load = ap (λ (q : Parts). q.device.leaf_load) same ∙ one; overhead_fits = omega (arith, small); sized = well_sized o p are fit; spelled = spelled ∙ ap (λ (k : ℕ). state_file 2 k p) overhead_is };
       fits = are;
       device = ap (λ (q : Parts). q.device) (sym same);
       state = sym again;

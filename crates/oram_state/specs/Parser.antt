@@ -257,8 +257,10 @@ fields_in text = do
   _ ← unless Digest (ends_with_digest text)
   Ok (version, slice_range text 20 (length text - 32))
 
--- the content of a file, or its first fault
+-- the content of a file, or its first fault; a file has a device with a leaf load of 1
 unfoldable pub state_in : List ℕ → Result Saved StateFault
 state_in text = do
   fields ← fields_in text
-  saved_in fields.0 fields.1
+  saved ← saved_in fields.0 fields.1
+  _ ← unless Content (saved.parts.device.leaf_load == 1)
+  Ok saved

@@ -108,14 +108,15 @@ pub record FitsFields (p : Parts) : Type 0 where
 abbrev pub HasFile : ℕ → Parts → Type 0
 HasFile version p = ((version ≡ 1) × (p.waiting ≡ [])) ⊎ (version ≡ 2)
 
--- the text is the file of these parts in this version, under this overhead
+-- the text is the file of these parts in this version, under this overhead; only devices with a leaf load of 1 have files
 pub record IsFileOf (text : List ℕ) (version overhead : ℕ) (p : Parts) : Type 0 where
   pub version_known : HasFile version p
+  pub load : p.device.leaf_load ≡ 1
   pub overhead_fits : IsShort overhead
   pub sized : IsWellSized p
   pub spelled : text ≡ state_file version overhead p
 
--- the text is the fields of these parts in the second version, under this overhead
+-- the text is the fields of these parts in the second version, under this overhead; the leaf load may be any that a device has
 pub record AreFieldsOf (text : List ℕ) (overhead : ℕ) (p : Parts) : Type 0 where
   pub overhead_fits : IsShort overhead
   pub sized : IsWellSized p

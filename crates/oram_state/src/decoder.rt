@@ -16,7 +16,7 @@ use std::alloc::Global;
 /// which exist only for idle and failed cores.
 ///
 /// Fails with the first fault of the file, and with `Content` if the file has another overhead than the sealer, or parts
-/// that can't be a core's.
+/// that can't be a core's, or a device with more than one block to a leaf.
 pub fn decode_state<S: Sealer>(alloc: Global, sealer: S, file: &[u8]) -> Result<Core<S>, StateFault>
     ensures sealer { IfOk result (λ c. c.sealer ≡ sealer) }
     ensures core { IfOk result (λ c. IsSaved file.now (S.cipher sealer).overhead c.device c.state) }
@@ -35,7 +35,7 @@ pub fn decode_state<S: Sealer>(alloc: Global, sealer: S, file: &[u8]) -> Result<
 }
 
 /// Makes the core whose fields these are, as [`encode_fields`](crate::encode_fields) returns them, under the sealer that it
-/// was saved with.
+/// was saved with. A device may have any leaf load.
 ///
 /// Fails with `Content` if the fields have another overhead than the sealer, or parts that can't be a core's, and with
 /// `OutOfMemory` if memory runs out.

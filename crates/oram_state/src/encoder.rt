@@ -12,9 +12,12 @@ use std::alloc::{AllocError, Global};
 
 /// Returns the file of a core, whether idle, at work, stalled or failed, in the second version. Fails only if memory
 /// runs out.
+///
+/// A device with more than one block to a leaf has no file, only fields: `decode_state` refuses the text that this returns
+/// for it.
 pub fn encode_state<S: Sealer>(alloc: Global, core: &Core<S>) -> Result<Vec<u8>, AllocError>
     // A file belongs to only one core, so reading it gives this core again.
-    ensures saved { IfOk result (λ file.
+    ensures saved { core.now.device.leaf_load ≡ 1 → IfOk result (λ file.
         IsSaved file.items (S.cipher core.now.sealer).overhead core.now.device core.now.state) }
     ensures spelled { IfOk result (λ file. file.items
         ≡ state_file 2 (S.cipher core.now.sealer).overhead (parts_of core.now.device core.now.state)) }

@@ -82,13 +82,17 @@ fn read_fields(alloc: Global, bytes: &[u8], version: u32) -> Result<Saved, State
     Ok(saved)
 }
 
-/// Reads a file: its frame and then its fields.
+/// Reads a file: its frame and then its fields. No file has a device with more than one block to a leaf.
 #[tactic(auto, unfolding(crate::specs::Parser::state_in))]
 fn read_file(alloc: Global, file: &[u8]) -> Result<Saved, StateFault>
     ensures { Gives (λ saved. saved) result (state_in file.now) }
 {
     let (version, fields) = open(file)?;
-    read_fields(alloc, fields, version)
+    let saved = read_fields(alloc, fields, version)?;
+    if saved.parts.device.leaf_load() != 1 {
+        return Err(StateFault::Content);
+    }
+    Ok(saved)
 }
 
 /// Reads a file of either version.
