@@ -58,6 +58,7 @@ pub fn disk_in<R: Files + AllocGlobal>(
         settings.size,
         settings.block,
         settings.slots,
+        settings.leaf_load,
         settings.table,
     ) {
         Some(device) => Ok((settings, device)),

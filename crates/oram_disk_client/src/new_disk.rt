@@ -6,8 +6,8 @@ ghost use Rattle.std.specs.Prelude.{◌≡◌, ◌≤◌, ◌<◌, ◌+◌, ◌*
 use oram_cli::{FileFault, call_fault, file_fault, folder_of, sync_folder};
 use oram_disk_host::{FIRST_SETTINGS, Fault, FaultKind};
 use oram_settings::{
-    DEFAULT_BLOCK, DEFAULT_SLOTS, DEFAULT_TABLE, Sealing, device_of, disk_text, made_text,
-    read_size, stored_bytes,
+    DEFAULT_BLOCK, DEFAULT_LEAF_LOAD, DEFAULT_SLOTS, DEFAULT_TABLE, Sealing, device_of, disk_text,
+    made_text, read_size, stored_bytes,
 };
 use std::alloc::AllocError;
 use std::fs::{DirBuilder, OpenFile, OpenOptions};
@@ -106,7 +106,13 @@ fn first_disk<R: RandomSource + AllocGlobal>(rt: &R, size: &str) -> Result<First
         return Err(Fault::Size);
     };
     let size = whole_size(size);
-    let Some(device) = device_of(size, DEFAULT_BLOCK, DEFAULT_SLOTS, DEFAULT_TABLE) else {
+    let Some(device) = device_of(
+        size,
+        DEFAULT_BLOCK,
+        DEFAULT_SLOTS,
+        DEFAULT_LEAF_LOAD,
+        DEFAULT_TABLE,
+    ) else {
         return Err(Fault::Size);
     };
     let mut key = [0; 32];

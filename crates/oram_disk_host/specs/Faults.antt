@@ -14,7 +14,7 @@ use Rattle.oram_disk_host.specs.declared.faults.Fault.TheVariants.{About, Size, 
 -- what happened and to what, and what to do
 abbrev pub line_of : Fault → List ℕ
 line_of (About kind name) = of_kind.front kind ++ string_bytes name ++ of_kind.rest kind
-line_of Size = codes "oramdisk: " ++ codes "no disk has this size" ++ codes ": name one up to 64GiB, as 1GiB or 512MiB\n"
+line_of Size = codes "oramdisk: " ++ codes "no disk has this size" ++ codes ": name one up to 256GiB, as 1GiB or 512MiB\n"
 line_of OutOfMemory = codes "oramdisk: " ++ codes "out of memory" ++ codes "\n"
 line_of Accept = codes "oramdisk: " ++ codes "can't accept connections" ++ codes ": start it again\n"
 line_of Random = codes "oramdisk: " ++ codes "the system gives no random bytes" ++ codes ": start it again\n"

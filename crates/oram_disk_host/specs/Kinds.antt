@@ -14,6 +14,7 @@ abbrev pub changed : FixedKey → List ℕ
 changed fixed.Size = codes "oramdisk: size in "
 changed fixed.Block = codes "oramdisk: block in "
 changed fixed.Slots = codes "oramdisk: slots in "
+changed fixed.LeafLoad = codes "oramdisk: leaf_load in "
 changed fixed.Table = codes "oramdisk: table in "
 changed fixed.Sealer = codes "oramdisk: sealer in "
 
@@ -83,6 +84,8 @@ rest NotADisk = codes " isn't the state of a disk, and is left as it is: see tha
 rest OlderState = codes " is the state of a disk of an older version, and is left as it is: serve it with that version, and copy what is in it to a new disk\n"
 rest ReplacedState = codes " is an older state of its disk, and nothing was stored by it: put the newest one back; if a loss of power with sync = false took that one, the disk is lost\n"
 rest WrongKey = codes " isn't this disk's: put the one back that it was formatted with\n"
+rest (Changed fixed.LeafLoad) =
+    codes " isn't what it was when the disk was formatted: put it back, or set leaf_load = 1 if an older version, which had no such setting, formatted the disk\n"
 rest (Changed key) = codes " isn't what it was when the disk was formatted: put it back\n"
 rest (Host why) = host_rest why
 rest StateNotKept = codes ": see that its folder may be written and has room, and start again\n"

@@ -78,7 +78,7 @@ impl Fault {
             Fault::Size => (
                 "oramdisk: ",
                 "no disk has this size",
-                ": name one up to 64GiB, as 1GiB or 512MiB\n",
+                ": name one up to 256GiB, as 1GiB or 512MiB\n",
             ),
             Fault::OutOfMemory => ("oramdisk: ", "out of memory", "\n"),
             Fault::Accept => (

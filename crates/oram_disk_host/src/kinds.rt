@@ -78,6 +78,7 @@ fn changed(key: FixedKey) -> &'static str
         FixedKey::Size => "oramdisk: size in ",
         FixedKey::Block => "oramdisk: block in ",
         FixedKey::Slots => "oramdisk: slots in ",
+        FixedKey::LeafLoad => "oramdisk: leaf_load in ",
         FixedKey::Table => "oramdisk: table in ",
         FixedKey::Sealer => "oramdisk: sealer in ",
     }
@@ -182,6 +183,8 @@ impl FaultKind {
                 " is an older state of its disk, and nothing was stored by it: put the newest one back; if a loss of power with sync = false took that one, the disk is lost\n",
             FaultKind::WrongKey =>
                 " isn't this disk's: put the one back that it was formatted with\n",
+            FaultKind::Changed(FixedKey::LeafLoad) =>
+                " isn't what it was when the disk was formatted: put it back, or set leaf_load = 1 if an older version, which had no such setting, formatted the disk\n",
             FaultKind::Changed(_) =>
                 " isn't what it was when the disk was formatted: put it back\n",
             FaultKind::Host(why) => host_rest(why),

@@ -40,8 +40,8 @@ tampered : failing (Some (Tampered 1 7)) ≡ codes "it has failed: in tree 1 the
 unfolding digits
 tampered = refl
 
-stands : report (record { blocks = 262144; block_bytes = 4096; trees = 2; accesses = 12; lifetime = 2 ^ 40; waiting = 1; failure = None })
-    ≡ codes "size: 1073741824 bytes, 262144 blocks of 4096\ntrees: 2\naccesses: 12 made, 1099511627764 left\nwaiting: 1\nstate: it is sound\n"
+stands : report (record { blocks = 262144; block_bytes = 4096; trees = 2; stash = 1; accesses = 12; lifetime = 2 ^ 40; waiting = 1; failure = None })
+    ≡ codes "size: 1073741824 bytes, 262144 blocks of 4096\ntrees: 2\nstash: 1 block\naccesses: 12 made, 1099511627764 left\nwaiting: 1\nstate: it is sound\n"
 unfolding digits
 stands = refl
 

@@ -1,8 +1,8 @@
 -- What is found at a key of a table.
 use Rattle.std.proofs.Common.{◌≡◌, ◌∙◌, ◌⊎◌, ℕ, List, Option, Some, None, true, false, refl, is_some, Result, Ok, Err, codes, arith, sym, subst, inl, inr}
-use Rattle.std.specs.Prelude.{MatchOption}
-use Rattle.toml.specs.Data.{Data, Members, get_member}
-use Rattle.oram_cli.specs.Tables.{Finds, HasText, IsAddress, IsName}
+use Rattle.std.specs.Prelude.{MatchOption, pos}
+use Rattle.toml.specs.Data.{Data, Members, get_member, integer}
+use Rattle.oram_cli.specs.Tables.{Finds, HasNumber, HasText, IsAddress, IsName}
 use Rattle.oram_cli.specs.declared.input.InputFault.{InputFault}
 use Rattle.oram_cli.specs.declared.input.InputFault.TheVariants.{Bad}
 use Rattle.oram_settings.specs.Settings.{DiskValue, HasSealing, IsDisk, IsPlace, IsSocket, OrDefault, sealing_name}
@@ -18,6 +18,14 @@ no_sealing t key e none bad ChaCha h = none bad (codes "chacha") (h, omega arith
 pub no_disk : {X : Type 0} {P : X → Type 0} (t : Members) (e : InputFault) → (e ≡ Bad → (x : X) → P x → ⊥) → (value : DiskValue → X) → ((s : DiskValue) → IsDisk t s → P (value s))
     → e ≡ Bad → (s : DiskValue) → IsDisk t s → ⊥
 no_disk t e none value has bad s h = none bad (value s) (has s h)
+
+-- there is only one number at a key, or the default
+pub one_number : (t : Members) (key : List ℕ) (default x y : ℕ) → OrDefault t key default (HasNumber t key) x → OrDefault t key default (HasNumber t key) y → x ≡ y
+one_number t key default x y h k = by_member (get_member key t) h k
+  where
+    by_member : (o : Option Data) → MatchOption o (x ≡ default) (λ _. o ≡ Some (integer (pos x))) → MatchOption o (y ≡ default) (λ _. o ≡ Some (integer (pos y))) → x ≡ y
+    by_member None p q = p ∙ sym q
+    by_member (Some d) p q = cc
 
 -- there is only one text at a key
 one_text : (t : Members) (key x y : List ℕ) → HasText t key x → HasText t key y → x ≡ y

@@ -2,7 +2,7 @@
 use Rattle.std.specs.Prelude.{◌≡◌, ◌*◌, ◌⊎◌, List, [], ◌∷◌, Option, None, Some}
 use Rattle.oram_geometry.specs.declared.Sizes.{Sizes}
 use Rattle.oram_settings.specs.declared.differences.FixedKey.{FixedKey}
-use Rattle.oram_settings.specs.declared.differences.FixedKey.TheVariants.{Size, Block, Slots, Table, Sealer}
+use Rattle.oram_settings.specs.declared.differences.FixedKey.TheVariants.{Size, Block, Slots, LeafLoad, Table, Sealer}
 use Rattle.oram_settings.specs.declared.disk_file.DiskSettings.{DiskSettings}
 use Rattle.oram_settings.specs.declared.disk_file.Sealing.{Sealing}
 
@@ -11,6 +11,7 @@ abbrev pub AgreeAt : DiskSettings → Sizes → Sealing → FixedKey → Type 0
 AgreeAt s device sealing Size = s.size ≡ device.blocks * device.block_bytes
 AgreeAt s device sealing Block = s.block ≡ device.block_bytes
 AgreeAt s device sealing Slots = s.slots ≡ device.slots
+AgreeAt s device sealing LeafLoad = s.leaf_load ≡ device.leaf_load
 AgreeAt s device sealing Table = s.table ≡ device.top
 AgreeAt s device sealing Sealer = s.sealer ≡ sealing
 
@@ -21,4 +22,4 @@ IsFirstDifference agree (key ∷ keys) first = ((first ≡ Some key) × ¬ agree
 
 -- the fixed keys, in the order in which a first file has them
 abbrev pub fixed_keys : List FixedKey
-fixed_keys = Size ∷ Block ∷ Slots ∷ Table ∷ Sealer ∷ []
+fixed_keys = Size ∷ Block ∷ Slots ∷ LeafLoad ∷ Table ∷ Sealer ∷ []

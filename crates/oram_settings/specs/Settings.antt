@@ -1,6 +1,6 @@
 -- The settings of a disk, and which texts are a file with these settings. Size, key and host are required; each other
 -- setting has a default.
-use Rattle.std.specs.Prelude.{◌≡◌, ◌∷◌, ◌++◌, ◌⊎◌, ◌*◌, ◌^◌, ℕ, Bool, true, List, [], codes, decimal, string_bytes, Some, Ok, MatchOption}
+use Rattle.std.specs.Prelude.{◌≡◌, ◌∷◌, ◌++◌, ◌⊎◌, ◌*◌, ◌^◌, ℕ, Bool, true, if◌then◌else◌, nat_le, List, [], codes, decimal, string_bytes, Some, Ok, MatchOption}
 use Rattle.std.specs.List.{concat}
 use Rattle.hex.specs.Hex.{encode_lower}
 use Rattle.toml.specs.Data.{Members, boolean, get_member}
@@ -17,6 +17,7 @@ pub record DiskValue : Type 0 where
   pub size : ℕ
   pub block : ℕ
   pub slots : ℕ
+  pub leaf_load : ℕ  -- how many blocks there is a leaf for
   pub table : ℕ  -- the most entries that the client's own table may have, which a device calls `top`
   pub sealer : Sealing
   pub key : List ℕ
@@ -31,6 +32,7 @@ settings_value s = record {
   size = s.size;
   block = s.block;
   slots = s.slots;
+  leaf_load = s.leaf_load;
   table = s.table;
   sealer = s.sealer;
   key = s.key;
@@ -63,12 +65,17 @@ pub record IsPlace (text : List ℕ) : Type 0 where
 abbrev pub OrDefault : {X : Type 0} → Members → List ℕ → X → (X → Type 0) → X → Type 0
 OrDefault table key default P x = MatchOption (get_member key table) (x ≡ default) (λ _. P x)
 
+-- the default for the leaf load: 5, and 1 where a bucket has fewer than four slots
+abbrev pub default_leaf_load : ℕ → ℕ
+default_leaf_load slots = if nat_le 4 slots then 5 else 1
+
 -- a document's table has these settings; `members` are its keys with their values
 pub record IsDisk (members : Members) (s : DiskValue) : Type 0 where
-  pub only : HasOnly (codes "size" ∷ codes "block" ∷ codes "slots" ∷ codes "table" ∷ codes "sealer" ∷ codes "key" ∷ codes "host" ∷ codes "listen" ∷ codes "state" ∷ codes "sync" ∷ codes "reconnect_timeout" ∷ []) members
+  pub only : HasOnly (codes "size" ∷ codes "block" ∷ codes "slots" ∷ codes "leaf_load" ∷ codes "table" ∷ codes "sealer" ∷ codes "key" ∷ codes "host" ∷ codes "listen" ∷ codes "state" ∷ codes "sync" ∷ codes "reconnect_timeout" ∷ []) members
   pub size : HasNumber members (codes "size") s.size
   pub block : OrDefault members (codes "block") 4096 (HasNumber members (codes "block")) s.block
   pub slots : OrDefault members (codes "slots") 4 (HasNumber members (codes "slots")) s.slots
+  pub leaf_load : OrDefault members (codes "leaf_load") (default_leaf_load s.slots) (HasNumber members (codes "leaf_load")) s.leaf_load
   pub table : OrDefault members (codes "table") 1024 (HasNumber members (codes "table")) s.table
   pub sealer : OrDefault members (codes "sealer") ChaCha (HasSealing members (codes "sealer")) s.sealer
   pub key : HasHex members (codes "key") s.key
@@ -83,9 +90,9 @@ abbrev pub IsDocumentOf : List ℕ → DiskValue → Type 0
 IsDocumentOf text s = (table : Members) × (parse_document text ≡ Some table) × IsDisk table s
 
 -- the device with this size in bytes, a whole number of blocks
-abbrev pub IsDeviceOf : ℕ → ℕ → ℕ → ℕ → Sizes → Type 0
-IsDeviceOf size block slots table device = (blocks : ℕ) × (blocks * block ≡ size)
-    × (device_of (record { blocks = blocks; block_bytes = block; slots = slots; top = table; lifetime = 2 ^ 40; leaf_load = 1 }) ≡ Ok device)
+abbrev pub IsDeviceOf : ℕ → ℕ → ℕ → ℕ → ℕ → Sizes → Type 0
+IsDeviceOf size block slots leaf_load table device = (blocks : ℕ) × (blocks * block ≡ size)
+    × (device_of (record { blocks = blocks; block_bytes = block; slots = slots; top = table; lifetime = 2 ^ 40; leaf_load = leaf_load }) ≡ Ok device)
 
 -- the text of the settings file of a new disk with this size in bytes and this key; the settings that have defaults are in it
 -- as comments
@@ -95,4 +102,4 @@ first_text size key =
     ∷ decimal size
     ∷ codes "\n\n# Whoever has this key can read the disk. Without it nobody can.\nkey = \""
     ∷ encode_lower key
-    ∷ codes "\"\n\n# Where the host is reached: your end of the tunnel.\nhost = \"127.0.0.1:7001\"\n\n# Each line below shows what holds without it. To set another value, take away the \"# \" that the line begins with.\n\n# These four are fixed once the disk is formatted.\n# block = 4096               # the bytes of a block\n# slots = 4                  # how many blocks a bucket has room for\n# table = 1024               # the most entries of the table that the client keeps\n# sealer = \"chacha\"          # how buckets are sealed; \"plain\" hides nothing, and is only for trying things out\n\n# These may be changed at any time.\n# listen = \"unix:disk.sock\"  # where the disk is served: a socket in this folder, for you alone; or \"127.0.0.1:PORT\", for all users of this machine\n# state = \"disk.state\"       # the file of the disk's state, in this folder\n# sync = true                # each state is synced before it counts\n# reconnect_timeout = 600    # for how many seconds the client waits for a host that doesn't answer\n" ∷ [])
+    ∷ codes "\"\n\n# Where the host is reached: your end of the tunnel.\nhost = \"127.0.0.1:7001\"\n\n# Each line below shows what holds without it. To set another value, take away the \"# \" that the line begins with.\n\n# These five are fixed once the disk is formatted.\n# block = 4096               # the bytes of a block\n# slots = 4                  # how many blocks a bucket has room for\n# leaf_load = 5              # for how many blocks there is a leaf, which takes two buckets at the host; with fewer than 4 slots it is 1\n# table = 1024               # the most entries of the table that the client keeps\n# sealer = \"chacha\"          # how buckets are sealed; \"plain\" hides nothing, and is only for trying things out\n\n# These may be changed at any time.\n# listen = \"unix:disk.sock\"  # where the disk is served: a socket in this folder, for you alone; or \"127.0.0.1:PORT\", for all users of this machine\n# state = \"disk.state\"       # the file of the disk's state, in this folder\n# sync = true                # each state is synced before it counts\n# reconnect_timeout = 600    # for how many seconds the client waits for a host that doesn't answer\n" ∷ [])

@@ -48,7 +48,7 @@ struct Setting {
 }
 
 /// The settings of a disk.
-const DISK: [Setting; 11] = [
+const DISK: [Setting; 12] = [
     Setting {
         key: "size",
         kind: Kind::Number,
@@ -61,6 +61,11 @@ const DISK: [Setting; 11] = [
     },
     Setting {
         key: "slots",
+        kind: Kind::Number,
+        is_required: false,
+    },
+    Setting {
+        key: "leaf_load",
         kind: Kind::Number,
         is_required: false,
     },
@@ -316,9 +321,37 @@ pub fn disk_complaint(alloc: Global, name: &str, text: &str) -> Result<String, A
 #[derive(Clone, Copy, Debug, PartialEq, Eq)]
 enum Number {
     Block,
-    Size,
     Slots,
+    LeafLoad,
+    Size,
     Table,
+}
+
+// As the settings file spells its key.
+impl fmt::Display for Number {
+    fn fmt<W: fmt::Write>(&self, f: &mut fmt::Formatter<W>) -> fmt::Result {
+        f.write_str(match self {
+            Number::Block => "block",
+            Number::Slots => "slots",
+            Number::LeafLoad => "leaf_load",
+            Number::Size => "size",
+            Number::Table => "table",
+        })
+    }
+}
+
+/// Returns the greatest leaf load for which buckets of so many slots have room.
+fn most_load(slots: u64) -> u64 {
+    if slots < 4 {
+        1
+    } else {
+        (slots.saturating_mul(5) / 4).min(8)
+    }
+}
+
+/// Returns the greatest number of blocks of a disk with this leaf load, which the entries of a table can't exceed either.
+fn most_blocks(leaf_load: u64) -> u64 {
+    leaf_load.min(4) << 24
 }
 
 /// Returns the first of these settings that no disk can have. If the others are right, it is the table.
@@ -327,14 +360,45 @@ fn wrong_number(settings: &DiskSettings) -> Number {
     if block < 16 || 4096 < block || block % 4 != 0 {
         return Number::Block;
     }
-    let blocks = settings.size / block;
-    if settings.size % block != 0 || blocks == 0 || (1 << 24) < blocks {
-        return Number::Size;
-    }
     if settings.slots == 0 || 8 < settings.slots {
         return Number::Slots;
     }
+    if settings.leaf_load == 0 || most_load(settings.slots) < settings.leaf_load {
+        return Number::LeafLoad;
+    }
+    let blocks = settings.size / block;
+    if settings.size % block != 0 || blocks == 0 || most_blocks(settings.leaf_load) < blocks {
+        return Number::Size;
+    }
     Number::Table
+}
+
+/// Returns what a leaf load has to be for buckets of so many slots.
+fn load_range(alloc: Global, slots: u64) -> Result<String, AllocError> {
+    let most = most_load(slots);
+    if most == 1 {
+        format!(in alloc; "1 with fewer than 4 slots")
+    } else {
+        format!(in alloc; "from 1 to {most} with {slots} slots")
+    }
+}
+
+/// Returns what this number has to be, given the others.
+fn range_of(
+    alloc: Global,
+    number: Number,
+    settings: &DiskSettings,
+) -> Result<String, AllocError> {
+    let most = most_blocks(settings.leaf_load);
+    match number {
+        Number::Block => String::from_str(alloc, "a multiple of 4, from 16 to 4096"),
+        Number::Slots => String::from_str(alloc, "from 1 to 8"),
+        Number::LeafLoad => load_range(alloc, settings.slots),
+        Number::Size => {
+            format!(in alloc; "a whole number of blocks, from 1 to {most} of them")
+        }
+        Number::Table => format!(in alloc; "from 1 to {most}"),
+    }
 }
 
 /// Returns what is wrong with the settings in the file `name`, whose numbers no disk can have: the file, the line if it is
@@ -345,15 +409,11 @@ pub fn numbers_complaint(
     text: &str,
     settings: &DiskSettings,
 ) -> Result<String, AllocError> {
-    let (key, range) = match wrong_number(settings) {
-        Number::Block => ("block", "a multiple of 4, from 16 to 4096"),
-        Number::Size => (
-            "size",
-            "a whole number of blocks, from 1 to 16777216 of them",
-        ),
-        Number::Slots => ("slots", "from 1 to 8"),
-        Number::Table => ("table", "from 1 to 16777216"),
-    };
+    let number = wrong_number(settings);
+    let key = format!(in alloc; "{number}")?;
+    let key = key.as_str();
+    let range = range_of(alloc, number, settings)?;
+    let range = range.as_str();
     let place = place_of(alloc, name, text, key)?;
     let place = place.as_str();
     format!(in alloc; "{place}: {key} has to be {range}")

@@ -14,6 +14,7 @@ pub enum FixedKey {
     Size,
     Block,
     Slots,
+    LeafLoad,
     Table,
     Sealer,
 }
@@ -25,6 +26,7 @@ impl fmt::Display for FixedKey {
             FixedKey::Size => "size",
             FixedKey::Block => "block",
             FixedKey::Slots => "slots",
+            FixedKey::LeafLoad => "leaf_load",
             FixedKey::Table => "table",
             FixedKey::Sealer => "sealer",
         })
@@ -41,7 +43,7 @@ pub fn first_difference(
     ensures first { IsFirstDifference (AgreeAt settings.now device.now sealing) fixed_keys result }
 
     // A disk that was formatted with these settings doesn't differ from them.
-    ensures same { IsDeviceOf settings.now.size settings.now.block settings.now.slots settings.now.table device.now
+    ensures same { IsDeviceOf settings.now.size settings.now.block settings.now.slots settings.now.leaf_load settings.now.table device.now
         → settings.now.sealer ≡ sealing → result ≡ None }
 {
     prove!(0 < device.trees());
@@ -52,6 +54,8 @@ pub fn first_difference(
         Some(FixedKey::Block)
     } else if settings.slots != device.slots() as u64 {
         Some(FixedKey::Slots)
+    } else if settings.leaf_load != device.leaf_load() {
+        Some(FixedKey::LeafLoad)
     } else if settings.table != device.top() {
         Some(FixedKey::Table)
     } else if settings.sealer != sealing {

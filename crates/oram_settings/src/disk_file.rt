@@ -4,7 +4,7 @@ ghost use Rattle.std.specs.Prelude.{◌≡◌, ◌≢◌, ◌↔◌, IsTrue, Non
 ghost use Rattle.toml.specs.Data.{as_bool, get_member};
 ghost use Rattle.toml.specs.View.{table_view};
 ghost use Rattle.oram_cli.specs.Tables.{Finds, HasNumber, HasText, IsCount, IsName};
-ghost use Rattle.oram_settings.specs.Settings.{HasFlag, HasSealing, IsDeviceOf, IsDisk, IsDocumentOf, IsPlace, IsSocket, OrDefault, first_text, sealing_name, settings_value};
+ghost use Rattle.oram_settings.specs.Settings.{HasFlag, HasSealing, IsDeviceOf, IsDisk, IsDocumentOf, IsPlace, IsSocket, OrDefault, default_leaf_load, first_text, sealing_name, settings_value};
 
 use hex::encode;
 use oram_cli::{
@@ -23,6 +23,9 @@ pub const DEFAULT_BLOCK: u64 = 4_096;
 
 /// The default number of slots of a bucket.
 pub const DEFAULT_SLOTS: u64 = 4;
+
+/// The default for the leaf load where a bucket has enough slots for it.
+pub const DEFAULT_LEAF_LOAD: u64 = 5;
 
 /// The default for the greatest number of entries that the client's own table may have.
 pub const DEFAULT_TABLE: u64 = 1_024;
@@ -48,6 +51,8 @@ pub struct DiskSettings {
     pub block: u64,
     /// The number of slots of a bucket.
     pub slots: u64,
+    /// The leaf load: for how many blocks a tree has a leaf.
+    pub leaf_load: u64,
     /// The most entries that the client's own table may have, which a device calls `top`.
     pub table: u64,
     pub sealer: Sealing,
@@ -196,6 +201,13 @@ fn place_or<'a>(table: &'a Table, key: &str, default: &'a str) -> Result<&'a str
     }
 }
 
+/// Returns the leaf load of a disk whose settings name none: more blocks to a leaf take buckets of four slots or more.
+fn default_leaf_load(slots: u64) -> u64
+    ensures { result ≡ default_leaf_load slots }
+{
+    if 4 <= slots { DEFAULT_LEAF_LOAD } else { 1 }
+}
+
 fn disk_in(alloc: Global, document: &Table) -> Result<DiskSettings, InputFault>
     ensures { Finds settings_value (IsDisk (table_view document.now)) result }
 {
@@ -205,6 +217,7 @@ fn disk_in(alloc: Global, document: &Table) -> Result<DiskSettings, InputFault>
             "size",
             "block",
             "slots",
+            "leaf_load",
             "table",
             "sealer",
             "key",
@@ -220,6 +233,7 @@ fn disk_in(alloc: Global, document: &Table) -> Result<DiskSettings, InputFault>
     let size = number_at(document, "size")?;
     let block = number_or(document, "block", DEFAULT_BLOCK)?;
     let slots = number_or(document, "slots", DEFAULT_SLOTS)?;
+    let leaf_load = number_or(document, "leaf_load", default_leaf_load(slots))?;
     let table = number_or(document, "table", DEFAULT_TABLE)?;
     let sealer = sealing_or(document, "sealer", Sealing::ChaCha)?;
     let key = key_at(document, "key")?;
@@ -232,6 +246,7 @@ fn disk_in(alloc: Global, document: &Table) -> Result<DiskSettings, InputFault>
         size,
         block,
         slots,
+        leaf_load,
         table,
         sealer,
         key,
@@ -256,15 +271,21 @@ pub fn read_disk_settings(alloc: Global, text: &str) -> Result<DiskSettings, Inp
 
 /// Returns the device with this size in bytes, or `None` if that isn't a whole number of blocks, or no device can have
 /// these numbers.
-pub fn device_of(size: u64, block: u64, slots: u64, table: u64) -> Option<Device>
-    ensures some { IfSome result (λ d. IsDeviceOf size block slots table d) }
-    ensures none { result ≡ None → (d : _) → IsDeviceOf size block slots table d → ⊥ }
+pub fn device_of(
+    size: u64,
+    block: u64,
+    slots: u64,
+    leaf_load: u64,
+    table: u64,
+) -> Option<Device>
+    ensures some { IfSome result (λ d. IsDeviceOf size block slots leaf_load table d) }
+    ensures none { result ≡ None → (d : _) → IsDeviceOf size block slots leaf_load table d → ⊥ }
 {
     let blocks = size.checked_div(block)?;
     if size % block != 0 {
         return None;
     }
-    Device::new(blocks, block, slots, table, LIFETIME).ok()
+    Device::packed(blocks, block, slots, table, LIFETIME, leaf_load).ok()
 }
 
 /// Returns the text of a new disk's settings file. It sets the size in bytes and the key, which the caller draws at
@@ -275,6 +296,6 @@ pub fn disk_text(alloc: Global, size: u64, key: &[u8; 32]) -> Result<String, All
     let key = encode(alloc, key)?;
     let key = key.as_str();
     format!(in alloc;
-        "# The disk's size in bytes. It is fixed once the disk is formatted.\nsize = {size}\n\n# Whoever has this key can read the disk. Without it nobody can.\nkey = \"{key}\"\n\n# Where the host is reached: your end of the tunnel.\nhost = \"127.0.0.1:7001\"\n\n# Each line below shows what holds without it. To set another value, take away the \"# \" that the line begins with.\n\n# These four are fixed once the disk is formatted.\n# block = 4096               # the bytes of a block\n# slots = 4                  # how many blocks a bucket has room for\n# table = 1024               # the most entries of the table that the client keeps\n# sealer = \"chacha\"          # how buckets are sealed; \"plain\" hides nothing, and is only for trying things out\n\n# These may be changed at any time.\n# listen = \"unix:disk.sock\"  # where the disk is served: a socket in this folder, for you alone; or \"127.0.0.1:PORT\", for all users of this machine\n# state = \"disk.state\"       # the file of the disk's state, in this folder\n# sync = true                # each state is synced before it counts\n# reconnect_timeout = 600    # for how many seconds the client waits for a host that doesn't answer\n"
+        "# The disk's size in bytes. It is fixed once the disk is formatted.\nsize = {size}\n\n# Whoever has this key can read the disk. Without it nobody can.\nkey = \"{key}\"\n\n# Where the host is reached: your end of the tunnel.\nhost = \"127.0.0.1:7001\"\n\n# Each line below shows what holds without it. To set another value, take away the \"# \" that the line begins with.\n\n# These five are fixed once the disk is formatted.\n# block = 4096               # the bytes of a block\n# slots = 4                  # how many blocks a bucket has room for\n# leaf_load = 5              # for how many blocks there is a leaf, which takes two buckets at the host; with fewer than 4 slots it is 1\n# table = 1024               # the most entries of the table that the client keeps\n# sealer = \"chacha\"          # how buckets are sealed; \"plain\" hides nothing, and is only for trying things out\n\n# These may be changed at any time.\n# listen = \"unix:disk.sock\"  # where the disk is served: a socket in this folder, for you alone; or \"127.0.0.1:PORT\", for all users of this machine\n# state = \"disk.state\"       # the file of the disk's state, in this folder\n# sync = true                # each state is synced before it counts\n# reconnect_timeout = 600    # for how many seconds the client waits for a host that doesn't answer\n"
     )
 }

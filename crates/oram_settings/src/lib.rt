@@ -27,8 +27,8 @@ pub use command_line::{NoRequest, Subcommand, read_command_line};
 pub use complaints::{disk_complaint, host_complaint, numbers_complaint};
 pub use differences::{FixedKey, first_difference};
 pub use disk_file::{
-    DEFAULT_BLOCK, DEFAULT_SLOTS, DEFAULT_TABLE, DiskSettings, LIFETIME, Sealing, device_of,
-    disk_text, read_disk_settings,
+    DEFAULT_BLOCK, DEFAULT_LEAF_LOAD, DEFAULT_SLOTS, DEFAULT_TABLE, DiskSettings, LIFETIME,
+    Sealing, device_of, disk_text, read_disk_settings,
 };
 pub use footprint::stored_bytes;
 pub use names::relative_to;

@@ -15,6 +15,8 @@ pub struct Status {
     pub block_bytes: u64,
     /// The number of trees in which its blocks and its position maps lie.
     pub trees: u8,
+    /// The number of blocks in the stashes of its trees, which the client keeps itself.
+    pub stash: u64,
     /// The number of accesses: one for each command that was accepted, including those that wait.
     pub accesses: u64,
     /// The greatest number of accesses that a disk ever makes.
@@ -22,6 +24,18 @@ pub struct Status {
     /// The number of commands that have no reply yet.
     pub waiting: u64,
     pub failure: Option<Reason>,
+}
+
+/// Returns the number of blocks in the stashes of all trees.
+#[tactic(auto, unfolding(crate::specs::Status::stashed_below))]
+fn stashed<S: Sealer>(core: &Core<S>) -> u64
+    ensures { result ≡ spec.stashed core.now.device core.now.state }
+{
+    let mut blocks = 0u64;
+    for tree in 0..core.device().trees() {
+        blocks = blocks.saturating_add(core.stash_len(tree) as u64);
+    }
+    blocks
 }
 
 /// Returns the status of the disk of a core.
@@ -35,6 +49,7 @@ pub fn status_of<S: Sealer>(core: &Core<S>) -> Status
         blocks: u64::from(device.blocks_in(0)),
         block_bytes: device.block_bytes() as u64,
         trees,
+        stash: stashed(core),
         accesses: core.next_ticket(),
         lifetime: device.lifetime(),
         waiting: core.waiting() as u64,
@@ -69,12 +84,14 @@ pub fn report(alloc: Global, status: &Status) -> Result<String, AllocError>
     let blocks = blocks.as_str();
     let block_bytes = status.block_bytes;
     let trees = status.trees;
+    let stash = counted(alloc, status.stash, "block")?;
+    let stash = stash.as_str();
     let accesses = status.accesses;
     let left = status.lifetime.saturating_sub(accesses);
     let waiting = status.waiting;
     let failing = failure_text(alloc, status.failure)?;
     let failing = failing.as_str();
     format!(in alloc;
-        "size: {size} bytes, {blocks} of {block_bytes}\ntrees: {trees}\naccesses: {accesses} made, {left} left\nwaiting: {waiting}\nstate: {failing}\n"
+        "size: {size} bytes, {blocks} of {block_bytes}\ntrees: {trees}\nstash: {stash}\naccesses: {accesses} made, {left} left\nwaiting: {waiting}\nstate: {failing}\n"
     )
 }

@@ -1,16 +1,16 @@
 //! What `oramdisk` prints when all goes well, the amounts in it, and what it prints about a wrong settings file.
 
+use crate::disks::device_in;
 use oram_cli::InputFault;
 use oram_settings::{
-    Sealing, amount_text, begun_text, counted, device_of, disk_complaint, host_complaint,
-    hosting_text, made_text, numbers_complaint, read_disk_settings, serving_text, size_text,
-    stored_bytes,
+    Sealing, amount_text, begun_text, counted, disk_complaint, host_complaint, hosting_text,
+    made_text, numbers_complaint, read_disk_settings, serving_text, size_text, stored_bytes,
 };
 use rows::{Page, RowFault, RowWords};
 use std::alloc::Global;
 
-/// `says amount BYTES`, `says size BYTES`, `says counted COUNT NAME`, `says stored SIZE BLOCK SLOTS TABLE SEALER`,
-/// `says made FOLDER SIZE STORED`, `says begun STORED HOST`, `says hosting FILE LISTEN`, `says serving SIZE URI`, and,
+/// `says amount BYTES`, `says size BYTES`, `says counted COUNT NAME`, `says stored SIZE BLOCK SLOTS LEAF-LOAD
+/// TABLE SEALER`, `says made FOLDER SIZE STORED`, `says begun STORED HOST`, `says hosting FILE LISTEN`, `says serving SIZE URI`, and,
 /// about the text of a file, `says bad-disk NAME TEXT`, `says bad-host NAME TEXT` and `says bad-numbers NAME TEXT`: writes
 /// what `oramdisk` prints.
 pub fn says(alloc: Global, words: &mut RowWords, page: &mut Page) -> Result<(), RowFault> {
@@ -44,10 +44,7 @@ fn bad_numbers(alloc: Global, name: &str, text: &str) -> Result<String, RowFault
 
 /// Returns how many bytes a disk with these settings takes at its host.
 fn stored(words: &mut RowWords) -> Result<u64, RowFault> {
-    let size = words.number();
-    let block = words.number();
-    let slots = words.number();
-    let Some(device) = device_of(size, block, slots, words.number()) else {
+    let Some(device) = device_in(words) else {
         return Err(RowFault::NoRow);
     };
     match words.text() {

@@ -1,13 +1,14 @@
 //! The settings of a disk.
 
 use crate::tables::read_or_bad;
+use oram_geometry::Device;
 use oram_settings::{
     DiskSettings, Sealing, device_of, disk_text, first_difference, read_disk_settings,
 };
 use rows::{Page, RowFault, RowWords};
 use std::alloc::Global;
 
-/// `disk TEXT`: writes the settings in a document: size, block, slots, table, sealer, key, host, listen, state, sync
+/// `disk TEXT`: writes the settings in a document: size, block, slots, leaf load, table, sealer, key, host, listen, state, sync
 /// and the reconnect timeout.
 pub fn disk(alloc: Global, words: &mut RowWords, page: &mut Page) -> Result<(), RowFault> {
     let text = words.lines(alloc);
@@ -28,6 +29,7 @@ fn put_numbers(settings: &DiskSettings, page: &mut Page) {
     page.number(settings.size);
     page.number(settings.block);
     page.number(settings.slots);
+    page.number(settings.leaf_load);
     page.number(settings.table);
     page.word(match settings.sealer {
         Sealing::Plain => "plain",
@@ -44,13 +46,19 @@ fn put_names(settings: &DiskSettings, page: &mut Page) {
     page.number(settings.reconnect_timeout);
 }
 
-/// `device SIZE BLOCK SLOTS TABLE`: writes how many trees and blocks the device of such a disk has.
-pub fn device(words: &mut RowWords, page: &mut Page) -> Result<(), RowFault> {
+/// Reads SIZE BLOCK SLOTS LEAF-LOAD TABLE, and returns the device of such a disk, if there is one.
+pub fn device_in(words: &mut RowWords) -> Option<Device> {
     let size = words.number();
     let block = words.number();
     let slots = words.number();
-    let table = words.number();
-    let Some(device) = device_of(size, block, slots, table) else {
+    let leaf_load = words.number();
+    device_of(size, block, slots, leaf_load, words.number())
+}
+
+/// `device SIZE BLOCK SLOTS LEAF-LOAD TABLE`: writes how many trees and blocks the device of such a disk has, and the depth of its
+/// first tree.
+pub fn device(words: &mut RowWords, page: &mut Page) -> Result<(), RowFault> {
+    let Some(device) = device_in(words) else {
         page.word("none");
         return Ok(());
     };
@@ -59,6 +67,7 @@ pub fn device(words: &mut RowWords, page: &mut Page) -> Result<(), RowFault> {
     }
     page.number(device.trees());
     page.number(device.blocks_in(0));
+    page.number(device.depth(0));
     Ok(())
 }
 
@@ -101,13 +110,14 @@ fn sealing_in(words: &mut RowWords) -> Result<Sealing, RowFault> {
     }
 }
 
-/// `differs SIZE BLOCK SLOTS TABLE SEALER SIZE BLOCK SLOTS TABLE SEALER`: writes the first key at which the first
-/// settings differ from the second ones, with which a disk was formatted.
+/// `differs SIZE BLOCK SLOTS LEAF-LOAD TABLE SEALER SIZE BLOCK SLOTS LEAF-LOAD TABLE SEALER`: writes the first key at which the
+/// first settings differ from the second ones, with which a disk was formatted.
 pub fn differs(alloc: Global, words: &mut RowWords, page: &mut Page) -> Result<(), RowFault> {
     let settings = DiskSettings {
         size: words.number(),
         block: words.number(),
         slots: words.number(),
+        leaf_load: words.number(),
         table: words.number(),
         sealer: sealing_in(words)?,
         key: [0; 32],
@@ -117,11 +127,7 @@ pub fn differs(alloc: Global, words: &mut RowWords, page: &mut Page) -> Result<(
         sync: false,
         reconnect_timeout: 1,
     };
-    let size = words.number();
-    let block = words.number();
-    let slots = words.number();
-    let table = words.number();
-    let Some(device) = device_of(size, block, slots, table) else {
+    let Some(device) = device_in(words) else {
         return Err(RowFault::NoRow);
     };
     let sealing = sealing_in(words)?;

@@ -39,13 +39,14 @@ pub fn due(
     Ok(())
 }
 
-/// `report BLOCKS BLOCK_BYTES TREES ACCESSES LIFETIME WAITING FAILURE ..`: writes the report of a disk. The disk is
+/// `report BLOCKS BLOCK_BYTES TREES STASH ACCESSES LIFETIME WAITING FAILURE ..`: writes the report of a disk. The disk is
 /// `sound`, or has failed with `malformed`, `tampered TREE LEVEL` or `refused CODE`.
 pub fn disk_report(alloc: Global, words: &mut RowWords, page: &mut Page) -> Result<(), RowFault> {
     let status = Status {
         blocks: words.number(),
         block_bytes: words.number(),
         trees: words.byte(),
+        stash: words.number(),
         accesses: words.number(),
         lifetime: words.number(),
         waiting: words.number(),

@@ -17,6 +17,11 @@ returns-in_err-slots c =
     let p = err_from_is_err_and c.from_residual-in_err-slots.result c.from_residual-in_err-slots.ensures.1 in
     rw (p.1, p.2) (no_disk _ _ c.in_err-slots.ensures (λ s. s.slots) (λ s h. h.slots))
 
+pub returns-in_err-leaf_load : goal.returns-in_err-leaf_load
+returns-in_err-leaf_load c =
+    let p = err_from_is_err_and c.from_residual-in_err-leaf_load.result c.from_residual-in_err-leaf_load.ensures.1 in
+    rw (p.1, p.2) (no_load c)
+
 pub returns-in_err-table : goal.returns-in_err-table
 returns-in_err-table c =
     let p = err_from_is_err_and c.from_residual-in_err-table.result c.from_residual-in_err-table.ensures.1 in
