@@ -50,6 +50,7 @@ is_device = record {
   few_lifetime = omega arith;
   some_load = omega arith;
   few_load = omega arith;
+  room = refl;
 }
 
 pub no_depth : 0 ≡ depth_of one_block.device 0

@@ -36,6 +36,7 @@ pub fn format_state<S: Sealer, L: Link>(
     sealer: S,
     link: &mut L,
 ) -> Result<Vec<u8>, Fault>
+    requires { device.leaf_load ≡ 1 }
     ensures formatted { let v = scheme_with S.cipher device sealer in
         IfOk result (λ file. (s : State) × IsFormatted v L.calls link.old s link.new × IsSaved file.items (S.cipher sealer).overhead device s) }
     ensures fault { let v = scheme_with S.cipher device sealer in

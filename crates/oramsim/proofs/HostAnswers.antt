@@ -33,10 +33,10 @@ heard_stands r m n bytes f h = record {
 }
 
 pub honest_at : (r : Running) (m n : Machine) (bytes : List ℕ) → IsWholeMachine m → IsAtRun r m → IsHeard m n bytes → IsHonest (status_in n.core.state) n.core.state.message (Answer bytes) r.host n.server
-honest_at r m n bytes w f h = rw h.core (reply_honest m.core.state m.outstanding bytes r.host n.server w.waits w.latest (subst (λ (k : Host). HostAnswers k m.outstanding bytes n.server) f.host h.replies))
+honest_at r m n bytes w f h = rw h.core (reply_honest m.core.state m.outstanding bytes r.host n.server w.1.waits w.1.latest (subst (λ (k : Host). HostAnswers k m.outstanding bytes n.server) f.host h.replies))
 
 pub late_at : (r : Running) (m n : Machine) (bytes : List ℕ) → IsWholeMachine m → IsAtRun r m → IsHeard m n bytes → IsHonest (status_in n.core.state) n.core.state.message Lost r.host n.server
-late_at r m n bytes w f h = rw h.core (late_honest m.core.state m.outstanding bytes r.host n.server w.waits w.latest (subst (λ (k : Host). HostAnswers k m.outstanding bytes n.server) f.host h.replies))
+late_at r m n bytes w f h = rw h.core (late_honest m.core.state m.outstanding bytes r.host n.server w.1.waits w.1.latest (subst (λ (k : Host). HostAnswers k m.outstanding bytes n.server) f.host h.replies))
 
 pub answered : (r : Running) (m n k : Machine) (bytes : List ℕ) (old new : Option (List ℕ)) → IsWholeMachine m → IsAtRun r m → IsHeard m n bytes
     → (x : Shown) × RunsOn (with_host r n.server) (after_turn (with_host r n.server) (Answer bytes) x) k old new × StaysFaithful (with_host r n.server) n.core.state (Answer bytes) x k.core.state

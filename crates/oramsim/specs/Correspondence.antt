@@ -31,8 +31,9 @@ pub record IsWhole (d : Sizes) (s : State) (message : Option (List ℕ)) : Type 
   pub rests : s.failure ≡ None → length s.queue ≡ 0 → s.lost ≡ false
   pub stage : s.failure ≡ None → s.entry_number < 2 * trees_of d
 
+-- And the device has one block to a leaf, so that it has a state file.
 abbrev pub IsWholeMachine : Machine → Type 0
-IsWholeMachine m = IsWhole m.core.device m.core.state m.outstanding
+IsWholeMachine m = (m.core.device.leaf_load ≡ 1) × IsWhole m.core.device m.core.state m.outstanding
 
 -- how many answers are still needed until all commands have a reply
 abbrev pub answers_left : Sizes → State → Option (List ℕ) → ℕ

@@ -77,6 +77,7 @@ fn left_at(event: &Event, outstanding: Option<Bytes>) -> Option<Bytes>
 
 /// Saves a core and reads it back.
 fn read_back(alloc: Global, core: &Core<PlainSeal>) -> Result<Core<PlainSeal>, AllocError>
+    requires { core.now.device.leaf_load ≡ 1 }
     ensures { IfOk result (λ again. again ≡ core.now) }
 {
     let file = encode_state(alloc, core)?;
@@ -284,7 +285,8 @@ impl Machine {
 
 /// Formats a device on a host that keeps nothing yet. Such a host refuses a formatting only if it is out of memory.
 fn formatted(alloc: Global, device: Device) -> Result<Machine, FormatFault>
-    requires { IsDevice device }
+    requires ranges { IsDevice device }
+    requires load { device.leaf_load ≡ 1 }
     ensures whole { IfOk result (λ machine. IsWholeMachine machine) }
     ensures ok { IfOk result (λ machine. (r : Running) × IsNewRun device r × IsAtRun r machine × IsFaithful r machine.core.state) }
     ensures err { IfErr result (λ fault. fault ≡ FormatFault.OutOfMemory) }
@@ -305,6 +307,7 @@ pub fn begin<W: Write>(
     writer: &mut W,
     device: Result<Device, ShapeFault>,
 ) -> Result<Option<Machine>, SimFault>
+    requires { IfOk device (λ d. d.leaf_load ≡ 1) }
     ensures whole { IfOk result (λ machine. AreWhole machine) }
     ensures ok { (head : List ℕ) → IfOk result (λ machine. (q : Point) × Starts head device q
         × RunsOnAt (record { stage = None; head = head }) q machine (W.contents writer.old) (W.contents writer.new) × IsFaithfulAt q.stage machine) }

@@ -10,13 +10,13 @@ pub returns-clause-whole : goal.returns-clause-whole
 returns-clause-whole g c =
     let p = c.in_ok-sent.ensures.ok in
     let out = outstanding_is p.0.sends _ _ _ c.or.ensures p.1.newest ∙ ap (newest_of p.0.sends) (c.left_at-left.ensures ∙ ap (left_at c.args.event.now) c.take.ensures.value) in
-    rw (out, c.play.ensures.device) (whole_after c.args.self.now.core.device c.args.self.now.core.state c.play.new.core.state c.args.event.now p.0 c.args.self.now.outstanding c.requires p.1.steps)
+    rw (out, c.play.ensures.device) (c.requires.0, whole_after c.args.self.now.core.device c.args.self.now.core.state c.play.new.core.state c.args.event.now p.0 c.args.self.now.outstanding c.requires.1 p.1.steps)
 
 pub returns-clause-left : goal.returns-clause-left
 returns-clause-left g c = λ h some.
     let p = c.in_ok-sent.ensures.ok in
     let out = outstanding_is p.0.sends _ _ _ c.or.ensures p.1.newest ∙ ap (newest_of p.0.sends) (c.left_at-left.ensures ∙ ap (left_at c.args.event.now) c.take.ensures.value) in
-    rw (out, c.play.ensures.device) (fewer c.args.self.now.core.device c.args.self.now.core.state c.play.new.core.state c.args.event.now p.0 c.args.self.now.outstanding c.requires p.1.steps h some)
+    rw (out, c.play.ensures.device) (fewer c.args.self.now.core.device c.args.self.now.core.state c.play.new.core.state c.args.event.now p.0 c.args.self.now.outstanding c.requires.1 p.1.steps h some)
 
 pub returns-clause-ok : goal.returns-clause-ok
 returns-clause-ok g c = λ r f.
