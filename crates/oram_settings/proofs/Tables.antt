@@ -1,11 +1,11 @@
 -- What is found at a key of a table.
-use Rattle.std.proofs.Common.{◌≡◌, ◌∙◌, ◌⊎◌, ℕ, List, Option, Some, None, true, false, refl, is_some, Result, Ok, Err, codes, arith, sym, subst, inl, inr}
+use Rattle.std.proofs.Common.{◌≡◌, ◌∙◌, ◌⊎◌, ℕ, List, Option, Some, None, true, false, refl, is_some, Result, Ok, Err, codes, ap, arith, sym, subst, inl, inr}
 use Rattle.std.specs.Prelude.{MatchOption, pos}
 use Rattle.toml.specs.Data.{Data, Members, get_member, integer}
 use Rattle.oram_cli.specs.Tables.{Finds, HasNumber, HasText, IsAddress, IsName}
 use Rattle.oram_cli.specs.declared.input.InputFault.{InputFault}
 use Rattle.oram_cli.specs.declared.input.InputFault.TheVariants.{Bad}
-use Rattle.oram_settings.specs.Settings.{DiskValue, HasSealing, IsDisk, IsPlace, IsSocket, OrDefault, sealing_name}
+use Rattle.oram_settings.specs.Settings.{DiskValue, HasSealing, IsDisk, IsPlace, IsSocket, OrDefault, default_leaf_load, sealing_name}
 use Rattle.oram_settings.specs.declared.disk_file.Sealing.{Sealing}
 use Rattle.oram_settings.specs.declared.disk_file.Sealing.TheVariants.{Plain, ChaCha}
 
@@ -26,6 +26,13 @@ one_number t key default x y h k = by_member (get_member key t) h k
     by_member : (o : Option Data) → MatchOption o (x ≡ default) (λ _. o ≡ Some (integer (pos x))) → MatchOption o (y ≡ default) (λ _. o ≡ Some (integer (pos y))) → x ≡ y
     by_member None p q = p ∙ sym q
     by_member (Some d) p q = cc
+
+-- the leaf load whose default goes by the slots
+pub no_load : (t : Members) (e : InputFault) (slots default : ℕ) → OrDefault t (codes "slots") 4 (HasNumber t (codes "slots")) slots → default ≡ default_leaf_load slots
+    → (e ≡ Bad → (x : ℕ) → OrDefault t (codes "leaf_load") default (HasNumber t (codes "leaf_load")) x → ⊥) → e ≡ Bad → (s : DiskValue) → IsDisk t s → ⊥
+no_load t e slots default has is none bad s h =
+    let same : slots ≡ s.slots = one_number t (codes "slots") 4 slots s.slots has h.slots in
+    none bad s.leaf_load (subst (λ (n : ℕ). OrDefault t (codes "leaf_load") n (HasNumber t (codes "leaf_load")) s.leaf_load) (sym (is ∙ ap default_leaf_load same)) h.leaf_load)
 
 -- there is only one text at a key
 one_text : (t : Members) (key x y : List ℕ) → HasText t key x → HasText t key y → x ≡ y

@@ -58,6 +58,17 @@ impl<'a> RowWords<'a> {
         word
     }
 
+    /// Reads the next word if it is this one, and returns whether it was.
+    pub fn takes(&mut self, expected: &str) -> bool {
+        let (word, rest) = self.rest.split_once(' ').unwrap_or((self.rest, ""));
+        if word == expected {
+            self.rest = rest;
+            true
+        } else {
+            false
+        }
+    }
+
     /// Returns all words that are left, as one text.
     pub fn all(&mut self) -> &'a str {
         let rest = self.rest;

@@ -20,7 +20,7 @@ fn formatted_over(alloc: Global, device: Device, link: &mut Direct) -> Result<Ve
     }
 }
 
-/// Formats the device of the next five words on a new server. Returns the server, and the file from which the first process
+/// Formats the device of the next words on a new server. Returns the server, and the file from which the first process
 /// begins.
 pub(crate) fn new_device(
     alloc: Global,

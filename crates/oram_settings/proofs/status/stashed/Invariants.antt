@@ -4,4 +4,4 @@ use Rattle.oram_settings.proofs.status.stashed.Given as goal
 
 -- the blocks in the stashes of the trees so far
 abbrev pub invariant-loop-tree : goal.invariant-loop-tree
-invariant-loop-tree l = l.blocks ≡ spec.stashed_below l.core.state l.tree
+invariant-loop-tree g l = l.blocks ≡ spec.stashed_below l.core.state l.tree
