@@ -9,7 +9,7 @@ Each script at the top of the repository lists what it tries, and a folder here 
     ./trial_formats   formats/    what a disk's two sides keep, read as docs/formats.md says
     ./trial_memory    memory/     programs whose allocations are refused
     ./trial_readme    readme/     the commands of the README, and the units of contrib/systemd
-    ./trial_rows      rows/       the built programs on the rows of the folder `rows`
+    ./trial_rows      rows/       the row programs on their rows, and the built programs on the rows of the folder `rows`
     ./trial_volume    volume/     a host whose file lies on a replicated volume
     ./trial_edits     edits/      the must-fail edits, which the prover has to refuse
     ./measure         measuring/  how long a disk takes over a line with a delay and a rate; it judges nothing
@@ -17,6 +17,7 @@ Each script at the top of the repository lists what it tries, and a folder here 
 What several of them use is in the modules of this folder:
 
     programs          where the built programs are, and whether they are up to date
+    unproved          how a program is built without proofs
     trial, tally      what the parts of one trial share; the counts of what held and what didn't
     processes, ports  how processes are started and how they end; free ports
     connections, relay  connections and frames; what is between a host and its clients, and cuts their connections
