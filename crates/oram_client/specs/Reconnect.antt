@@ -53,9 +53,10 @@ first_pause = 100
 abbrev pub most_pause : ℕ
 most_pause = 5000
 
--- how long a try may take, given the reconnect timeout and the time that is left of it
+-- how long a try may take, given the reconnect timeout and the time that is left of it; a batch over an open connection may take as
+-- long as the reconnect timeout, and 20 seconds at least
 abbrev pub limits : ℕ → ℕ → Limits
-limits reconnect_timeout left = record { opening = max left 1; silence = max 1000 (min reconnect_timeout 60000) }
+limits reconnect_timeout left = record { opening = max left 1; silence = max 1000 (min reconnect_timeout 60000); batch = max reconnect_timeout 20000 }
 
 -- the time between two readings of the clock, or 0 if one of them failed
 abbrev pub elapsed : Option ℕ → Option ℕ → ℕ

@@ -114,9 +114,11 @@ impl From<SocketFault> for Trouble {
 pub struct Limits {
     /// To accept a connection and answer the greeting.
     pub opening: u64,
-    /// To take or give the next bytes over an open connection. A batch over it has no other limit: a host that goes on
-    /// taking or giving bytes, however slowly, isn't silent.
+    /// To take or give the next bytes over an open connection.
     pub silence: u64,
+    /// To take all messages of a batch over an open connection and to answer them. So a host that gives a byte now and then, and
+    /// is never silent for long, holds a batch no longer than that.
+    pub batch: u64,
 }
 
 /// Opens connections to a host, and has the clock that measures the waiting.

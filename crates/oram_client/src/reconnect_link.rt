@@ -26,6 +26,10 @@ const LEAST_SILENCE: u64 = 1_000;
 /// The longest time for which a host may be silent over a connection, in milliseconds.
 const MOST_SILENCE: u64 = 60_000;
 
+/// The shortest time that a host has for a batch, in milliseconds. A batch of many STOREs takes seconds over a slow line, also if
+/// the reconnect timeout is shorter.
+const LEAST_BATCH: u64 = 20_000;
+
 /// Reports each trouble to the watch only once until the host has answered again.
 #[derive(Debug, Drop)]
 struct TroubleReporter<W> {
@@ -239,6 +243,7 @@ impl<D: Dial, W: HostWatch> ReconnectLink<D, W> {
                 let limits = Limits {
                     opening: left.max(1),
                     silence: self.reconnect_timeout.clamp(LEAST_SILENCE, MOST_SILENCE),
+                    batch: self.reconnect_timeout.max(LEAST_BATCH),
                 };
                 self.dialer.dial(alloc, limits)
             }

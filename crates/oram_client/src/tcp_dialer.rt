@@ -137,7 +137,7 @@ impl<R: Net + Clock + Copy> Dial for TcpDialer<R> {
         match greet(alloc, reader, writer, self.rt, left, &self.identity) {
             Ok(mut line) => {
                 limit_silence(&both, Duration::from_millis(limits.silence))?;
-                line.lift_limit();
+                line.set_limit(limits.batch);
                 Ok(line)
             }
             Err(trouble) => Err(trouble),

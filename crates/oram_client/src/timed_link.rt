@@ -1,4 +1,4 @@
-//! A connection whose greeting has a time limit.
+//! A connection whose batches have a time limit.
 ghost use Rattle.std.specs.Prelude.{◌≡◌, IfOk, IfErr};
 ghost use Rattle.oram_client.specs.StreamBatches.{connection};
 
@@ -70,17 +70,16 @@ impl<S: Write, C: Clock> Write for Timed<S, C> {
     }
 }
 
-/// Batches over both halves of a connection. Each batch has a time limit, until [`TimedLink::lift_limit`] lifts it.
+/// Batches over both halves of a connection. Each batch has a time limit, by the clock from its beginning.
 ///
-/// The greeting is such a batch: a host that sends its answer byte by byte can't hold it for longer than the limit, except for
-/// the time that it may be silent before the last byte. Once the limit is lifted, a batch takes as long as bytes go on moving,
-/// since it may be long and the connection to the host slow. Then only silence ends it: the sockets' own timeouts say for how
-/// long a read or a write may move no byte.
+/// So a host that sends its answers byte by byte can't hold a batch for longer than the limit, except for the time that it may be
+/// silent before the last byte: the sockets' own timeouts say for how long a read or a write may move no byte. The greeting is the
+/// first batch. After it, [`TimedLink::set_limit`] gives the others more time, since they are longer.
 #[derive(Drop)]
 pub struct TimedLink<S, C> {
     line: StreamBatches<Timed<S, C>, Timed<S, C>>,
     clock: C,
-    /// How long a batch may take, in milliseconds. `u64::MAX` means that there is no limit.
+    /// How long a batch may take, in milliseconds.
     limit: u64,
     ends: Rc<Cell<u64>>,
 }
@@ -94,8 +93,8 @@ impl<S, C> Model for TimedLink<S, C> {
 }
 
 impl<S, C: Copy> TimedLink<S, C> {
-    /// Makes a link over the two halves of a connection. Each batch may take `limit` milliseconds, and fails after that,
-    /// until the limit is lifted. Fails if memory runs out.
+    /// Makes a link over the two halves of a connection. Each batch may take `limit` milliseconds, and fails after that.
+    /// Fails if memory runs out.
     pub fn new(
         alloc: Global,
         reader: S,
@@ -129,11 +128,11 @@ impl<S, C: Copy> TimedLink<S, C> {
         })
     }
 
-    /// Lets a batch take as long as bytes go on moving.
-    pub fn lift_limit(&mut self)
+    /// Lets each batch from now on take `limit` milliseconds.
+    pub fn set_limit(&mut self, limit: u64)
         ensures { self.new ≡ self.old }
     {
-        self.limit = u64::MAX;
+        self.limit = limit;
     }
 }
 
