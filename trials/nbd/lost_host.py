@@ -4,9 +4,12 @@ import socket
 import threading
 import time
 
+from trials.bucket_messages import FETCH, is_a
+from trials.connections import connect, frame_of, read_frame, write_frame
 from trials.disk import Disk
 from trials.disk_array import DiskArray, ask_at_random, check_and_end, check_disk, lose_write, make_requests
 from trials.processes import end_of
+from trials.nbd.tampering import IDENTITY_TREE
 from trials.statuses import OUT_OF_REACH
 
 # The seconds by which the program may end later than its reconnect timeout.
@@ -121,3 +124,53 @@ def try_unanswered_formatting(trial):
         check_that_it_gives_up(trial, disk, "format", deaf, timeout, (f"{what}: its end", f"{what}: its time"))
         trial.check(f"{what}: no state", not disk.state_file.exists())
         deaf.end()
+
+
+class DrippingHost(threading.Thread):
+    """Leads to a host, and passes on what both say, but for the answer to a FETCH of a path: of that it gives one byte every half second, so
+    that it is never silent for long."""
+
+    PAUSE = 0.5
+
+    def __init__(self, host):
+        super().__init__(daemon=True)
+        self.listener = socket.create_server(("127.0.0.1", 0))
+        self.address, self.host, self.given, self.ended = f"127.0.0.1:{self.listener.getsockname()[1]}", host, 0, threading.Event()
+        self.start()
+
+    def run(self):
+        while not self.ended.is_set():
+            near, _ = self.listener.accept()
+            far = connect(self.host.port, self.host.process)
+            while (body := read_frame(near)) is not None and write_frame(far, body):
+                answer = read_frame(far)
+                if is_a(FETCH, body) and body[1] != IDENTITY_TREE:
+                    self.drip(near, frame_of(answer))
+                    break
+                write_frame(near, answer)
+            near.close()
+            far.close()
+
+    def drip(self, stream, whole):
+        """Gives one byte after the other, until the other end is gone."""
+        for byte in whole:
+            try:
+                stream.sendall(bytes([byte]))
+            except OSError:
+                return
+            self.given += 1
+            self.ended.wait(self.PAUSE)
+
+
+def try_dripping(trial):
+    """A host that goes on giving a byte now and then doesn't hold a batch for longer than the reconnect timeout, or 20 seconds if that is
+    more."""
+    disk = Disk(trial, "dripping", table=16).formatted()
+    host = DrippingHost(disk.host)
+    disk.set(host=host.address, reconnect_timeout=2)
+    end = end_of(disk.start("serve"))
+    host.ended.set()
+    seen = (end.status, end.err.decode().splitlines()[-1:])
+    trial.check("a host that gives a byte now and then: its end", seen == (OUT_OF_REACH, [unreachable(host.address)]), end)
+    trial.check("a host that gives a byte now and then: it gave some", host.given > 2, host.given)
+    disk.host.stop()
