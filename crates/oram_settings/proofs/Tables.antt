@@ -28,11 +28,11 @@ one_number t key default x y h k = by_member (get_member key t) h k
     by_member (Some d) p q = cc
 
 -- the leaf load whose default goes by the slots
-pub no_load : (t : Members) (e : InputFault) (slots default : ℕ) → OrDefault t (codes "slots") 4 (HasNumber t (codes "slots")) slots → default ≡ default_leaf_load slots
-    → (e ≡ Bad → (x : ℕ) → OrDefault t (codes "leaf_load") default (HasNumber t (codes "leaf_load")) x → ⊥) → e ≡ Bad → (s : DiskValue) → IsDisk t s → ⊥
-no_load t e slots default has is none bad s h =
+pub no_load : (t : Members) (e : InputFault) (slots : ℕ) → OrDefault t (codes "slots") 4 (HasNumber t (codes "slots")) slots
+    → (e ≡ Bad → (x : ℕ) → OrDefault t (codes "leaf_load") (default_leaf_load slots) (HasNumber t (codes "leaf_load")) x → ⊥) → e ≡ Bad → (s : DiskValue) → IsDisk t s → ⊥
+no_load t e slots has none bad s h =
     let same : slots ≡ s.slots = one_number t (codes "slots") 4 slots s.slots has h.slots in
-    none bad s.leaf_load (subst (λ (n : ℕ). OrDefault t (codes "leaf_load") n (HasNumber t (codes "leaf_load")) s.leaf_load) (sym (is ∙ ap default_leaf_load same)) h.leaf_load)
+    none bad s.leaf_load (subst (λ (n : ℕ). OrDefault t (codes "leaf_load") n (HasNumber t (codes "leaf_load")) s.leaf_load) (ap default_leaf_load (sym same)) h.leaf_load)
 
 -- there is only one text at a key
 one_text : (t : Members) (key x y : List ℕ) → HasText t key x → HasText t key y → x ≡ y

@@ -1,6 +1,6 @@
 //! The settings file of a disk.
 
-ghost use Rattle.std.specs.Prelude.{◌≡◌, ◌≢◌, ◌↔◌, IsTrue, None, option_and_then, IfOk, IfSome, IsErrOf, string_bytes};
+ghost use Rattle.std.specs.Prelude.{◌≡◌, ◌≢◌, ◌↔◌, IsTrue, None, option_and_then, IfOk, IfSome, IsErrOf, codes, string_bytes};
 ghost use Rattle.toml.specs.Data.{as_bool, get_member};
 ghost use Rattle.toml.specs.View.{table_view};
 ghost use Rattle.oram_cli.specs.Tables.{Finds, HasNumber, HasText, IsCount, IsName};
@@ -208,6 +208,13 @@ fn default_leaf_load(slots: u64) -> u64
     if 4 <= slots { DEFAULT_LEAF_LOAD } else { 1 }
 }
 
+/// Returns the leaf load, or its default for buckets of so many slots.
+fn leaf_load_or(table: &Table, slots: u64) -> Result<u64, InputFault>
+    ensures { Finds (λ n. n) (OrDefault (table_view table.now) (codes "leaf_load") (default_leaf_load slots) (HasNumber (table_view table.now) (codes "leaf_load"))) result }
+{
+    number_or(table, "leaf_load", default_leaf_load(slots))
+}
+
 fn disk_in(alloc: Global, document: &Table) -> Result<DiskSettings, InputFault>
     ensures { Finds settings_value (IsDisk (table_view document.now)) result }
 {
@@ -233,7 +240,7 @@ fn disk_in(alloc: Global, document: &Table) -> Result<DiskSettings, InputFault>
     let size = number_at(document, "size")?;
     let block = number_or(document, "block", DEFAULT_BLOCK)?;
     let slots = number_or(document, "slots", DEFAULT_SLOTS)?;
-    let leaf_load = number_or(document, "leaf_load", default_leaf_load(slots))?;
+    let leaf_load = leaf_load_or(document, slots)?;
     let table = number_or(document, "table", DEFAULT_TABLE)?;
     let sealer = sealing_or(document, "sealer", Sealing::ChaCha)?;
     let key = key_at(document, "key")?;

@@ -3,6 +3,7 @@
 mod cores;
 mod disks;
 mod hashes;
+mod stashes;
 mod stores;
 
 use std::{env, io};
@@ -10,6 +11,7 @@ use std::{env, io};
 const USAGE: &str = "bench hash
 bench core
 bench disk FOLDER
+bench stash ACCESSES
 bench store run FILE
 bench store fill FILE DEPTH
 bench store open FILE
@@ -20,6 +22,7 @@ fn run(rt: &HostRuntime, words: [Option<&str>; 5]) -> io::Result<()> {
     match words {
         [Some("hash"), None, ..] => hashes::run(rt),
         [Some("core"), None, ..] => cores::run(rt),
+        [Some("stash"), Some(accesses), None, ..] => stashes::run(rt, accesses),
         [Some("disk"), Some(folder), None, ..] => disks::measure(rt, folder),
         [Some("store"), Some("run"), Some(file), None, _] => stores::measure(rt, file),
         [Some("store"), Some("open"), Some(file), None, _] => stores::reopen(rt, file),

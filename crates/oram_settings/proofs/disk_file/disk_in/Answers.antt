@@ -20,7 +20,7 @@ returns-in_err-slots c =
 pub returns-in_err-leaf_load : goal.returns-in_err-leaf_load
 returns-in_err-leaf_load c =
     let p = err_from_is_err_and c.from_residual-in_err-leaf_load.result c.from_residual-in_err-leaf_load.ensures.1 in
-    rw (p.1, p.2) (no_load _ _ _ _ c.in_ok-slots.ensures c.default_leaf_load.ensures c.in_err-leaf_load.ensures)
+    rw (p.1, p.2) (no_load _ _ _ c.in_ok-slots.ensures c.in_err-leaf_load.ensures)
 
 pub returns-in_err-table : goal.returns-in_err-table
 returns-in_err-table c =
