@@ -8,8 +8,7 @@ use oram_host::Server;
 use rand_chacha::ChaCha20Rng;
 use rand_core::{Rng, SeedableRng};
 use std::alloc::{AllocError, Global};
-use std::fmt;
-use std::io;
+use std::{fmt, io};
 
 /// The depth of each tree. The blocks are as many as its leaves have room for, so no tree is fuller.
 const DEPTH: u32 = 10;
@@ -173,8 +172,10 @@ impl Bench {
     fn answer(&mut self, alloc: Global, message: &[u8]) -> Result<Event, AllocError> {
         let answer = self.server.answer(alloc, message)?;
         if message.first() == Some(&FETCH) {
-            let held = stashed(&self.core)
-                .saturating_add(blocks_in(&answer, self.core.device().slots()));
+            let held = stashed(&self.core).saturating_add(blocks_in(
+                &answer,
+                self.core.device().slots(),
+            ));
             self.tally.most_held = self.tally.most_held.max(held);
         }
         Ok(Event::Answer(Bytes::from_vec(answer)))
@@ -195,7 +196,13 @@ impl Bench {
     }
 
     /// Accesses each block once, so that all are in the tree or the stash, and then makes the accesses that are counted.
-    fn run(&mut self, alloc: Global, order: Order, blocks: u32, accesses: u64) -> Result<(), AllocError> {
+    fn run(
+        &mut self,
+        alloc: Global,
+        order: Order,
+        blocks: u32,
+        accesses: u64,
+    ) -> Result<(), AllocError> {
         for address in 0..blocks {
             self.access(alloc, address)?;
         }
@@ -229,17 +236,10 @@ fn report(rt: &HostRuntime, slots: u64, load: u64, order: Order, tally: &Tally) 
 }
 
 /// Makes accesses to a device with these slots and this leaf load, and prints what they left in its stash.
-fn measure(
-    rt: &HostRuntime,
-    slots: u64,
-    load: u64,
-    order: Order,
-    accesses: u64,
-) -> io::Result<()> {
+fn measure(rt: &HostRuntime, slots: u64, load: u64, order: Order, accesses: u64) -> io::Result<()> {
     let alloc = rt.alloc();
     let blocks = load << DEPTH;
-    let Ok(device) = Device::packed(blocks, BLOCK_BYTES as u64, slots, blocks, 1 << 40, load)
-    else {
+    let Ok(device) = Device::packed(blocks, BLOCK_BYTES as u64, slots, blocks, 1 << 40, load) else {
         // Buckets with so few slots have no room for this leaf load.
         return Ok(());
     };
