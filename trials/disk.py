@@ -11,6 +11,7 @@ from trials.ports import free_port
 from trials.processes import LONGEST_WAIT, begin, end_of
 from trials.relay import Relay
 from trials.settings import put_values
+from trials.statuses import DISK_FAILED
 
 # The blocks of a disk have this number of bytes.
 BLOCK = 4096
@@ -110,10 +111,12 @@ class Disk:
         return nbd
 
     def status(self):
-        """What `status` prints, by the words before the colons."""
+        """What `status` prints, by the words before the colons. It ends as a disk that is sound, or as one that has failed."""
         end = end_of(self.start("status"))
-        self.trial.check(f"{self.name}: status", (end.status, end.err) == (0, b""), end)
-        return dict(line.split(": ", 1) for line in end.out.decode().splitlines())
+        said = dict(line.split(": ", 1) for line in end.out.decode().splitlines())
+        wanted = (0, 0) if said.get("state") == "it is sound" else (DISK_FAILED, 1)
+        self.trial.check(f"{self.name}: status", (end.status, end.err.count(b"\n")) == wanted, end)
+        return said
 
     def address(self):
         """The address by which programs of others reach it."""

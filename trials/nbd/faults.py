@@ -8,7 +8,7 @@ from trials.nbd.formatting import check_that_host_has_a_disk
 from trials.nbd.lost_host import unreachable
 from trials.ports import free_port
 from trials.processes import LONGEST_WAIT, end_of, start
-from trials.statuses import BAD_FILE, BAD_WORDS, NO_STATE, OUT_OF_REACH
+from trials.statuses import BAD_FILE, BAD_WORDS, NO_STATE, NO_STATE_FILE, OUT_OF_REACH
 
 
 def try_faults(trial):
@@ -49,9 +49,9 @@ def try_unformatted(trial, disk):
     """Commands for a disk without settings, and for one that isn't formatted."""
     line = "oramdisk: none.toml: no such file or folder: see that its name is right"
     trial.ends("no settings", trial.start("format", "none.toml"), BAD_FILE, line)
-    unformatted = "oramdisk: the disk isn't formatted yet: start its host, and then say oramdisk format faults/disk.toml"
-    for command in ("serve", "status"):
-        trial.ends(f"{command}: no state", disk.start(command), BAD_FILE, unformatted)
+    how = "see that its place is mounted; if the disk isn't formatted yet, start its host, and then say oramdisk format"
+    for command in ("serve", "status", "retry"):
+        trial.ends(f"{command}: no state", disk.start(command), NO_STATE_FILE, f"oramdisk: there is no state faults/disk.state: {how}")
 
 
 def try_formattings(trial, disk):

@@ -4,6 +4,7 @@ import signal
 
 from trials.disk import SMALL, Disk
 from trials.disk_array import DiskArray, check_disk, make_requests
+from trials.processes import end_of
 from trials.statuses import EXISTS
 
 
@@ -11,7 +12,7 @@ def try_life(trial):
     """A disk is made, formatted, looked at, served, ended and served again."""
     disk = Disk(trial, "life", table=16).formatted()
     status = disk.status()
-    wanted = {"size": f"{SMALL} bytes, 63 blocks of 4096", "trees": "2", "waiting": "0", "state": "it is sound"}
+    wanted = {"used": "by nobody", "size": f"{SMALL} bytes, 63 blocks of 4096", "trees": "2", "waiting": "0", "state": "it is sound"}
     trial.check("life: how it stands", wanted.items() <= status.items(), status)
     mode = disk.state_file.stat().st_mode & 0o777
     trial.check("life: the state is its owner's", mode == 0o600, oct(mode))
@@ -19,7 +20,11 @@ def try_life(trial):
     trial.ends("life: format again", disk.format(), EXISTS, f"oramdisk: {line}")
     array = DiskArray()
     for _ in range(3):
+        # Whoever only looks at the disk doesn't keep it from being served.
+        looks = [disk.start("status") for _ in range(4)]
         client = disk.serve().client()
+        trial.check("life: its status beside its start", all(end_of(look).status == 0 for look in looks))
+        trial.check("life: it is used", disk.status().get("used") == "by another process", disk.status())
         check_disk(trial, "life: what it holds", client, array)
         make_requests(trial, client, array, 20)
         client.close()

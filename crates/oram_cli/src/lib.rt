@@ -24,7 +24,7 @@ pub use files::{
 };
 pub use hosts::HostFault;
 pub use input::InputFault;
-pub use locks::{LockFault, StateLock, lock_state};
+pub use locks::{LockFault, StateLock, is_locked, lock_state};
 pub use sockets::{SocketFault, buffered, connect, connect_within, limit_silence, listen};
 pub use tables::{
     address_at, begins_number, count_at, has_key, has_only, key_at, name_at, number_at, sealer_in,

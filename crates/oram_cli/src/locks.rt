@@ -7,9 +7,17 @@ use crate::file_faults::{FileFault, call_fault};
 use crate::files::OWNERS_ALONE;
 use std::alloc::Global;
 use std::fs::{File, OpenOptions, TryLockError};
-use std::io;
+use std::io::ErrorKind;
 use std::os::unix::fs::OpenOptionsExt;
+use std::time::Duration;
+use std::{io, thread};
 use thiserror::Error;
+
+/// How often a lock is tried that another process holds, and the pause between two tries, in milliseconds. A process that only looks
+/// whether the lock is held holds it for a moment itself.
+const TRIES: u32 = 5;
+
+const PAUSE: u64 = 20;
 
 /// Why a process can't lock a state.
 #[derive(Debug, PartialEq, Eq, Drop, Error)]
@@ -54,8 +62,35 @@ fn open_lock(rt: &HostRuntime, name: &str) -> io::Result<File> {
     options.open(rt, name)
 }
 
-/// Takes the lock of the state in the file `state`, which need not exist. Fails at once if another
-/// process holds it.
+/// Tries to lock a file as its only holder.
+fn try_lock(rt: &HostRuntime, file: &File) -> Result<(), TryLockError> {
+    for _ in 1..TRIES {
+        match file.try_lock() {
+            Err(TryLockError::WouldBlock) => thread::sleep(rt, Duration::from_millis(PAUSE)),
+            tried => return tried,
+        }
+    }
+    file.try_lock()
+}
+
+/// Returns whether another process holds the lock of the state in the file `state`. The lock file isn't made if it is missing.
+pub fn is_locked(rt: &HostRuntime, state: &str) -> Result<bool, FileFault> {
+    let alloc = rt.alloc();
+    let name = lock_name(alloc, state)?;
+    let file = match File::open(rt, name.as_str()) {
+        Ok(file) => file,
+        Err(error) if error.kind() == ErrorKind::NotFound => return Ok(false),
+        Err(error) => return Err(call_fault(alloc, name.as_str(), &error)),
+    };
+    match file.try_lock_shared() {
+        Ok(()) => Ok(false),
+        Err(TryLockError::WouldBlock) => Ok(true),
+        Err(TryLockError::Error(error)) => Err(call_fault(alloc, name.as_str(), &error)),
+    }
+}
+
+/// Takes the lock of the state in the file `state`, which need not exist. Fails if another process holds it for longer
+/// than a moment.
 pub fn lock_state(rt: &HostRuntime, state: &str) -> Result<StateLock, LockFault> {
     let alloc = rt.alloc();
     let name = lock_name(alloc, state)?;
@@ -63,7 +98,7 @@ pub fn lock_state(rt: &HostRuntime, state: &str) -> Result<StateLock, LockFault>
         Ok(file) => file,
         Err(error) => return Err(call_fault(alloc, name.as_str(), &error).into()),
     };
-    match file.try_lock() {
+    match try_lock(rt, &file) {
         Ok(()) => Ok(StateLock { _file: file }),
         Err(TryLockError::WouldBlock) => Err(LockFault::InUse),
         Err(TryLockError::Error(error)) => Err(call_fault(alloc, name.as_str(), &error).into()),

@@ -22,12 +22,12 @@ abbrev pub IsMissing : FileFault → Type 0
 IsMissing (file.File name reason.Missing) = ⊤
 IsMissing any_other = ⊥
 
--- The fault for a kept file that can't be read: the file's own; or if the file doesn't exist, that the disk of these settings
--- isn't formatted yet, or why the names of the file couldn't be looked up.
-abbrev pub IsUnreadFor : FileFault → List ℕ → List ℕ → Fault → Type 0
-IsUnreadFor why state settings fault =
+-- The fault for the kept file `state` that can't be read: the file's own; or if the file doesn't exist, that there is no such
+-- state, or why the names of the file couldn't be looked up.
+abbrev pub IsUnreadFor : FileFault → List ℕ → Fault → Type 0
+IsUnreadFor why state fault =
     (fault ≡ file_fault why)
-    ⊎ (IsMissing why × (IsAbout kind.Unformatted settings fault ⊎ ((other : FileFault) × IsNotLookedUp state other × (fault ≡ file_fault other))))
+    ⊎ (IsMissing why × (IsAbout kind.Unformatted state fault ⊎ ((other : FileFault) × IsNotLookedUp state other × (fault ≡ file_fault other))))
 
 -- The fault for bytes of the file `name` that are no kept file: they have an older format, or are of no disk at all.
 abbrev pub IsNotKeptFor : List ℕ → List ℕ → Fault → Type 0

@@ -76,17 +76,15 @@ fn is_missing(fault: &FileFault) -> bool
     matches!(fault, FileFault::File(_, FileReason::Missing))
 }
 
-/// Returns the bytes in `read`, the result of reading the kept file `state` of the disk whose settings are in the file
-/// `settings`. Fails with [`FaultKind::Unformatted`] if there is no kept file, and with the system's reason if that can't be
+/// Returns the bytes in `read`, the result of reading the kept file `state` of a disk. Fails with [`FaultKind::Unformatted`] if there is no kept file, and with the system's reason if that can't be
 /// found out.
 pub fn state_bytes<R: Files + AllocGlobal>(
     rt: &R,
     read: Result<Vec<u8>, FileFault>,
     state: &str,
-    settings: &str,
 ) -> Result<Vec<u8>, Fault>
     ensures ok { IfOk result (λ bytes. read ≡ Ok bytes) }
-    ensures fault { (why : FileFault) → read ≡ Err why → IfErr result (λ fault. IsUnreadFor why state.now settings.now fault) }
+    ensures fault { (why : FileFault) → read ≡ Err why → IfErr result (λ fault. IsUnreadFor why state.now fault) }
 {
     let fault = match read {
         Ok(bytes) => return Ok(bytes),
@@ -95,7 +93,7 @@ pub fn state_bytes<R: Files + AllocGlobal>(
     let alloc = rt.alloc();
     // A link has the file's name even if what it leads to is missing, for example because its disk isn't mounted.
     if is_missing(&fault) && kept_name(rt, state)?.is_none() {
-        Err(named(alloc, FaultKind::Unformatted, settings))
+        Err(named(alloc, FaultKind::Unformatted, state))
     } else {
         Err(fault.into())
     }

@@ -1,9 +1,9 @@
 //! Reports the status of a disk, and lets a failed one be tried again.
 
-use crate::disk_files::{disk_in, kept_in, keys_in, process_for, state_bytes, take_lock};
+use crate::disk_files::{disk_in, kept_in, keys_in, named, process_for, state_bytes, take_lock};
 use crate::failures::{forget_failure, kept_failure};
 use oram_bucket::{ChaChaSeal, PlainSeal};
-use oram_cli::call_fault;
+use oram_cli::{call_fault, is_locked};
 use oram_client::{SealerKind, kept_bytes, kept_name};
 use oram_disk_host::{Fault, FaultKind};
 use oram_settings::{Status, report, status_of};
@@ -22,31 +22,53 @@ fn with_failure(alloc: Global, report: &str, why: &str) -> Result<String, AllocE
     format!(in alloc; "{front}state: {why}")
 }
 
-/// Prints the report of a disk whose core has this status and whose state is in the file `state`.
-fn print_report(rt: &HostRuntime, state: &str, status: &Status) -> Result<(), Fault> {
-    let alloc = rt.alloc();
+/// Returns the report of a disk whose core has this status: whether another process uses it, and then what is kept.
+fn report_of(
+    alloc: Global,
+    status: &Status,
+    is_used: bool,
+    failure: Option<&[u8]>,
+) -> Result<String, AllocError> {
     let text = report(alloc, status)?;
-    let text = match kept_failure(rt, state)? {
+    let text = match failure {
         Some(why) => with_failure(
             alloc,
             text.as_str(),
-            str::from_utf8(&why).unwrap_or(UNREADABLE),
+            str::from_utf8(why).unwrap_or(UNREADABLE),
         )?,
         None => text,
     };
-    match rt.print(text.as_str()) {
-        Ok(()) => Ok(()),
-        Err(error) => Err(call_fault(alloc, "standard output", &error).into()),
-    }
+    let using = if is_used {
+        "by another process"
+    } else {
+        "by nobody"
+    };
+    format!(in alloc; "used: {using}\n{text}")
 }
 
-/// Prints the report of the disk whose settings are in the file `name`, from its kept state. It doesn't ask the host. Fails
-/// with the same faults as a process that serves the disk, if the settings or the key aren't those of the disk.
+/// Prints the report of a disk whose core has this status and whose state is in the file `state`. Fails with
+/// [`FaultKind::Failed`] after that if the disk has failed.
+fn print_report(rt: &HostRuntime, state: &str, status: &Status) -> Result<(), Fault> {
+    let alloc = rt.alloc();
+    let failure = kept_failure(rt, state)?;
+    let text = report_of(alloc, status, is_locked(rt, state)?, failure.as_deref())?;
+    if let Err(error) = rt.print(text.as_str()) {
+        return Err(call_fault(alloc, "standard output", &error).into());
+    }
+    if failure.is_some() || status.failure.is_some() {
+        return Err(named(alloc, FaultKind::Failed, state));
+    }
+    Ok(())
+}
+
+/// Prints the report of the disk whose settings are in the file `name`, from its kept state, and whether a process uses it now.
+/// It doesn't ask the host. Fails with the same faults as a process that serves the disk, if the settings or the key aren't
+/// those of the disk or if the disk has failed.
 pub fn print_status(rt: &HostRuntime, name: String) -> Result<(), Fault> {
     let alloc = rt.alloc();
     let (settings, _) = disk_in(rt, name.as_str())?;
     let state = settings.state.as_str();
-    let file = state_bytes(rt, kept_bytes(rt, state), state, name.as_str())?;
+    let file = state_bytes(rt, kept_bytes(rt, state), state)?;
     let kept = kept_in(alloc, file.as_slice(), state)?;
     let keys = keys_in(alloc, &settings, &kept.head, name.as_str())?;
     let status = match kept.head.sealer {
@@ -76,6 +98,6 @@ pub fn retry(rt: &HostRuntime, name: String) -> Result<(), Fault> {
     }
     match kept_name(rt, state.as_str())? {
         Some(_) => Err(Fault::About(FaultKind::NotFailed, state)),
-        None => Err(Fault::About(FaultKind::Unformatted, name)),
+        None => Err(Fault::About(FaultKind::Unformatted, state)),
     }
 }

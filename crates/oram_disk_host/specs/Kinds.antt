@@ -20,7 +20,7 @@ changed fixed.Sealer = codes "oramdisk: sealer in "
 
 -- the text before the name
 abbrev pub front : FaultKind → List ℕ
-front Unformatted = codes "oramdisk: the disk isn't formatted yet: start its host, and then say oramdisk format "
+front Unformatted = codes "oramdisk: there is no state "
 front (File reason.Other) = codes "oramdisk: can't open, read or write "
 front Address = codes "oramdisk: can't listen at "
 front WithoutLog = codes "oramdisk: the log of "
@@ -65,7 +65,7 @@ host_rest host.Refused = codes " doesn't take this disk: name a new file at the 
 abbrev pub rest : FaultKind → List ℕ
 rest CommandLine = codes "\n"
 rest Settings = codes "\n"
-rest Unformatted = codes "\n"
+rest Unformatted = codes ": see that its place is mounted; if the disk isn't formatted yet, start its host, and then say oramdisk format\n"
 rest (File why) = file_rest why
 rest Address = codes ": see that no other program listens there, that it is a place of this machine, and that you may use it\n"
 rest NotABucketFile = codes " isn't a file of buckets, and is left as it is: name another file\n"
@@ -105,7 +105,7 @@ abbrev pub status : FaultKind → ℕ
 status CommandLine = 2
 status Settings = 2
 status (File why) = 4
-status Unformatted = 4
+status Unformatted = 28
 status Address = 5
 status NotABucketFile = 6
 status Damaged = 7

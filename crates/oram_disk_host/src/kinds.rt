@@ -17,7 +17,7 @@ pub enum FaultKind {
     Settings,
     /// The file or folder of this name can't be opened, read or written.
     File(FileReason),
-    /// The disk whose settings are in the file of this name isn't formatted yet.
+    /// There is no file of this name with the state of a disk, so the disk may not be formatted yet.
     Unformatted,
     /// The program can't listen at this address.
     Address,
@@ -122,8 +122,7 @@ impl FaultKind {
         ensures { result.now ≡ spec.front self }
     {
         match self {
-            FaultKind::Unformatted =>
-                "oramdisk: the disk isn't formatted yet: start its host, and then say oramdisk format ",
+            FaultKind::Unformatted => "oramdisk: there is no state ",
             FaultKind::File(FileReason::Other) => "oramdisk: can't open, read or write ",
             FaultKind::Address => "oramdisk: can't listen at ",
             FaultKind::WithoutLog | FaultKind::LogOfAnotherFile => "oramdisk: the log of ",
@@ -149,7 +148,9 @@ impl FaultKind {
         ensures { result.now ≡ spec.rest self }
     {
         match self {
-            FaultKind::CommandLine | FaultKind::Settings | FaultKind::Unformatted => "\n",
+            FaultKind::CommandLine | FaultKind::Settings => "\n",
+            FaultKind::Unformatted =>
+                ": see that its place is mounted; if the disk isn't formatted yet, start its host, and then say oramdisk format\n",
             FaultKind::File(reason) => file_rest(reason),
             FaultKind::Address =>
                 ": see that no other program listens there, that it is a place of this machine, and that you may use it\n",
@@ -208,7 +209,7 @@ impl FaultKind {
     {
         match self {
             FaultKind::CommandLine | FaultKind::Settings => 2,
-            FaultKind::File(_) | FaultKind::Unformatted => 4,
+            FaultKind::File(_) => 4,
             FaultKind::Address => 5,
             FaultKind::NotABucketFile => 6,
             FaultKind::Damaged => 7,
@@ -231,6 +232,7 @@ impl FaultKind {
             FaultKind::OlderFile | FaultKind::NewerFile => 25,
             FaultKind::WithoutLog | FaultKind::LogOfAnotherFile | FaultKind::LogWithoutFile => 26,
             FaultKind::ReplacedState => 27,
+            FaultKind::Unformatted => 28,
         }
     }
 }

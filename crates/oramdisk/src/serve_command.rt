@@ -428,7 +428,7 @@ fn serve_kept(
     let alloc = rt.alloc();
     let state = settings.state.as_str();
     let mut place = FilePlace::new(rt, alloc, state)?;
-    let file = state_bytes(rt, place.read(), state, name.as_str())?;
+    let file = state_bytes(rt, place.read(), state)?;
     let kept = kept_in(alloc, file.as_slice(), state)?;
     let keys = keys_in(alloc, &settings, &kept.head, name.as_str())?;
     let keeper = FileKeeper::new(place, kept.head, settings.sync);
