@@ -1,4 +1,6 @@
-"""What the host sees of a disk's blocks."""
+"""What the host sees of a disk's blocks, and the keys on which that rests."""
+
+import tomllib
 
 from trials.disk import BLOCK, Disk
 from trials.nbd_client import WRITE
@@ -15,3 +17,22 @@ def try_sealed(trial):
         disk.end(client)
         seen = any(written[1000:1100] in whole for whole in disk.host_files().values())
         trial.check(f"{sealer}: what the host sees", seen == (sealer == "plain"), seen)
+
+
+def try_keys(trial):
+    """Each new disk has a key of its own, and each formatting a salt of its own, from which the other keys are derived."""
+    disks = [Disk(trial, f"keys-{number}") for number in range(3)]
+    keys = {tomllib.loads(disk.settings_file.read_text())["key"] for disk in disks}
+    trial.check("keys: each disk has one of its own", len(keys) == len(disks), keys)
+    trial.check("keys: they look random", all(len(set(bytes.fromhex(key))) > 16 for key in keys), keys)
+    # The second disk gets the key of the first one, so only the salts tell them apart.
+    disks[1].set(key=min(keys))
+    disks[0].set(key=min(keys))
+    for disk in disks:
+        disk.formatted()
+        disk.host.stop()
+    heads = [disk.state_file.read_bytes()[8:72] for disk in disks]
+    salts, checks = {head[:32] for head in heads}, {head[32:] for head in heads}
+    trial.check("keys: each formatting has a salt of its own", len(salts) == len(disks), heads)
+    trial.check("keys: the salts look random", all(len(set(salt)) > 16 for salt in salts), heads)
+    trial.check("keys: what is derived from one key and two salts differs", len(checks) == len(disks), heads)
