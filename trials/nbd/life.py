@@ -21,8 +21,9 @@ def try_life(trial):
     array = DiskArray()
     for _ in range(3):
         # Whoever only looks at the disk doesn't keep it from being served.
+        disk.serve()
         looks = [disk.start("status") for _ in range(4)]
-        client = disk.serve().client()
+        client = disk.client()
         trial.check("life: its status beside its start", all(end_of(look).status == 0 for look in looks))
         trial.check("life: it is used", disk.status().get("used") == "by another process", disk.status())
         check_disk(trial, "life: what it holds", client, array)
