@@ -13,6 +13,7 @@ class Sizes:
     blocks: int
     block_bytes: int
     slots: int
+    leaf_load: int
     table: int
     is_sealed: bool
 
@@ -28,7 +29,7 @@ class Sizes:
         return self.block_bytes // 4
 
     def depths(self):
-        return [next(d for d in range(32) if 2**d >= count) for count in self.trees()]
+        return [next(d for d in range(32) if self.leaf_load * 2**d >= count) for count in self.trees()]
 
     def overhead(self):
         """How many bytes the sealer adds to a bucket."""

@@ -60,8 +60,9 @@ def read_state(data):
         raise Misread("the checksum")
     stores = [read_store(head.take(head.number(8))) for _ in range(head.number(8))]
     reader = Reader(data[head.at : -8])
-    numbers = [reader.number(4) for _ in range(4)]
-    sizes = Sizes(*numbers, is_sealed=sealer == 1)
+    blocks, block_bytes = reader.number(4), reader.number(4)
+    leaf_load, slots, table = reader.number(2) + 1, reader.number(2), reader.number(4)
+    sizes = Sizes(blocks, block_bytes, slots, leaf_load, table, is_sealed=sealer == 1)
     lifetime, overhead = reader.number(8), reader.number(4)
     if overhead != sizes.overhead():
         raise Misread("the bytes that the sealer adds")

@@ -38,8 +38,8 @@ def try_words(trial):
     for words in (["--help"], ["-h"], ["help"], ["help", "serve"], ["retry", "-h"], ["--version"], ["serve", "--version"]):
         helped = end_of(trial.start(*words))
         trial.check(f"words {words}", (helped.status, helped.err) == (0, b"") and helped.out.endswith(b"\n"), helped)
-    for size in ("65GiB", "big", "0", "-1"):
-        line = "oramdisk: no disk has this size: name one up to 64GiB, as 1GiB or 512MiB"
+    for size in ("257GiB", "big", "0", "-1"):
+        line = "oramdisk: no disk has this size: name one up to 256GiB, as 1GiB or 512MiB"
         trial.ends(f"the size {size}", trial.start("new", "x", f"--size={size}"), BAD_WORDS, line)
     line = "oramdisk: none/x: no such file or folder: see that its name is right"
     trial.ends("no folder is made", trial.start("new", "none/x", "--size", "1MiB"), BAD_FILE, line)
@@ -57,11 +57,11 @@ def try_unformatted(trial, disk):
 def try_formattings(trial, disk):
     """Settings that no disk can have, and formattings without a host or at a host that has a disk already."""
     disk.set(size=1000)
-    line = "faults/disk.toml, line 2: size has to be a whole number of blocks, from 1 to 16777216 of them"
+    line = "faults/disk.toml, line 2: size has to be a whole number of blocks, from 1 to 67108864 of them"
     trial.ends("numbers of no disk", disk.format(), BAD_WORDS, f"oramdisk: {line}")
     trial.ends("a folder in place of settings", trial.start("serve", "faults"), BAD_FILE, "oramdisk: faults is a folder: name a file in it")
     disk.set(size=1 << 20, sealer="none")
-    trial.ends("bad settings", disk.format(), BAD_WORDS, 'oramdisk: faults/disk.toml, line 16: sealer has to be "chacha" or "plain"')
+    trial.ends("bad settings", disk.format(), BAD_WORDS, 'oramdisk: faults/disk.toml, line 17: sealer has to be "chacha" or "plain"')
     nobody = f"127.0.0.1:{free_port()}"
     disk.set(sealer="chacha", host=nobody)
     trial.ends("no host", disk.format(), OUT_OF_REACH, unreachable(nobody))

@@ -13,6 +13,7 @@ def try_wrong_settings(trial):
     file, state = disk.settings_file, disk.state_file
     right, kept = file.read_text(), state.read_bytes()
     changed = "oramdisk: {} in settings/disk.toml isn't what it was when the disk was formatted: put it back"
+    older = ", or set leaf_load = 1 if an older version, which had no such setting, formatted the disk"
     other_key = "oramdisk: the key in settings/disk.toml isn't this disk's: put the one back that it was formatted with"
     key = re.search(r'^key = "(.*)"', right, re.MULTILINE)[1]
     for status, line, values in (
@@ -20,6 +21,7 @@ def try_wrong_settings(trial):
         (CHANGED_SETTING, changed.format("size"), {"size": SMALL + BLOCK}),
         (CHANGED_SETTING, changed.format("block"), {"block": 2048}),
         (CHANGED_SETTING, changed.format("slots"), {"slots": 3}),
+        (CHANGED_SETTING, changed.format("leaf_load") + older, {"leaf_load": 1}),
         (CHANGED_SETTING, changed.format("table"), {"table": 8}),
         (CHANGED_SETTING, changed.format("sealer"), {"sealer": "plain"}),
     ):
@@ -35,3 +37,14 @@ def try_wrong_settings(trial):
         trial.ends("a state of an older form", disk.start("serve"), NO_STATE, line)
     state.write_bytes(kept)
     check_and_end(trial, "with its own settings: what it holds", disk, DiskArray())
+    try_older_disk(trial, changed.format("leaf_load") + older)
+
+
+def try_older_disk(trial, line):
+    """A disk with one block to a leaf, as older versions made all, whose settings have no leaf load: the line names the way out."""
+    disk = Disk(trial, "older", table=16, leaf_load=1).formatted()
+    right = disk.settings_file.read_text()
+    disk.settings_file.write_text(re.sub(r"^leaf_load = 1\n", "", right, flags=re.MULTILINE))
+    trial.ends("serve of an older disk", disk.start("serve"), CHANGED_SETTING, line.replace("settings/", "older/"))
+    disk.settings_file.write_text(right)
+    check_and_end(trial, "an older disk with leaf_load = 1: what it holds", disk, DiskArray())

@@ -25,6 +25,10 @@ with_time_left done of milliseconds =
 abbrev pub progress_text : ℕ → ℕ → ℕ → List ℕ
 progress_text done of milliseconds = if nat_lt milliseconds 1000 then so_far done of else with_time_left done of milliseconds
 
--- a meter after `is_due` at this percentage: if it was due, it is due next a step later
+-- when a text is due after one at this percentage: a step later, but not later than at 100 percent
+abbrev pub next_due : ℕ → ℕ → ℕ
+next_due percent step = let next = min (percent + step) (2 ^ 64 - 1) in if nat_lt percent 100 then min next 100 else next
+
+-- a meter after `is_due` at this percentage: if it was due, it is due next a step later, or when all is done
 abbrev pub meter_after : Meter → ℕ → Meter
-meter_after meter percent = if nat_le meter.next percent then record meter { next = min (percent + meter.step) (2 ^ 64 - 1) } else meter
+meter_after meter percent = if nat_le meter.next percent then record meter { next = next_due percent meter.step } else meter

@@ -384,19 +384,13 @@ fn load_range(alloc: Global, slots: u64) -> Result<String, AllocError> {
 }
 
 /// Returns what this number has to be, given the others.
-fn range_of(
-    alloc: Global,
-    number: Number,
-    settings: &DiskSettings,
-) -> Result<String, AllocError> {
+fn range_of(alloc: Global, number: Number, settings: &DiskSettings) -> Result<String, AllocError> {
     let most = most_blocks(settings.leaf_load);
     match number {
         Number::Block => String::from_str(alloc, "a multiple of 4, from 16 to 4096"),
         Number::Slots => String::from_str(alloc, "from 1 to 8"),
         Number::LeafLoad => load_range(alloc, settings.slots),
-        Number::Size => {
-            format!(in alloc; "a whole number of blocks, from 1 to {most} of them")
-        }
+        Number::Size => { format!(in alloc; "a whole number of blocks, from 1 to {most} of them") }
         Number::Table => format!(in alloc; "from 1 to {most}"),
     }
 }

@@ -278,13 +278,7 @@ pub fn read_disk_settings(alloc: Global, text: &str) -> Result<DiskSettings, Inp
 
 /// Returns the device with this size in bytes, or `None` if that isn't a whole number of blocks, or no device can have
 /// these numbers.
-pub fn device_of(
-    size: u64,
-    block: u64,
-    slots: u64,
-    leaf_load: u64,
-    table: u64,
-) -> Option<Device>
+pub fn device_of(size: u64, block: u64, slots: u64, leaf_load: u64, table: u64) -> Option<Device>
     ensures some { IfSome result (λ d. IsDeviceOf size block slots leaf_load table d) }
     ensures none { result ≡ None → (d : _) → IsDeviceOf size block slots leaf_load table d → ⊥ }
 {

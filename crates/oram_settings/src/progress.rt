@@ -66,7 +66,15 @@ pub fn progress_text(
     }
 }
 
-/// Says when a text is due again: each time that `step` more percent are done.
+/// Returns at how many percent a text is due after one at `percent`.
+fn next_due(percent: u64, step: u64) -> u64
+    ensures { result ≡ spec.next_due percent step }
+{
+    let next = percent.saturating_add(step);
+    if percent < 100 { next.min(100) } else { next }
+}
+
+/// Says when a text is due again: each time that `step` more percent are done, and at 100 percent.
 #[derive(Clone, Copy, Debug, PartialEq, Eq)]
 pub struct Meter {
     /// The step, in percent.
@@ -86,13 +94,13 @@ impl Meter {
     /// Returns whether a text is due, now that `percent` percent are done.
     pub fn is_due(&mut self, percent: u64) -> bool
         ensures due { IsTrue result ↔ (self.old.next ≤ percent) }
-        // If it is due, it is due again once a further step is done; if it isn't, nothing changes.
+        // If it is due, it is due again once a further step or all is done; if it isn't, nothing changes.
         ensures next { self.new ≡ spec.meter_after self.old percent }
     {
         if percent < self.next {
             return false;
         }
-        self.next = percent.saturating_add(self.step);
+        self.next = next_due(percent, self.step);
         true
     }
 }

@@ -24,7 +24,9 @@ pub fn made_device(
     top: u64,
     lifetime: u64,
 ) -> Result<Device, Fault>
-    ensures { result ≡ spec.made_device (device_of (record { blocks = blocks; block_bytes = block_bytes; slots = slots; top = top; lifetime = lifetime; leaf_load = 1 })) }
+    ensures made { result ≡ spec.made_device (device_of (record { blocks = blocks; block_bytes = block_bytes; slots = slots; top = top; lifetime = lifetime; leaf_load = 1 })) }
+    // So it has a state file.
+    ensures load { IfOk result (λ d. d.leaf_load ≡ 1) }
 {
     Ok(Device::new(blocks, block_bytes, slots, top, lifetime)?)
 }

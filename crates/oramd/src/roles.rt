@@ -1,5 +1,6 @@
 //! Each role of the program, with its files and sockets.
 
+ghost use Rattle.std.specs.Prelude.{◌≡◌};
 ghost use Rattle.oram_core.specs.Core.{IsSameDevice};
 
 use crate::command_line::Role;
@@ -79,7 +80,9 @@ fn format<R: Files + Net + AllocGlobal, S: Sealer>(
     state: String,
     device: Device,
     sealer: S,
-) -> Result<(), Fault> {
+) -> Result<(), Fault>
+    requires { device.leaf_load ≡ 1 }
+{
     let file = AtomicFile::new(rt.alloc(), state)?;
     file.check_absent(rt)?;
     let (reader, writer) = connect(rt, host)?;
@@ -95,7 +98,9 @@ fn format_under<R: Files + Net + AllocGlobal>(
     state: String,
     device: Device,
     key: Option<[u8; 32]>,
-) -> Result<(), Fault> {
+) -> Result<(), Fault>
+    requires { device.leaf_load ≡ 1 }
+{
     match key {
         None => format(rt, host, state, device, PlainSeal),
         Some(key) => format(rt, host, state, device, ChaChaSeal { key }),

@@ -3,11 +3,20 @@ use Rattle.std.proofs.Common.{◌≡◌, ℕ, List, [], ◌++◌, Option, Some, 
 use Rattle.std.specs.Io.KnownBytes.{Appends}
 use Rattle.oram_geometry.specs.declared.Sizes.{Sizes}
 use Rattle.oram_geometry.specs.declared.ShapeFault.{ShapeFault}
-use Rattle.oram_geometry.specs.Sizes.{trees_of}
+use Rattle.std.specs.Prelude.{IfOk}
+use Rattle.oram_geometry.specs.Sizes.{device_of, device_unless, range_fault, trees_of}
 use Rattle.oramsim.specs.Printer.{ready_text, shape_text}
 use Rattle.oramsim.specs.Script.{IsNewRun, Point, Running, Starts, stage_text}
 use Rattle.oramsim.specs.Correspondence.{RunsOnAt, IsFaithful, IsFaithfulAt, IsAtRun}
 use Rattle.oramsim.specs.declared.machine.Machine.{Machine}
+
+-- a device has the leaf load that it was asked for
+pub load_of : (d : Sizes) → IfOk (device_of d) (λ x. x.leaf_load ≡ d.leaf_load)
+load_of d = by_fault (range_fault d)
+  where
+    by_fault : (fault : Option ShapeFault) → IfOk (device_unless d fault) (λ x. x.leaf_load ≡ d.leaf_load)
+    by_fault None = refl
+    by_fault (Some why) = tt
 
 pub nothing_shown : (r : Running) → r.turns ≡ [] → stage_text (Some r) ≡ []
 nothing_shown r none = rw none refl

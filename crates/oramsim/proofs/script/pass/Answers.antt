@@ -5,7 +5,11 @@ use Rattle.oramsim.specs.declared.script.SimFault.TheVariants.{OutOfMemory}
 use Rattle.oramsim.proofs.Cut.{obeyed_cut, started_cut, stays_at}
 use Rattle.oramsim.proofs.GivenUp.{raised}
 use Rattle.oramsim.proofs.Progress.{calm_at, empty_passed, passed_some, refused_some, started}
+use Rattle.oramsim.proofs.Started.{load_of}
 use Rattle.oramsim.proofs.script.pass.Goals as goal
+
+pub begin-requires : goal.begin-requires
+begin-requires g c = rw c.new-device.ensures (load_of (record { blocks = c.in-Device.blocks; block_bytes = c.in-Device.block_bytes; slots = c.in-Device.slots; top = c.in-Device.top; lifetime = c.in-Device.lifetime; leaf_load = 1 }))
 
 pub returns-then-is_empty-clause-ok : goal.returns-then-is_empty-clause-ok
 returns-then-is_empty-clause-ok g c = λ p f e. empty_passed p _ c.args.bytes.now _ (sym c.if-is_empty.ensures) f
