@@ -212,10 +212,12 @@ fn write_zeros(file: &File, from: u64, end: u64) -> Result<(), RedoError> {
 
 // Writes the first `len` bytes of a file over themselves.
 fn write_again(file: &File, len: u64) -> Result<(), RedoError> {
-    let mut piece = [0; PIECE];
     let mut at = 0;
     while at < len {
         let size = (len - at).min(PIECE as u64);
+        // `fill` leaves what lies past the file's end as it was. So each piece begins as zeros: a file that has become shorter
+        // meanwhile must not get bytes of the piece before.
+        let mut piece = [0; PIECE];
         fill(file, at, &mut piece[..size as usize])?;
         write_all(file, at, &piece[..size as usize])?;
         at += size;

@@ -17,14 +17,14 @@ abbrev unless : Bool → HostRefusal → Option HostRefusal → Option HostRefus
 unless holds why rest = if holds then rest else Some why
 
 -- the refusal `why` if the condition holds, or else `rest`
-abbrev when : Bool → HostRefusal → Option HostRefusal → Option HostRefusal
+abbrev pub when : Bool → HostRefusal → Option HostRefusal → Option HostRefusal
 when holds why rest = if holds then Some why else rest
 
 -- A tree whose records stay as they are: the one with the identity of a disk, once there is the tree with the disk's blocks.
 abbrev pub is_fixed : Trees → ℕ → Bool
 is_fixed trees tree = (tree == DISK_IDENTITY_TREE) && is_some (shape_at trees 0)
 
-abbrev by_shape : Option TreeShape → (TreeShape → Option HostRefusal) → Option HostRefusal
+abbrev pub by_shape : Option TreeShape → (TreeShape → Option HostRefusal) → Option HostRefusal
 by_shape None rest = Some NoShape
 by_shape (Some shape) rest = rest shape
 
