@@ -59,6 +59,11 @@ impl<F: FilePair> RecordFile<F> {
         }
     }
 
+    /// Returns the number of the system's error for which a call of the files failed last, if the system gave one.
+    pub(crate) fn errno(&self) -> Option<i32> {
+        self.files.errno()
+    }
+
     /// Returns the store's fault for an error of the redo log. Most errors stop the file.
     fn stopped_by(&mut self, error: RedoError) -> StoreFault
         ensures memory { error ≡ RedoError.Memory → (result ≡ StoreFault.OutOfMemory) × (self.new ≡ self.old) }

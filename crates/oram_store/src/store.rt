@@ -198,6 +198,11 @@ impl<F: FilePair> FileStore<F> {
         self.failure
     }
 
+    /// Returns the number of the system's error for which a call of the files failed last, if the system gave one.
+    pub fn errno(&self) -> Option<i32> {
+        self.file.errno()
+    }
+
     /// Keeps the reason why there is no room, and returns the refusal.
     fn refuse(&mut self, fault: StoreFault) -> HostRefusal
         ensures why { result ≡ HostRefusal.OutOfMemory }

@@ -68,4 +68,8 @@ impl<F: FilePair> FilePair for FailingFiles<'_, F> {
         self.calls = calls;
         self.files.sync(file)
     }
+
+    fn errno(&self) -> Option<i32> {
+        self.files.errno()
+    }
 }
