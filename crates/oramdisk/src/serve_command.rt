@@ -21,7 +21,7 @@ use oram_volume::Volume;
 use std::alloc::{AllocError, Global};
 use std::fs;
 use std::io::ErrorKind;
-use std::net::Net;
+use std::net::{Net, TcpStream};
 use std::os::fd::AsRawFd;
 use std::rt::Clock;
 
@@ -104,7 +104,7 @@ fn report_connection<R: Clock + Eprint + AllocGlobal>(
 fn serve_client<R: Net + Clock + Eprint + AllocGlobal, D: BlockDevice>(
     rt: &R,
     listener: &Listener,
-    stream: Connection,
+    stream: Connection<TcpStream>,
     disk: &mut D,
 ) -> Ended {
     let alloc = rt.alloc();
@@ -136,7 +136,7 @@ fn serve_client<R: Net + Clock + Eprint + AllocGlobal, D: BlockDevice>(
 fn serve_client_alone<R: Net + Clock + Eprint + AllocGlobal, D: BlockDevice>(
     rt: &R,
     listener: &Listener,
-    stream: Connection,
+    stream: Connection<TcpStream>,
     disk: &mut D,
 ) -> Ended {
     if listener.set_nonblocking(true).is_err() {
@@ -181,7 +181,7 @@ impl<'a, S: Sealer, B: BatchLink, K: Keeper, T: Tape> FailureKeeper<Volume<S, B,
 fn serve_connection<R: Net + Clock + Eprint + AllocGlobal, D: BlockDevice>(
     rt: &R,
     listener: &Listener,
-    stream: Connection,
+    stream: Connection<TcpStream>,
     peer: Peer,
     disk: &mut D,
 ) -> bool {
