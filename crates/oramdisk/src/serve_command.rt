@@ -33,6 +33,8 @@ const EXPORT: &[u8] = b"disk";
 struct HostStatusPrinter<'a, R> {
     rt: &'a R,
     host: String,
+    /// For how many seconds a host that is lost is tried.
+    reconnect_timeout: u64,
 }
 
 impl<'a, R: Eprint + AllocGlobal> HostStatusPrinter<'a, R> {
@@ -46,7 +48,14 @@ impl<'a, R: Eprint + AllocGlobal> HostStatusPrinter<'a, R> {
 
 impl<'a, R: Eprint + AllocGlobal> HostWatch for HostStatusPrinter<'a, R> {
     fn lost(&mut self) {
-        self.print("is out of reach");
+        let alloc = self.rt.alloc();
+        let Ok(time) = counted(alloc, self.reconnect_timeout, "second") else {
+            return self.print("is out of reach");
+        };
+        let time = time.as_str();
+        if let Ok(what) = format!(in alloc; "is out of reach: it is tried for {time}, while requests wait") {
+            self.print(what.as_str());
+        }
     }
 
     fn full(&mut self) {
@@ -288,6 +297,7 @@ fn link_to<'a>(
     let watch = HostStatusPrinter {
         rt,
         host: String::from_str(alloc, host)?,
+        reconnect_timeout: settings.reconnect_timeout,
     };
     Ok(ReconnectLink::new(alloc, dialer, watch, settings.reconnect_timeout))
 }
