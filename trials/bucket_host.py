@@ -20,7 +20,9 @@ class HostClient(FrameClient):
 
     def __init__(self, stream):
         super().__init__(stream)
-        self.port = stream and stream.getsockname()[1]
+        name = stream and stream.getsockname()
+        # Over a Unix socket it has no port.
+        self.port = name[1] if isinstance(name, tuple) else None
 
     def close(self):
         """Ends the connection, and waits until the host has ended it too, and so has synced what was put."""

@@ -8,6 +8,8 @@ FETCH, STORE, PUT, SHAPE = 1, 2, 3, 4
 DONE = b"\x80"
 NO_SHAPE, BAD_LEAF, BAD_NODE, BAD_LENGTH, SHAPE_TAKEN, MISSING, BAD_OP, NO_ROOM = range(1, 9)
 LARGEST_DEPTH = 24
+# The tree with the identity of a disk.
+IDENTITY_TREE = 255
 
 
 def refused(code):
@@ -58,6 +60,8 @@ class Model:
         tree, place, rest = body[1], struct.unpack(">I", body[2:6])[0], body[6:]
         if tree not in self.shapes:
             return refused(NO_SHAPE)
+        if tree == IDENTITY_TREE and 0 in self.shapes and body[0] != FETCH:
+            return refused(SHAPE_TAKEN)
         return [self.answer_fetch, self.answer_store, self.answer_put][body[0] - FETCH](tree, place, rest)
 
     def answer_shape(self, tree, depth, record_len):

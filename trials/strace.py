@@ -29,6 +29,12 @@ def denying(file):
     return ["strace", "-f", "-o", "/dev/null", "-P", file, "-e", "trace=openat", "-e", "inject=openat:error=EACCES"]
 
 
+def failing(call, error, when):
+    """The words that start a program under strace, which makes this call fail once with an error of the system: the call with this
+    number."""
+    return ["strace", "-f", "-o", "/dev/null", "-e", f"trace={call}", "-e", f"inject={call}:error={error}:when={when}"]
+
+
 def noting(calls, file):
     """The words that start a program under strace, which writes these calls to a file, with the names of the files that they are about."""
     return ["strace", "-f", "-y", "-o", file, "-e", f"trace={calls}"]

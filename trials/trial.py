@@ -45,6 +45,10 @@ class Trial:
         """Starts oramdisk with these words."""
         return start([self.oramdisk, *words], folder or self.folder)
 
+    def start_under(self, under, *words, folder=None):
+        """Starts oramdisk with these words, under a program that watches it."""
+        return start([*under, self.oramdisk, *words], folder or self.folder)
+
     def report(self):
         return self.tally.report()
 

@@ -71,7 +71,7 @@ def try_elsewhere(trial, folder):
 MADE = """\
 oramdisk: made mydisk for a disk of 1 GiB: disk.toml with its key, which stays here, and host.toml for the rented machine
 oramdisk: formatting will send about 8.7 GB to the host, which stores all of it
-Next, once host.toml is at the rented machine, and a tunnel leads there (ssh -N -L 7001:127.0.0.1:7001 you@rented):
+Next, once host.toml is at the rented machine, and a tunnel leads there (ssh -N -o StreamLocalBindUnlink=yes -L mydisk/buckets.sock:/home/you/buckets.sock you@rented):
   there:  oramdisk host --new host.toml
   here:   oramdisk format mydisk/disk.toml
   here:   oramdisk serve mydisk/disk.toml
@@ -88,7 +88,7 @@ def try_new(trial):
     trial.check("its mode", (folder.stat().st_mode & 0o777, file.stat().st_mode & 0o777) == (0o700, 0o600))
     text = file.read_text()
     values = [line for line in text.splitlines() if not line.startswith("#")]
-    trial.check("its settings", values == ['listen = "127.0.0.1:7001"', 'file = "buckets"'], text)
+    trial.check("its settings", values == ['listen = "unix:buckets.sock"', 'file = "buckets"'], text)
     line = "oramdisk: mydisk is there already, and is left as it is: name another folder"
     check_refused(trial, "the same folder again", file, lambda: trial.start("new", "mydisk", "--size", "1GiB"), EXISTS, line)
     trial.check("nothing else is in it", sorted(found.name for found in folder.iterdir()) == ["disk.toml", "host.toml"])

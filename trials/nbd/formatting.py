@@ -5,17 +5,41 @@ import threading
 
 from trials.bucket_messages import FETCH, PUT, is_a
 from trials.disk import Disk
-from trials.disk_array import DiskArray, check_and_end
+from trials.disk_array import DiskArray, check_and_end, check_disk, make_requests
 from trials.nbd.no_room import no_room, refuse_for_room
 from trials.processes import end_of
 from trials.statuses import HAS_A_DISK, HOST_FULL
 
 
-def check_that_host_has_a_disk(trial, what, disk):
-    """A formatting at a host that keeps a disk already ends with its line."""
-    line = f"oramdisk: the host at {disk.host_address()} keeps a disk already: name a new file at the host"
+def check_that_host_has_a_disk(trial, what, disk, address=None):
+    """A formatting at a host that keeps a disk already, its own one or one at another address, ends with its line."""
+    line = f"oramdisk: the host at {address or disk.host_address()} keeps a disk already: name a new file at the host"
     refused = end_of(disk.format())
     trial.check(what, (refused.status, refused.err.decode().splitlines()[-1:]) == (HAS_A_DISK, [line]), refused)
+
+
+def try_second_disk(trial):
+    """A second disk isn't formatted at a host that keeps one. The first one goes on, whether it is at rest meanwhile or served."""
+    first, second = Disk(trial, "first-there", table=16).formatted(), Disk(trial, "second-there", size="16kB", table=16)
+    second.set(host=first.host_address())
+    array = DiskArray()
+    before = first.host_files()
+    heard = []
+    first.relay.instead = lambda body: heard.append(body)
+    check_that_host_has_a_disk(trial, "a second disk, the first one at rest", second, first.host_address())
+    trial.check("nothing was sent once the host had refused", len(heard) == 1, [body[:8].hex() for body in heard])
+    trial.check("the host's files are as they were", first.host_files() == before)
+    first.relay.instead = lambda body: None
+    client = first.serve().client()
+    make_requests(trial, client, array, 3)
+    # The relay has one connection at a time, and the first disk's is open.
+    straight = f"127.0.0.1:{first.host.port}"
+    second.set(host=straight)
+    check_that_host_has_a_disk(trial, "a second disk, the first one served", second, straight)
+    make_requests(trial, client, array, 3)
+    check_disk(trial, "the first disk after the second one's formatting", client, array)
+    first.end(client)
+    trial.check("the second disk has no state", not second.state_file.exists())
 
 
 def try_full_formatting(trial):

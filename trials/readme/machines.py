@@ -1,11 +1,7 @@
 """The two machines of the page, which are folders of this one."""
 
-import ctypes
-import fcntl
 import os
 import signal
-import socket
-import struct
 import subprocess
 import sys
 import time
@@ -13,23 +9,23 @@ from pathlib import Path
 
 # The seconds that a command of the page may take.
 LONGEST_COMMAND = 900
-TUNNEL_PORT, HOST_PORT = 7001, 17001
-DISK_SOCKET = "mydisk/disk.sock"
-# A flag of `unshare`, and numbers of requests about network devices (Linux, sched.h, sockios.h and if.h).
-NEW_NETWORK = 0x40000000
-GET_FLAGS, SET_FLAGS, IS_UP = 0x8913, 0x8914, 1
+DISK_SOCKET, TUNNEL_SOCKET, HOST_SOCKET = "mydisk/disk.sock", "mydisk/buckets.sock", "buckets.sock"
 
-SCP = f"""#!/bin/sh
-# The words before the last one are copied to the rented machine, whose host gets a port of its own here.
+SCP = """#!/bin/sh
+# The words before the last one are copied to the rented machine.
 while [ $# -gt 1 ]; do cp -L "$1" "$RENTED/"; shift; done
-sed -i 's/127.0.0.1:{TUNNEL_PORT}/127.0.0.1:{HOST_PORT}/' "$RENTED"/host.toml
 """
 
 SSH = f"""#!{sys.executable}
-import socket, sys, threading
+# Its end of the tunnel is a socket of its owner alone. The other end is in the home folder of the rented machine.
+import os, socket, sys, threading
 
 words = sys.argv[1:]
-port = int(words[words.index("-L") + 1].split(":")[0])
+near_path, far_path = words[words.index("-L") + 1].split(":")
+far_path = os.path.join(os.environ["RENTED"], os.path.relpath(far_path, "/home/you"))
+if "StreamLocalBindUnlink=yes" in words and os.path.exists(near_path):
+    os.unlink(near_path)
+os.umask(0o177)
 
 
 def pass_on(source, target):
@@ -38,24 +34,15 @@ def pass_on(source, target):
     target.shutdown(socket.SHUT_WR)
 
 
-with socket.create_server(("127.0.0.1", port)) as listener:
+with socket.socket(socket.AF_UNIX) as listener:
+    listener.bind(near_path)
+    listener.listen()
     while True:
-        near = listener.accept()[0]
-        far = socket.create_connection(("127.0.0.1", {HOST_PORT}))
+        near, far = listener.accept()[0], socket.socket(socket.AF_UNIX)
+        far.connect(far_path)
         for pair in ((near, far), (far, near)):
             threading.Thread(target=pass_on, args=pair, daemon=True).start()
 """
-
-
-def have_own_network():
-    """Gives the trial a network of its own, in which every port is free. Returns whether it could."""
-    if ctypes.CDLL(None, use_errno=True).unshare(NEW_NETWORK) != 0:
-        return False
-    with socket.socket() as probe:
-        loopback = struct.pack("16sh", b"lo", 0)
-        flags = struct.unpack("16sh", fcntl.ioctl(probe, GET_FLAGS, loopback)[:18])[1]
-        fcntl.ioctl(probe, SET_FLAGS, struct.pack("16sh", b"lo", flags | IS_UP))
-    return True
 
 
 class Machines:
@@ -63,7 +50,8 @@ class Machines:
 
     def __init__(self, folder, program):
         self.folder, self.program = Path(folder), program
-        self.started, self.places = [], {"host": HOST_PORT, "serve": DISK_SOCKET, "ssh": TUNNEL_PORT}
+        yours, rented = self.folder / "yours", self.folder / "rented"
+        self.started, self.places = [], {"host": rented / HOST_SOCKET, "serve": yours / DISK_SOCKET, "ssh": yours / TUNNEL_SOCKET}
         for part in ("yours", "rented", "bin", "yours/.local/bin"):
             (self.folder / part).mkdir(exist_ok=True, parents=True)
         for name, text in (("scp", SCP), ("ssh", SSH)):
@@ -116,19 +104,22 @@ class Machines:
         return (self.folder / "log").read_text(errors="replace")[-2000:]
 
 
-def is_listened_at(place):
-    """Whether somebody listens at a port or a Unix socket, without connecting there: a host and a disk take one connection at a time."""
-    kind = "tcp" if isinstance(place, int) else "unix"
-    rows = [row.split() for row in Path(f"/proc/self/net/{kind}").read_text().splitlines()[1:]]
-    if kind == "tcp":
-        return any(row[1] == f"0100007F:{place:04X}" and row[3] == "0A" for row in rows)
-    return any(row[3] == "00010000" and row[7:] == [place] for row in rows)
+def is_listened_at(place, process):
+    """Whether a process listens at a Unix socket, without connecting there: a host and a disk take one connection at a time. `oramdisk`
+    makes a socket in a folder beside its place, and the system tells the name that it had there."""
+    rows = [row.split() for row in Path("/proc/self/net/unix").read_text().splitlines()[1:]]
+    try:
+        folder = Path(os.readlink(f"/proc/{process.pid}/cwd"))
+    except OSError:
+        return False
+    listening = {folder / row[7] for row in rows if row[3] == "00010000" and row[7:]}
+    return place.is_socket() and not listening.isdisjoint({place, Path(f"{place}~/s")})
 
 
 def wait_until_listened_at(place, process):
-    """Waits until a process listens at a port or a Unix socket. Returns whether it came to that."""
+    """Waits until a process listens at a Unix socket. Returns whether it came to that."""
     for _ in range(600):
-        if is_listened_at(place):
+        if is_listened_at(place, process):
             return True
         if process.poll() is not None:
             return False

@@ -6,7 +6,7 @@ import re
 from trials.connections import open_connection
 from trials.nbd_client import READ, WRITE, NbdClient
 from trials.programs import TOP
-from trials.readme.machines import DISK_SOCKET, LONGEST_COMMAND
+from trials.readme.machines import DISK_SOCKET, HOST_SOCKET, LONGEST_COMMAND, TUNNEL_SOCKET
 
 
 class Page:
@@ -62,8 +62,11 @@ def open_disk(path):
 
 
 def use_disk(tally, machines, again):
-    """What is written is there, also after both sides were killed and started again by the page's words."""
+    """What is written is there, also after both sides were killed and started again by the page's words. All sockets are their owners' alone."""
     data = os.urandom(3 * 4096)
+    sockets = [machines.folder / machine / name for machine, name in (("yours", DISK_SOCKET), ("yours", TUNNEL_SOCKET), ("rented", HOST_SOCKET))]
+    modes = [oct(path.stat().st_mode & 0o777) for path in sockets]
+    tally.check("sockets of their owners alone", modes == ["0o600"] * 3, modes)
     place = machines.folder / "yours" / DISK_SOCKET
     client = open_disk(place)
     tally.check("a write", client.ask(WRITE, 4096, len(data), data) == (0, b""))

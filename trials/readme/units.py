@@ -8,7 +8,7 @@ from pathlib import Path
 
 from trials.nbd_client import READ, WRITE
 from trials.programs import TOP
-from trials.readme.machines import LONGEST_COMMAND, TUNNEL_PORT
+from trials.readme.machines import LONGEST_COMMAND
 from trials.readme.page import open_disk
 
 
@@ -51,12 +51,12 @@ def verify_units(tally, folder, units):
 
 
 def use_units(tally, machines, folder, units):
-    """The units' lines start a host and a disk, whose folder and file are made as the page of the units says."""
+    """The units' lines start a host and a disk, whose folder and file are made as the page of the units says. A link stands for the tunnel."""
     line = {name: re.search(r"^ExecStart=(.*)$", text, flags=re.MULTILINE)[1] for name, text in units.items() if "ExecStart=" in text}
     host, serve = line["oramdisk-host.service"], line["oramdisk-serve.service"]
     disk_socket = folder / "mydisk/disk.sock"
-    machines.places.update(host=TUNNEL_PORT, serve=str(disk_socket))
-    made = f"cd {folder} && {machines.program} new mydisk --size 1MiB && cp mydisk/host.toml ."
+    machines.places.update(host=folder / "buckets.sock", serve=disk_socket)
+    made = f"cd {folder} && {machines.program} new mydisk --size 1MiB && cp mydisk/host.toml . && ln -s ../buckets.sock mydisk/"
     tally.check("a folder for the units", machines.run("yours", made), machines.said())
     for command in (host.replace(" host ", " host --new ") + " &", f"{machines.program} format {folder}/mydisk/disk.toml"):
         tally.check(command, machines.run("yours", command), machines.said())

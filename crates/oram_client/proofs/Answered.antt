@@ -77,6 +77,15 @@ module _ {R W : Type 0} (remaining : R → Option (List ℕ)) (contents : W → 
         (Consumes-trans (remaining a.reader) (remaining b.reader) (remaining c.reader) (dones put.count) (dones b.due) put.read drained.read)));
   }
 
-  -- two messages that were put one after the other
-  pub put_both : (a b c : ToHost R W) (first second : List ℕ) → IsPut remaining contents a first b → IsPut remaining contents b second c → ArePut remaining contents a (first ∷ second ∷ []) c
-  put_both a b c first second one two = puts_all a (first ∷ second ∷ []) c (b, one, (c, two, refl))
+  -- two messages, the second of which was put once the host was done with the first
+  pub taken_in_turn : (a b c : ToHost R W) (first second : List ℕ) → AreTaken remaining contents a (first ∷ []) b → AreTaken remaining contents b (second ∷ []) c
+      → AreTaken remaining contents a (first ∷ second ∷ []) c
+  taken_in_turn a b c first second one two = record {
+    due = two.due;
+    wrote = subst (Appends (contents a.writer) (contents c.writer)) (sym (flat_map-append frame (first ∷ []) (second ∷ [])))
+        (Appends-trans (contents a.writer) (contents b.writer) (contents c.writer) (flat_map frame (first ∷ [])) (flat_map frame (second ∷ [])) one.wrote two.wrote);
+    read = (let all : (a.due + 1) + (b.due + 1) ≡ a.due + 2 = (let e = one.due in omega arith) in
+        subst (λ (n : ℕ). Consumes (remaining a.reader) (remaining c.reader) (dones n)) all
+        (subst (Consumes (remaining a.reader) (remaining c.reader)) (dones_more (a.due + 1) (b.due + 1))
+        (Consumes-trans (remaining a.reader) (remaining b.reader) (remaining c.reader) (dones (a.due + 1)) (dones (b.due + 1)) one.read two.read)));
+  }

@@ -5,20 +5,33 @@ use Rattle.oram_wire.specs.declared.sinks.SinkFault.{SinkFault}
 use Rattle.oram_client.specs.declared.faults.FormattingFault.{FormattingFault}
 use Rattle.oram_client.specs.declared.faults.FormattingFault.TheVariants.{NotStored, OutOfMemory}
 use Rattle.oram_client.specs.declared.identity.TheConstants.{IDENTITY_TREE, IDENTITY_LEN}
-use Rattle.oram_client.specs.Ahead.{ToHost, AreUntaken, HasAnswer, HasNoAnswer}
+use Rattle.oram_client.specs.Ahead.{ToHost, AreTaken, AreUntaken, HasAnswer, HasNoAnswer}
 use Rattle.oram_client.specs.Faults.{formatting_fault}
 
 -- the messages that put a disk's identity at its host
+abbrev pub identity_shape : List ℕ
+identity_shape = shape_body IDENTITY_TREE 0 IDENTITY_LEN
+
+abbrev pub identity_record : List ℕ → List ℕ
+identity_record identity = put_body IDENTITY_TREE 0 identity
+
 abbrev pub identity_messages : List ℕ → List (List ℕ)
-identity_messages identity = shape_body IDENTITY_TREE 0 IDENTITY_LEN ∷ put_body IDENTITY_TREE 0 identity ∷ []
+identity_messages identity = identity_shape ∷ identity_record identity ∷ []
 
 -- for readers and writers whose bytes `remaining` and `contents` give
 module _ {R W : Type 0} (remaining : R → Option (List ℕ)) (contents : W → Option (List ℕ)) where
-  -- Memory ran out before anything was sent, or one of the identity's messages wasn't put, or wasn't answered with done.
+  -- The first message wasn't put, or wasn't answered with done, and nothing else was sent. Or it was, and the second one wasn't.
+  abbrev pub AreUntakenInTurn : ToHost R W → List ℕ → List ℕ → SinkFault → ToHost R W → Type 0
+  AreUntakenInTurn a first second why b =
+      AreUntaken remaining contents a (first ∷ []) why b
+      ⊎ ((mid : ToHost R W) × AreTaken remaining contents a (first ∷ []) mid × AreUntaken remaining contents mid (second ∷ []) why b)
+
+  -- Memory ran out before anything was sent. Or the host wasn't done with the message that makes the identity's tree, and nothing
+  -- else was sent. Or it was done with that one, and not with the one that puts the identity.
   abbrev pub IsUnnamed : List ℕ → ToHost R W → FormattingFault → ToHost R W → Type 0
   IsUnnamed identity a fault b =
       ((fault ≡ OutOfMemory) × (b ≡ a))
-      ⊎ ((why : SinkFault) × AreUntaken remaining contents a (identity_messages identity) why b × (fault ≡ formatting_fault b.refusal why))
+      ⊎ ((why : SinkFault) × AreUntakenInTurn a identity_shape (identity_record identity) why b × (fault ≡ formatting_fault b.refusal why))
 
   -- The identity was asked for, but there was no answer, or another one.
   abbrev pub IsUnrecognized : List ℕ → ToHost R W → FormattingFault → ToHost R W → Type 0

@@ -2,7 +2,7 @@
 ghost use Rattle.std.specs.Prelude.{◌≡◌, ◌↔◌, [], ◌∷◌, IfErr, IfOk, IsTrue, OnOk};
 ghost use Rattle.oram_wire.specs.HostMessages.{fetch_body, payload_answer, put_body, shape_body};
 ghost use Rattle.oram_client.specs.Ahead.{AreTaken, AreUntaken, HasAnswer};
-ghost use Rattle.oram_client.specs.Identity.{IsUnnamed, IsUnrecognized, identity_messages};
+ghost use Rattle.oram_client.specs.Identity.{AreUntakenInTurn, IsUnnamed, IsUnrecognized, identity_messages};
 
 use crate::ahead::{Ahead, Progress};
 use crate::faults::FormattingFault;
@@ -42,21 +42,33 @@ fn record_message(alloc: Global, identity: &Identity) -> Result<Vec<u8>, AllocEr
     put.encode(alloc)
 }
 
-/// Puts two messages, and waits until the host is done with all messages that it was sent.
-fn put_both<R: Read, W: Write, P: Progress>(
+/// Puts one message, and waits until the host is done with all messages that it was sent.
+fn put_alone<R: Read, W: Write, P: Progress>(
+    ahead: &mut Ahead<R, W, P>,
+    body: &[u8],
+) -> Result<(), SinkFault>
+    ensures ok { OnOk result (AreTaken R.remaining W.contents ahead.old (body.now ∷ []) ahead.new) }
+    ensures err { IfErr result (λ fault. AreUntaken R.remaining W.contents ahead.old (body.now ∷ []) fault ahead.new) }
+{
+    ahead.put(body)?;
+    ahead.await_answers()
+}
+
+/// Puts two messages, the second one only once the host is done with the first.
+fn put_in_turn<R: Read, W: Write, P: Progress>(
     ahead: &mut Ahead<R, W, P>,
     first: &[u8],
     second: &[u8],
 ) -> Result<(), SinkFault>
     ensures ok { OnOk result (AreTaken R.remaining W.contents ahead.old (first.now ∷ second.now ∷ []) ahead.new) }
-    ensures err { IfErr result (λ fault. AreUntaken R.remaining W.contents ahead.old (first.now ∷ second.now ∷ []) fault ahead.new) }
+    ensures err { IfErr result (λ fault. AreUntakenInTurn R.remaining W.contents ahead.old first.now second.now fault ahead.new) }
 {
-    ahead.put(first)?;
-    ahead.put(second)?;
-    ahead.await_answers()
+    put_alone(ahead, first)?;
+    put_alone(ahead, second)
 }
 
-/// Puts a disk's identity at the host. A host that already keeps a disk refuses it.
+/// Puts a disk's identity at the host. The host is first asked to make the identity's tree, which it refuses if it keeps a
+/// disk already. Nothing else is sent before it has made that tree.
 pub(crate) fn put_identity<R: Read, W: Write, P: Progress>(
     alloc: Global,
     identity: &Identity,
@@ -67,7 +79,7 @@ pub(crate) fn put_identity<R: Read, W: Write, P: Progress>(
 {
     let shape = shape_message(alloc)?;
     let record = record_message(alloc, identity)?;
-    match put_both(ahead, &shape, &record) {
+    match put_in_turn(ahead, &shape, &record) {
         Ok(()) => Ok(()),
         Err(fault) => Err(ahead.formatting_fault(fault)),
     }

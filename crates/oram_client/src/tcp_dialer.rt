@@ -1,4 +1,4 @@
-//! Connections over TCP to the host of a disk.
+//! Connections to the host of a disk, over TCP or over a Unix socket.
 ghost use Rattle.std.specs.Prelude.{◌≡◌, OnOk, IfOk, IfErr, string_bytes};
 ghost use Rattle.oram_wire.specs.HostMessages.{answer_body};
 ghost use Rattle.oram_client.specs.Dialer as spec;
@@ -9,10 +9,11 @@ use crate::dialer::{Dial, Limits, Trouble};
 use crate::identity::IDENTITY_TREE;
 use crate::reconnect_link::elapsed;
 use crate::timed_link::{TimedLink, milliseconds};
-use oram_cli::{connect_within, limit_silence};
+use oram_cli::limit_silence;
 use oram_host::HostRefusal;
 use oram_rounds::BatchLink;
 use oram_session::LinkFault;
+use oram_sockets::{Connection, connect_to};
 use oram_wire::{GOOD, REFUSED, fetch_header};
 use std::alloc::Global;
 use std::io::{Read, Write};
@@ -46,8 +47,8 @@ impl<R> Model for TcpDialer<R> {
 }
 
 impl<R> TcpDialer<R> {
-    /// Makes a dialer for the host at `address`, which is a name or an IP address and a port. The host has to keep the
-    /// disk with `identity`.
+    /// Makes a dialer for the host at `address`, which is an IP address and a port, or `unix:` and the path of a socket. The
+    /// host has to keep the disk with `identity`.
     pub fn new(rt: R, address: String, identity: [u8; 32]) -> TcpDialer<R>
         ensures { result ≡ record { address = string_bytes address; identity = identity } }
     {
@@ -112,22 +113,27 @@ where
 impl<R: Net + Clock + Copy> Dial for TcpDialer<R> {
     ghost use Rattle.std.specs.Prelude.{◌≡◌};
     ghost use Rattle.oram_client.specs.Dialer.{IsGreeted, IsUngreeted};
+    ghost use Rattle.oram_sockets.specs.Connections.{bytes_of};
 
-    type Line = TimedLink<R::Stream, R>;
+    type Line = TimedLink<Connection<R::Stream>, R>;
 
-    ghost opens = { λ d _ line e. IsGreeted R.Stream.remaining R.Stream.contents d.identity line × (e ≡ d) };
+    ghost opens = { λ d _ line e. IsGreeted (bytes_of R.Stream.remaining) (bytes_of R.Stream.contents) d.identity line × (e ≡ d) };
 
-    ghost fails = { λ d _ trouble e. IsUngreeted R.Stream.remaining R.Stream.contents d.identity trouble × (e ≡ d) };
+    ghost fails = { λ d _ trouble e. IsUngreeted (bytes_of R.Stream.remaining) (bytes_of R.Stream.contents) d.identity trouble × (e ≡ d) };
 
     // The model knows neither how long a pause was nor what the clock reads.
     ghost pauses = { λ d _ e. e ≡ d };
 
     ghost reads = { λ d _ e. e ≡ d };
 
-    fn dial(&mut self, alloc: Global, limits: Limits) -> Result<TimedLink<R::Stream, R>, Trouble> {
+    fn dial(
+        &mut self,
+        alloc: Global,
+        limits: Limits,
+    ) -> Result<TimedLink<Connection<R::Stream>, R>, Trouble> {
         let begin = self.now();
         let connecting = Duration::from_millis(limits.opening.min(LONGEST_CONNECTING));
-        let (reader, writer) = connect_within(&self.rt, self.address.as_str(), connecting)?;
+        let (reader, writer) = connect_to(&self.rt, self.address.as_str(), connecting)?;
         let both = reader.try_clone()?;
         let left = limits
             .opening

@@ -25,7 +25,7 @@ use oram_geometry::Device;
 use oram_rounds::{KeptCore, KeptCoreFault, decode_kept};
 use oram_settings::{
     DiskSettings, Sealing, device_of, disk_complaint, first_difference, numbers_complaint,
-    read_disk_settings, relative_to,
+    place_beside, read_disk_settings, relative_to,
 };
 use std::alloc::Global;
 use std::rt::Files;
@@ -44,7 +44,7 @@ fn settings_of(alloc: Global, name: &str, text: &str) -> Result<DiskSettings, Fa
 
 /// Reads the settings in the file `name`, and makes the device that they describe. In the result, the path of the
 /// state's file is as seen from the working directory, not from the folder of `name`, and is that of the file itself if the
-/// settings name a link to it.
+/// settings name a link to it. So is the path of the socket at which the host is reached, if it is one.
 pub fn disk_in<R: Files + AllocGlobal>(
     rt: &R,
     name: &str,
@@ -53,6 +53,7 @@ pub fn disk_in<R: Files + AllocGlobal>(
     let text = settings_text(rt, name)?;
     let text = text.as_str();
     let mut settings = settings_of(alloc, name, text)?;
+    settings.host = place_beside(alloc, name, settings.host.as_str())?;
     settings.state = linked_name(rt, relative_to(alloc, name, settings.state.as_str())?)?;
     match device_of(
         settings.size,

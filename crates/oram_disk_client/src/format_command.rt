@@ -6,7 +6,7 @@ ghost use Rattle.oram_client.specs.FilePlace.{FilePlaceState, NotesFound};
 use crate::disk_files::{disk_in, keys_in, named, sealer_of, take_lock};
 use crate::failures::forget_failure;
 use oram_bucket::{ChaChaSeal, PlainSeal, Sealer};
-use oram_cli::{HostFault, SocketFault, buffered, connect_within, limit_silence};
+use oram_cli::{HostFault, SocketFault, buffered, limit_silence};
 use oram_client::{
     Ahead, DiskKey, FileKeeper, FilePlace, FormattingFault, Head, Identity, Progress, Salt,
     SealerKind, format_ahead,
@@ -16,6 +16,7 @@ use oram_disk_host::{Fault, FaultKind};
 use oram_geometry::Device;
 use oram_rounds::{Keeper, encode_kept};
 use oram_settings::{DiskSettings, Meter, begun_text, percent, progress_text, stored_bytes};
+use oram_sockets::{Connection, connect_to};
 use std::alloc::{AllocError, Global};
 use std::io;
 use std::io::{BufReader, BufWriter, IsTerminal};
@@ -110,14 +111,14 @@ fn unreached(fault: SocketFault, host: String) -> Fault {
 /// A buffered reader and a buffered writer of a connection.
 type Buffers<S> = (BufReader<S>, BufWriter<S>);
 
-/// Connects to the host at an address. It may take `limit` to accept the connection, and may be silent for as long at any
+/// Connects to the host at an address or a Unix socket. It may take `limit` to accept the connection, and may be silent for as long at any
 /// time after that.
 fn connected<R: Net + Clock + AllocGlobal>(
     rt: &R,
     host: &str,
     limit: Duration,
-) -> Result<Buffers<R::Stream>, SocketFault> {
-    let (stream, _same) = connect_within(rt, host, limit)?;
+) -> Result<Buffers<Connection<R::Stream>>, SocketFault> {
+    let (stream, _same) = connect_to(rt, host, limit)?;
     limit_silence(&stream, limit)?;
     Ok(buffered(rt.alloc(), stream)?)
 }

@@ -11,7 +11,7 @@ use Rattle.oram_disk_host.specs.declared.faults.Fault.TheVariants.{OutOfMemory}
 use Rattle.oram_disk_host.specs.declared.connection.EarlyEnd.TheVariants.{Displaced, Fault}
 
 -- what a new folder's settings say
-the_first_settings : parse_document (codes "# Where the host listens. Your own machine reaches it there, as by ssh -N -L 7001:127.0.0.1:7001 you@rented.\nlisten = \"127.0.0.1:7001\"\n# The file of the buckets, relative to this folder; its log is beside it.\nfile = \"buckets\"\n") ≡ Some (member (codes "file") (string (codes "buckets")) (member (codes "listen") (string (codes "127.0.0.1:7001")) no_members))
+the_first_settings : parse_document (codes "# Where the host listens: a socket in this folder, for you alone. Your own machine reaches it through a tunnel, as by\n# ssh -N -o StreamLocalBindUnlink=yes -L mydisk/buckets.sock:/home/you/buckets.sock you@rented.\n# With \"127.0.0.1:PORT\" all users of this machine can connect.\nlisten = \"unix:buckets.sock\"\n# The file of the buckets, relative to this folder; its log is beside it.\nfile = \"buckets\"\n") ≡ Some (member (codes "file") (string (codes "buckets")) (member (codes "listen") (string (codes "unix:buckets.sock")) no_members))
 unfolding toml_on_literals
 the_first_settings = refl
 

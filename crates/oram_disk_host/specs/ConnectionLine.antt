@@ -29,8 +29,8 @@ failing (Some store.Closed) = codes ", the disk had failed"
 failing (Some store.OutOfMemory) = codes ", there was no memory"
 failing (Some _) = codes ", the file wasn't as it has to be"
 
--- who, from when until when, what was asked and answered, and how it ended
+-- who, from when until when, what was asked and answered, how it ended, and why the disk failed, if it did
 abbrev pub line_of : ConnectionReport → List ℕ
 line_of v = codes "oramdisk: " ++ string_bytes v.peer ++ codes " from " ++ string_bytes v.from ++ codes " until " ++ string_bytes v.until
     ++ codes ", " ++ counted v.tally.messages (codes "message") ++ codes ", " ++ decimal v.tally.received ++ codes " bytes in, "
-    ++ decimal v.tally.sent ++ codes " bytes out" ++ ending v.ended ++ failing v.tally.failure ++ codes "\n"
+    ++ decimal v.tally.sent ++ codes " bytes out" ++ ending v.ended ++ failing v.tally.failure ++ string_bytes v.reason ++ codes "\n"

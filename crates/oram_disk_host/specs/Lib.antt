@@ -1,3 +1,4 @@
+pub mod DiskNews
 pub mod Settings
 pub mod Kinds
 pub mod Faults

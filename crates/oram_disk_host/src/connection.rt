@@ -29,6 +29,8 @@ pub struct ConnectionReport {
     pub until: String,
     pub tally: Tally,
     pub ended: Option<EarlyEnd>,
+    /// The system's error for which the disk failed, if it did, after a colon.
+    pub reason: String,
 }
 
 /// Returns what the line says of an early end.
@@ -77,7 +79,8 @@ pub fn line(alloc: Global, report: &ConnectionReport) -> Result<String, AllocErr
     let sent = report.tally.sent;
     let ended = ending(report.ended);
     let failed = failing(report.tally.failure);
+    let reason = report.reason.as_str();
     format!(in alloc;
-        "oramdisk: {peer} from {from} until {until}, {messages}, {received} bytes in, {sent} bytes out{ended}{failed}\n"
+        "oramdisk: {peer} from {from} until {until}, {messages}, {received} bytes in, {sent} bytes out{ended}{failed}{reason}\n"
     )
 }

@@ -4,6 +4,7 @@ ghost use Rattle.std.specs.Prelude.{◌≡◌, ◌⊎◌, [], IsSome};
 
 use crate::attendant::HostAttendant;
 use crate::connection::{ConnectionReport, EarlyEnd, line};
+use crate::disk_watch::{AnswerWriter, DiskPrinter};
 use crate::faults::{Fault, store_fault};
 use crate::kinds::FaultKind;
 use crate::settings_file::{HostSettings, read_host_settings, settings_text};
@@ -12,13 +13,15 @@ use jiff::Timestamp;
 use oram_cli::{InputFault, SocketFault, call_fault, listen};
 use oram_host::{ServeFault, host_serve};
 use oram_redo::FilePair;
-use oram_settings::{host_complaint, hosting_text, relative_to};
-use oram_sockets::{MarkedReader, MarkedWriter, watch};
+use oram_settings::{host_complaint, hosting_text, place_beside, relative_to};
+use oram_sockets::{
+    Connection, Listener, MarkedReader, MarkedWriter, Peer, UNIX, listen_at_path, watch,
+};
 use oram_store::{FileStore, StoreFault, open_store};
-use std::alloc::AllocError;
-use std::io::{Error, ErrorKind, Read, Write};
-use std::net::{Net, OpenListener, OpenStream, SocketAddr};
-use std::os::fd::{AsRawFd, RawFd};
+use std::alloc::{AllocError, Global};
+use std::io::{Error, ErrorKind};
+use std::net::{Net, TcpStream};
+use std::os::fd::AsRawFd;
 use std::rt::{Clock, Files};
 use std::time::Duration;
 use std::{fs, thread};
@@ -26,8 +29,8 @@ use std::{fs, thread};
 /// How many seconds a host waits before it tries again to open a file whose disk has failed.
 const RETRY_AFTER: u64 = 1;
 
-/// Reads the settings in the file `name`. In the result, the path of the file of buckets is as seen from the working
-/// directory, not from the folder of `name`.
+/// Reads the settings in the file `name`. In the result, the paths of the file of buckets and of a socket are as seen from the
+/// working directory, not from the folder of `name`.
 ///
 /// `disk_in` of `oram_disk_client` does the same for a disk's settings, and also makes the device that they describe.
 fn settings_in<R: Files + AllocGlobal>(rt: &R, name: &str) -> Result<HostSettings, Fault> {
@@ -36,6 +39,7 @@ fn settings_in<R: Files + AllocGlobal>(rt: &R, name: &str) -> Result<HostSetting
     match read_host_settings(alloc, text.as_str()) {
         Ok(mut settings) => {
             settings.file = relative_to(alloc, name, settings.file.as_str())?;
+            settings.listen = place_beside(alloc, name, settings.listen.as_str())?;
             Ok(settings)
         }
         Err(InputFault::Bad) => {
@@ -55,6 +59,19 @@ pub fn listen_at<R: Net>(rt: &R, address: String) -> Result<R::Listener, Fault> 
     }
 }
 
+/// Listens at a place: at an address, or at a Unix socket, `unix:` and its path.
+fn listen_at_place(rt: &HostRuntime, place: &str) -> Result<Listener, Fault> {
+    let alloc = rt.alloc();
+    let Some(path) = place.strip_prefix(UNIX) else {
+        return Ok(Listener::Tcp(listen_at(rt, String::from_str(alloc, place)?)?));
+    };
+    match listen_at_path(rt, path) {
+        Ok(listener) => Ok(listener),
+        Err(error) if error.kind() == ErrorKind::OutOfMemory => Err(Fault::OutOfMemory),
+        Err(_) => Err(Fault::About(FaultKind::Address, String::from_str(alloc, path)?)),
+    }
+}
+
 /// Returns the clock's time in whole seconds of UTC, as RFC 3339 writes it.
 pub fn time<R: Clock + AllocGlobal>(rt: &R) -> Result<String, AllocError> {
     let alloc = rt.alloc();
@@ -64,12 +81,19 @@ pub fn time<R: Clock + AllocGlobal>(rt: &R) -> Result<String, AllocError> {
     }
 }
 
+/// A connection that the host has accepted, and the listener that it came from.
+#[derive(Drop)]
+struct Accepted<'a> {
+    stream: Connection<TcpStream>,
+    listener: &'a Listener,
+}
+
 /// Serves a connection to its end, and returns why that came early, if it did.
-fn serve<R: Net + Clock + AllocGlobal, T: Read + Write + OpenStream + AsRawFd + Drop, F: FilePair>(
+fn serve<R: Net + Clock + Eprint + AllocGlobal, F: FilePair>(
     rt: &R,
-    listener: RawFd,
-    stream: T,
-    hosted: &mut TalliedStore<F>,
+    accepted: Accepted<'_>,
+    disk: &DiskPrinter<'_, R>,
+    hosted: &mut TalliedStore<'_, F, DiskPrinter<'_, R>>,
 ) -> Option<EarlyEnd>
     // After this, each record of a formatting is durable, or the tally says why not.
     ensures { hosted.old.store.pending ≡ [] → (hosted.new.store.pending ≡ []) ⊎ IsSome hosted.new.tally.failure }
@@ -77,7 +101,8 @@ fn serve<R: Net + Clock + AllocGlobal, T: Read + Write + OpenStream + AsRawFd + 
     let alloc = rt.alloc();
     hosted.begin();
     let attendant = HostAttendant::new();
-    let (reader, writer) = match watch(rt, alloc, stream, listener, &attendant) {
+    let listener = accepted.listener.as_raw_fd();
+    let (reader, writer) = match watch(rt, alloc, accepted.stream, listener, &attendant) {
         Ok(halves) => halves,
         Err(error) if error.kind() == ErrorKind::OutOfMemory => {
             return Some(EarlyEnd::Fault(ServeFault::OutOfMemory));
@@ -85,7 +110,7 @@ fn serve<R: Net + Clock + AllocGlobal, T: Read + Write + OpenStream + AsRawFd + 
         Err(_) => return Some(EarlyEnd::Fault(ServeFault::Read)),
     };
     let mut reader = MarkedReader::new(reader, &attendant);
-    let mut writer = MarkedWriter::new(writer, &attendant);
+    let mut writer = AnswerWriter::new(MarkedWriter::new(writer, &attendant), disk);
     let served = host_serve(alloc, &mut reader, &mut writer, hosted);
     hosted.commit_puts();
     if hosted.has_failed() {
@@ -95,30 +120,38 @@ fn serve<R: Net + Clock + AllocGlobal, T: Read + Write + OpenStream + AsRawFd + 
     attendant.early_end(served)
 }
 
+/// Returns what the line of a connection says of the system's error for which the disk has failed, if it has.
+fn reason_text(alloc: Global, has_failed: bool, errno: Option<i32>) -> Result<String, AllocError> {
+    match errno {
+        Some(number) if has_failed => {
+            let error = Error::from_raw_os_error(number);
+            format!(in alloc; ": {error}")
+        }
+        _ => Ok(String::new(alloc)),
+    }
+}
+
 /// Serves a connection, and prints its line.
-fn serve_client<
-    R: Net + Clock + Eprint + AllocGlobal,
-    T: Read + Write + OpenStream + AsRawFd + Drop,
-    F: FilePair,
->(
+fn serve_client<R: Net + Clock + Eprint + AllocGlobal, F: FilePair>(
     rt: &R,
-    listener: RawFd,
-    stream: T,
-    peer: SocketAddr,
-    hosted: &mut TalliedStore<F>,
+    accepted: Accepted<'_>,
+    peer: Peer,
+    disk: &DiskPrinter<'_, R>,
+    hosted: &mut TalliedStore<'_, F, DiskPrinter<'_, R>>,
 ) -> Result<(), AllocError>
     ensures { hosted.old.store.pending ≡ [] → (hosted.new.store.pending ≡ []) ⊎ IsSome hosted.new.tally.failure }
 {
     let alloc = rt.alloc();
     let peer = format!(in alloc; "{peer}")?;
     let from = time(rt)?;
-    let ended = serve(rt, listener, stream, hosted);
+    let ended = serve(rt, accepted, disk, hosted);
     let report = ConnectionReport {
         peer,
         from,
         until: time(rt)?,
         tally: hosted.tally(),
         ended,
+        reason: reason_text(alloc, hosted.has_failed(), hosted.errno())?,
     };
     let line = line(alloc, &report)?;
     let _passed_over = rt.eprint(line.as_str());
@@ -149,18 +182,19 @@ pub fn not_accepted(error: &Error) -> Result<(), Fault> {
 }
 
 /// Serves connections, one after the other, until the store has to be opened again.
-fn serve_all<R: Net + Clock + Eprint + AllocGlobal, L: OpenListener + AsRawFd, F: FilePair + Drop>(
+fn serve_all<R: Net + Clock + Eprint + AllocGlobal, F: FilePair + Drop>(
     rt: &R,
-    listener: &L,
-    mut hosted: TalliedStore<F>,
-) -> Result<(), Fault>
-where
-    L::Stream: Read + Write + OpenStream + AsRawFd,
-{
+    listener: &Listener,
+    store: FileStore<F>,
+    file: &str,
+) -> Result<(), Fault> {
+    let disk = DiskPrinter::new(rt, file);
+    let mut hosted = TalliedStore::new(store, &disk);
     for _ in 0..u64::MAX {
         match listener.accept() {
             Ok((stream, peer)) => {
-                if serve_client(rt, listener.as_raw_fd(), stream, peer, &mut hosted).is_err() {
+                let accepted = Accepted { stream, listener };
+                if serve_client(rt, accepted, peer, &disk, &mut hosted).is_err() {
                     let _passed_over = rt.eprint(
                         "oramdisk: no memory for a connection, or for its line\n",
                     );
@@ -176,16 +210,14 @@ where
 }
 
 /// Serves a store that was opened, until it has to be opened again.
-fn serve_opened<
-    R: Net + Clock + Eprint + AllocGlobal,
-    L: OpenListener + AsRawFd,
-    F: FilePair + Drop,
->(rt: &R, listener: &L, opened: Result<FileStore<F>, StoreFault>, file: &str) -> Result<(), Fault>
-where
-    L::Stream: Read + Write + OpenStream + AsRawFd,
-{
+fn serve_opened<R: Net + Clock + Eprint + AllocGlobal, F: FilePair + Drop>(
+    rt: &R,
+    listener: &Listener,
+    opened: Result<FileStore<F>, StoreFault>,
+    file: &str,
+) -> Result<(), Fault> {
     match opened {
-        Ok(store) => serve_all(rt, listener, TalliedStore::new(store)),
+        Ok(store) => serve_all(rt, listener, store, file),
         Err(why) => Err(store_fault(String::from_str(rt.alloc(), file)?, why)),
     }
 }
@@ -209,7 +241,7 @@ fn check_presence<R: Files + AllocGlobal>(rt: &R, file: &str, is_new: bool) -> R
 /// Prints that a file was opened: whether it is a new one, and where it is served.
 fn print_opened(
     rt: &HostRuntime,
-    address: &str,
+    place: &str,
     file: &str,
     is_new: bool,
 ) -> Result<(), AllocError> {
@@ -218,44 +250,38 @@ fn print_opened(
         let line = format!(in alloc; "oramdisk: made {file}\n")?;
         let _passed_over = rt.eprint(line.as_str());
     }
-    let line = hosting_text(alloc, file, address)?;
+    let line = hosting_text(alloc, file, place)?;
     let _passed_over = rt.eprint(line.as_str());
     Ok(())
 }
 
 /// Opens the file, or makes a new one, and serves it, until it has to be opened again.
-fn serve_file<L: OpenListener + AsRawFd>(
+fn serve_file(
     rt: &HostRuntime,
-    listener: &L,
-    address: &str,
+    listener: &Listener,
+    place: &str,
     file: &str,
     is_new: bool,
-) -> Result<(), Fault>
-where
-    L::Stream: Read + Write + OpenStream + AsRawFd,
-{
+) -> Result<(), Fault> {
     check_presence(rt, file, is_new)?;
     let opened = open_store(rt, rt.alloc(), file);
     if opened.is_ok() {
-        print_opened(rt, address, file, is_new)?;
+        print_opened(rt, place, file, is_new)?;
     }
     serve_opened(rt, listener, opened, file)
 }
 
 /// Serves the file again after its disk has failed. As long as the file can't be opened, the host waits for it, and
 /// says so once: the storage that it is on, such as a volume over a network, may come back.
-fn serve_again<L: OpenListener + AsRawFd>(
+fn serve_again(
     rt: &HostRuntime,
-    listener: &L,
-    address: &str,
+    listener: &Listener,
+    place: &str,
     file: &str,
-) -> Result<(), Fault>
-where
-    L::Stream: Read + Write + OpenStream + AsRawFd,
-{
+) -> Result<(), Fault> {
     let mut is_reported = false;
     for _ in 0..u64::MAX {
-        match serve_file(rt, listener, address, file, false) {
+        match serve_file(rt, listener, place, file, false) {
             Err(Fault::About(FaultKind::File(_), _)) => {}
             ended => return ended,
         }
@@ -269,11 +295,11 @@ where
     Ok(())
 }
 
-/// Keeps buckets for others, until it is ended. It listens before it opens the file, so if the port is taken, the file
+/// Keeps buckets for others, until it is ended. It listens before it opens the file, so if its place is taken, the file
 /// stays as it is.
 pub fn host(rt: &HostRuntime, name: String, is_new: bool) -> Result<(), Fault> {
     let HostSettings { listen, file } = settings_in(rt, name.as_str())?;
-    let listener = listen_at(rt, String::from_str(rt.alloc(), listen.as_str())?)?;
+    let listener = listen_at_place(rt, listen.as_str())?;
     serve_file(rt, &listener, listen.as_str(), file.as_str(), is_new)?;
     for _ in 0..u64::MAX {
         serve_again(rt, &listener, listen.as_str(), file.as_str())?;

@@ -7,7 +7,8 @@ ghost use Rattle.oram_disk_host.specs.Settings.{IsDocumentOf, IsHost, settings_v
 
 use crate::faults::Fault;
 use crate::kinds::FaultKind;
-use oram_cli::{InputFault, address_at, has_only, name_at, table_of, text_in};
+use oram_cli::{InputFault, has_only, name_at, table_of, text_in};
+use oram_settings::place_at;
 use std::alloc::Global;
 use std::rt::Files;
 use toml::Table;
@@ -15,7 +16,7 @@ use toml::Table;
 /// The settings of a bucket host.
 #[derive(Debug, Drop)]
 pub struct HostSettings {
-    /// The address at which the host listens.
+    /// Where the host listens: an address, or `unix:` and the name of a socket, relative to the folder of the settings.
     pub listen: String,
     /// The file in which the host keeps its buckets.
     pub file: String,
@@ -23,7 +24,7 @@ pub struct HostSettings {
 
 /// The settings that a new folder begins with.
 pub const FIRST_SETTINGS: &str =
-    "# Where the host listens. Your own machine reaches it there, as by ssh -N -L 7001:127.0.0.1:7001 you@rented.\nlisten = \"127.0.0.1:7001\"\n# The file of the buckets, relative to this folder; its log is beside it.\nfile = \"buckets\"\n";
+    "# Where the host listens: a socket in this folder, for you alone. Your own machine reaches it through a tunnel, as by\n# ssh -N -o StreamLocalBindUnlink=yes -L mydisk/buckets.sock:/home/you/buckets.sock you@rented.\n# With \"127.0.0.1:PORT\" all users of this machine can connect.\nlisten = \"unix:buckets.sock\"\n# The file of the buckets, relative to this folder; its log is beside it.\nfile = \"buckets\"\n";
 
 fn host_in(alloc: Global, table: &Table) -> Result<HostSettings, InputFault>
     ensures { Finds settings_value (IsHost (table_view table.now)) result }
@@ -31,7 +32,7 @@ fn host_in(alloc: Global, table: &Table) -> Result<HostSettings, InputFault>
     if !has_only(table, &["listen", "file"]) {
         return Err(InputFault::Bad);
     }
-    let listen = address_at(table, "listen")?;
+    let listen = place_at(table, "listen")?;
     let file = name_at(table, "file")?;
     Ok(HostSettings {
         listen: String::from_str(alloc, listen)?,

@@ -9,6 +9,7 @@ ghost use Rattle.oram_wire.specs.declared.host_messages.HostAnswer.{HostAnswer};
 ghost use Rattle.oram_disk_host.specs.Hosts.{Serves, is_lost};
 ghost use Rattle.oram_disk_host.specs.Tallies.{none};
 
+use crate::disk_watch::{DiskNews, DiskWatch, disk_news};
 use crate::tally::Tally;
 use oram_host::{BucketServer, HostRefusal};
 use oram_redo::FilePair;
@@ -19,12 +20,14 @@ use std::marker::Model;
 
 /// A store that is served, one connection after the other.
 #[derive(Drop)]
-pub struct TalliedStore<F: FilePair> {
+pub struct TalliedStore<'a, F: FilePair, W> {
     store: FileStore<F>,
     tally: Tally,
+    /// Is told how the store's disk is.
+    disk: &'a W,
 }
 
-impl<F: FilePair> Model for TalliedStore<F> {
+impl<'a, F: FilePair, W> Model for TalliedStore<'a, F, W> {
     ghost use Rattle.oram_disk_host.specs.Hosts.{HostedValue};
 
     ghost Value = { HostedValue F };
@@ -32,14 +35,15 @@ impl<F: FilePair> Model for TalliedStore<F> {
     ghost view = { λ h. record { store = h.store; tally = h.tally } };
 }
 
-impl<F: FilePair> TalliedStore<F> {
+impl<'a, F: FilePair, W> TalliedStore<'a, F, W> {
     /// Returns a store before its first connection.
-    pub fn new(store: FileStore<F>) -> TalliedStore<F>
+    pub fn new(store: FileStore<F>, disk: &'a W) -> TalliedStore<'a, F, W>
         ensures { (result.store ≡ store) × (result.tally ≡ none) }
     {
         TalliedStore {
             store,
             tally: Tally::new(),
+            disk,
         }
     }
 
@@ -76,6 +80,11 @@ impl<F: FilePair> TalliedStore<F> {
         }
     }
 
+    /// Returns the number of the system's error for which a call of the files failed last, if the system gave one.
+    pub fn errno(&self) -> Option<i32> {
+        self.store.errno()
+    }
+
     /// Returns whether the disk has failed, so that the file has to be opened again.
     pub fn has_failed(&self) -> bool
         ensures { result ≡ is_lost self.now.tally.failure }
@@ -100,10 +109,21 @@ impl<F: FilePair> TalliedStore<F> {
     }
 }
 
-impl<F: FilePair> BucketServer for TalliedStore<F> {
+/// Tells `disk` what an answer says of it.
+fn tell<W: DiskWatch>(disk: &W, answer: &[u8], failure: Option<StoreFault>) {
+    match disk_news(answer, failure) {
+        Some(DiskNews::Full) => disk.full(),
+        Some(DiskNews::Stored) => disk.stored(),
+        Some(DiskNews::Failed) => disk.failed(),
+        None => {}
+    }
+}
+
+impl<'a, F: FilePair, W: DiskWatch> BucketServer for TalliedStore<'a, F, W> {
     ghost serves = { λ before body answer after. Serves F.model before body answer after };
 
-    // Once the disk has failed, it answers nothing more, so that the connection ends and the file is opened again.
+    // Once the disk has failed, it answers nothing more, so that the connection ends and the file is opened again. Its last answer
+    // isn't written any more (`AnswerWriter`).
     fn respond(&mut self, alloc: Global, body: &[u8]) -> Result<Vec<u8>, AllocError> {
         if self.has_failed() {
             return Err(AllocError);
@@ -112,6 +132,7 @@ impl<F: FilePair> BucketServer for TalliedStore<F> {
         let failure = self.failure(&answer);
         self.tally = self.tally.with(body, &answer);
         self.tally.failure = failure;
+        tell(self.disk, &answer, failure);
         Ok(answer)
     }
 }

@@ -57,6 +57,9 @@ pub trait FilePair {
         ensures cause { HasCause model self.old self.new result }
         ensures errors { IfErr result (λ e. e ≡ RedoError.Failed) };
 
+    /// Returns the number of the system's error for which a call failed last, if the system gave one.
+    fn errno(&self) -> Option<i32>;
+
     /// What a crash may leave now also counts as what a crash since any earlier moment might have left.
     ghost counts_now: { (files : Self) (t : ℕ) (c : Contents) → t ≤ model.moment files → model.may_leave files c → model.left_since files t c };
 

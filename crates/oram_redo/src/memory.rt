@@ -233,4 +233,8 @@ impl FilePair for MemoryPair {
             Err(_) => Err(RedoError::Failed),
         }
     }
+
+    fn errno(&self) -> Option<i32> {
+        None
+    }
 }

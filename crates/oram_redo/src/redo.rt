@@ -3,7 +3,7 @@
 //! A batch goes into the log in two writes, each with a sync: everything but its first gate, and then that gate. So a crash
 //! leaves an open gate with the whole batch, or a shut gate. Then the batch is written to its places, without a sync: whatever
 //! a crash does to them, replaying the log heals it.
-ghost use Rattle.std.specs.Prelude.{◌≡◌, ◌⊎◌, ◌<◌, ◌≤◌, ◌+◌, ◌^◌, ◌++◌, ◌∷◌, [], All, length, IfNone, IfOk, IfSome, IfErr, IsErrOf, OnOk};
+ghost use Rattle.std.specs.Prelude.{◌≡◌, ◌⊎◌, ◌<◌, ◌≤◌, ◌+◌, ◌^◌, ◌++◌, ◌∷◌, [], All, length, IfNone, IfOk, IfSome, IfErr, IsErrOf, OnErr, OnOk};
 ghost use Rattle.oram_redo.specs.Batch.{patches_of};
 ghost use Rattle.oram_redo.specs.Content.{Content, Agrees, bytes_at, put};
 ghost use Rattle.oram_redo.specs.FilePair.{ComesAfter, HasFailed, LeavesOnly, ReadOnto, Rises, Torn, WritesNothing};
@@ -119,6 +119,7 @@ impl Redo {
         ensures refused_records { IsRefused result → Agrees (F.model.seen files.new FileKind.Records) (F.model.seen files.old FileKind.Records) }
 
         ensures bounds { bounds_of self.new ≡ bounds_of self.old }
+        ensures end_stays { OnErr result (end_of self.new ≡ end_of self.old) }
         ensures full { IsErrOf result RedoError.LogFull → (bounds_of self.old).log_end ≤ end_of self.old + length (entries (patches_of batch.now)) }
         ensures no_room { IsErrOf result RedoError.NoRoom → Rises F.model.shortages files.old files.new }
         ensures after { ComesAfter F.model files.old files.new }

@@ -56,6 +56,8 @@ pub struct SystemPair<S: Start> {
     /// The number of bytes that were written to the records since their last sync.
     put: Cell<u64>,
     has_failed: bool,
+    /// The number of the system's error for which a call failed last.
+    errno: Cell<Option<i32>>,
     history: CallHistory,
     start: PhantomData<S>,
 }
@@ -75,8 +77,8 @@ impl<S: Start> SystemPair<S> {
         let len = log.metadata()?.len();
         match write_again(&log, len) {
             // A file system that copies on write may have no room for this, and still be read.
-            Ok(()) | Err(RedoError::NoRoom) => {}
-            Err(_) => return Err(io::Error::from(ErrorKind::Other)),
+            Err(error) if !lacks_room(&error) => return Err(error),
+            _ => {}
         }
         records.sync_all()?;
         log.sync_all()?;
@@ -88,6 +90,7 @@ impl<S: Start> SystemPair<S> {
             log_room,
             put: Cell::new(0),
             has_failed: false,
+            errno: Cell::new(None),
             history: CallHistory::new(),
             start: PhantomData,
         })
@@ -140,6 +143,39 @@ impl<S: Start> SystemPair<S> {
     }
 }
 
+impl<S: Start> SystemPair<S> {
+    /// Keeps the number of the system's error for which a read failed, and returns this crate's error.
+    fn read_fault(&self, error: &io::Error) -> RedoError
+        ensures { (result ≡ RedoError.Memory) ⊎ (result ≡ RedoError.Failed) }
+    {
+        self.errno.set(error.raw_os_error());
+        match error.kind() {
+            ErrorKind::OutOfMemory => RedoError::Memory,
+            _ => RedoError::Failed,
+        }
+    }
+
+    /// Does the same for a write.
+    fn write_fault(&self, error: &io::Error) -> RedoError
+        ensures { (result ≡ RedoError.NoRoom) ⊎ (result ≡ RedoError.Failed) }
+    {
+        self.errno.set(error.raw_os_error());
+        if lacks_room(error) {
+            RedoError::NoRoom
+        } else {
+            RedoError::Failed
+        }
+    }
+}
+
+/// Returns whether a write failed because it found no room.
+fn lacks_room(error: &io::Error) -> bool {
+    matches!(
+        error.kind(),
+        ErrorKind::StorageFull | ErrorKind::QuotaExceeded
+    )
+}
+
 fn note(history: &mut CallHistory, kind: u64, file: FileKind, at: u64, is_ok: bool, bytes: &[u8])
     ensures { history.new.calls ≡ record { kind = kind; file = file; at = at; is_ok = is_ok; bytes = bytes.now } ∷ history.old.calls }
 {
@@ -150,56 +186,49 @@ fn note(history: &mut CallHistory, kind: u64, file: FileKind, at: u64, is_ok: bo
 }
 
 // Reads `len` bytes and appends them to `bytes`, with zeros past the end of the file.
-fn read_behind(file: &File, at: u64, len: usize, bytes: &mut Vec<u8>) -> Result<(), RedoError>
+fn read_behind(file: &File, at: u64, len: usize, bytes: &mut Vec<u8>) -> io::Result<()>
     ensures front { OnOk result (take (length bytes.old.items) bytes.new.items ≡ bytes.old.items) }
     ensures len { OnOk result (length bytes.new.items ≡ length bytes.old.items + len) }
-    ensures errors { IfErr result (λ e. (e ≡ RedoError.Memory) ⊎ (e ≡ RedoError.Failed)) }
 {
     let start = bytes.len();
     let Some(end) = start.checked_add(len) else {
-        return Err(RedoError::Memory);
+        return Err(io::Error::from(ErrorKind::OutOfMemory));
     };
     bytes.resize(end, 0)?;
     fill(file, at, &mut bytes[start..])
 }
 
 // Fills `bytes` from a place of the file. The bytes past the file's end stay as they were.
-fn fill(file: &File, at: u64, bytes: &mut [u8]) -> Result<(), RedoError>
-    ensures { IfErr result (λ e. e ≡ RedoError.Failed) }
-{
+fn fill(file: &File, at: u64, bytes: &mut [u8]) -> io::Result<()> {
     let mut got = 0;
     while got < bytes.len() {
         let Some(from) = at.checked_add(got as u64) else {
-            return Err(RedoError::Failed);
+            return Err(io::Error::from(ErrorKind::InvalidInput));
         };
-        match file.read_at(&mut bytes[got..], from) {
-            Ok(0) => break,
-            Ok(n) => got += n,
-            Err(_) => return Err(RedoError::Failed),
+        match file.read_at(&mut bytes[got..], from)? {
+            0 => break,
+            n => got += n,
         }
     }
     Ok(())
 }
 
-fn write_all(file: &File, at: u64, bytes: &[u8]) -> Result<(), RedoError>
-    ensures { IfErr result (λ e. (e ≡ RedoError.NoRoom) ⊎ (e ≡ RedoError.Failed)) }
-{
+fn write_all(file: &File, at: u64, bytes: &[u8]) -> io::Result<()> {
     let mut put = 0;
     while put < bytes.len() {
         let Some(from) = at.checked_add(put as u64) else {
-            return Err(RedoError::Failed);
+            return Err(io::Error::from(ErrorKind::InvalidInput));
         };
-        match file.write_at(&bytes[put..], from) {
-            Ok(0) => return Err(RedoError::Failed),
-            Ok(n) => put += n,
-            Err(error) => return Err(error_of(&error)),
+        match file.write_at(&bytes[put..], from)? {
+            0 => return Err(io::Error::from(ErrorKind::WriteZero)),
+            n => put += n,
         }
     }
     Ok(())
 }
 
 // Writes zeros from one place of a file to another.
-fn write_zeros(file: &File, from: u64, end: u64) -> Result<(), RedoError> {
+fn write_zeros(file: &File, from: u64, end: u64) -> io::Result<()> {
     let zeros = [0; PIECE];
     let mut at = from;
     while at < end {
@@ -211,25 +240,18 @@ fn write_zeros(file: &File, from: u64, end: u64) -> Result<(), RedoError> {
 }
 
 // Writes the first `len` bytes of a file over themselves.
-fn write_again(file: &File, len: u64) -> Result<(), RedoError> {
-    let mut piece = [0; PIECE];
+fn write_again(file: &File, len: u64) -> io::Result<()> {
     let mut at = 0;
     while at < len {
         let size = (len - at).min(PIECE as u64);
+        // `fill` leaves what lies past the file's end as it was. So each piece begins as zeros: a file that has become shorter
+        // meanwhile must not get bytes of the piece before.
+        let mut piece = [0; PIECE];
         fill(file, at, &mut piece[..size as usize])?;
         write_all(file, at, &piece[..size as usize])?;
         at += size;
     }
     Ok(())
-}
-
-fn error_of(error: &io::Error) -> RedoError
-    ensures { (result ≡ RedoError.NoRoom) ⊎ (result ≡ RedoError.Failed) }
-{
-    match error.kind() {
-        ErrorKind::StorageFull | ErrorKind::QuotaExceeded => RedoError::NoRoom,
-        _ => RedoError::Failed,
-    }
 }
 
 impl<S: Start> FilePair for SystemPair<S> {
@@ -258,9 +280,13 @@ impl<S: Start> FilePair for SystemPair<S> {
         bytes: &mut Vec<u8>,
     ) -> Result<(), RedoError> {
         let start = bytes.len();
-        read_behind(self.file(file), at, len, bytes)?;
-        note(&mut self.history, READ, file, at, true, &bytes[start..]);
-        Ok(())
+        match read_behind(self.file(file), at, len, bytes) {
+            Ok(()) => {
+                note(&mut self.history, READ, file, at, true, &bytes[start..]);
+                Ok(())
+            }
+            Err(error) => Err(self.read_fault(&error)),
+        }
     }
 
     fn write_at(&mut self, file: FileKind, at: u64, bytes: &[u8]) -> Result<(), RedoError> {
@@ -276,7 +302,7 @@ impl<S: Start> FilePair for SystemPair<S> {
             }
             Err(error) => {
                 note(&mut self.history, WRITE, file, at, false, bytes);
-                Err(error)
+                Err(self.write_fault(&error))
             }
         }
     }
@@ -291,10 +317,15 @@ impl<S: Start> FilePair for SystemPair<S> {
                 self.grow_beside(file);
                 Ok(())
             }
-            Err(_) => {
+            Err(error) => {
+                self.errno.set(error.raw_os_error());
                 self.has_failed = true;
                 Err(RedoError::Failed)
             }
         }
+    }
+
+    fn errno(&self) -> Option<i32> {
+        self.errno.get()
     }
 }

@@ -64,7 +64,7 @@ no_whole_unit = refl
 -- what the first settings say, once they are read
 abbrev first_table : Members
 first_table =
-    member (codes "host") (string (codes "127.0.0.1:7001"))
+    member (codes "host") (string (codes "unix:buckets.sock"))
     (member (codes "key") (string (codes "a7a7a7a7a7a7a7a7a7a7a7a7a7a7a7a7a7a7a7a7a7a7a7a7a7a7a7a7a7a7a7a7"))
     (member (codes "size") (integer (pos 1073741824)) no_members))
 

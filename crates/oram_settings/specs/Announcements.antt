@@ -6,7 +6,7 @@ use Rattle.oram_settings.specs.Amounts.{amount, size_text}
 -- what to do next, once the folder of a disk is made
 abbrev pub next_text : List ℕ → List ℕ
 next_text folder =
-    concat (codes "Next, once host.toml is at the rented machine, and a tunnel leads there (ssh -N -L 7001:127.0.0.1:7001 you@rented):\n  there:  oramdisk host --new host.toml\n  here:   oramdisk format " ∷ folder
+    concat (codes "Next, once host.toml is at the rented machine, and a tunnel leads there (ssh -N -o StreamLocalBindUnlink=yes -L " ∷ folder ∷ codes "/buckets.sock:/home/you/buckets.sock you@rented):\n  there:  oramdisk host --new host.toml\n  here:   oramdisk format " ∷ folder
     ∷ codes "/disk.toml\n  here:   oramdisk serve " ∷ folder ∷ codes "/disk.toml\nClients of NBD then connect to nbd+unix:///?socket=" ∷ folder ∷ codes "/disk.sock" ∷ [])
 
 -- what `new` prints: `size` is the disk's size and `stored` what the host stores of it, both in bytes

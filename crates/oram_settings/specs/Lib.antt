@@ -1,3 +1,4 @@
+pub mod Places
 pub mod Settings
 pub mod Status
 pub mod Progress

@@ -57,7 +57,7 @@ HasSealing table key sealing = HasText table key (sealing_name sealing)
 abbrev pub IsSocket : List ℕ → Type 0
 IsSocket text = (path : List ℕ) × IsName path × (text ≡ codes "unix:" ++ path)
 
--- where clients of NBD connect
+-- where a program listens, or where another one is reached
 pub record IsPlace (text : List ℕ) : Type 0 where
   pub is_either : IsAddress text ⊎ IsSocket text
 
@@ -79,7 +79,7 @@ pub record IsDisk (members : Members) (s : DiskValue) : Type 0 where
   pub table : OrDefault members (codes "table") 1024 (HasNumber members (codes "table")) s.table
   pub sealer : OrDefault members (codes "sealer") ChaCha (HasSealing members (codes "sealer")) s.sealer
   pub key : HasHex members (codes "key") s.key
-  pub host : HasText members (codes "host") s.host × IsAddress s.host
+  pub host : HasText members (codes "host") s.host × IsPlace s.host
   pub listen : OrDefault members (codes "listen") (codes "unix:disk.sock") (λ text. HasText members (codes "listen") text × IsPlace text) s.listen
   pub state : OrDefault members (codes "state") (codes "disk.state") (λ text. HasText members (codes "state") text × IsName text) s.state
   pub sync : OrDefault members (codes "sync") true (HasFlag members (codes "sync")) s.sync
@@ -102,4 +102,4 @@ first_text size key =
     ∷ decimal size
     ∷ codes "\n\n# Whoever has this key can read the disk. Without it nobody can.\nkey = \""
     ∷ encode_lower key
-    ∷ codes "\"\n\n# Where the host is reached: your end of the tunnel.\nhost = \"127.0.0.1:7001\"\n\n# Each line below shows what holds without it. To set another value, take away the \"# \" that the line begins with.\n\n# These five are fixed once the disk is formatted.\n# block = 4096               # the bytes of a block\n# slots = 4                  # how many blocks a bucket has room for\n# leaf_load = 5              # for how many blocks there is a leaf, which takes two buckets at the host; with fewer than 4 slots it is 1\n# table = 1024               # the most entries of the table that the client keeps\n# sealer = \"chacha\"          # how buckets are sealed; \"plain\" hides nothing, and is only for trying things out\n\n# These may be changed at any time.\n# listen = \"unix:disk.sock\"  # where the disk is served: a socket in this folder, for you alone; or \"127.0.0.1:PORT\", for all users of this machine\n# state = \"disk.state\"       # the file of the disk's state, in this folder\n# sync = true                # each state is synced before it counts\n# reconnect_timeout = 600    # for how many seconds the client waits for a host that doesn't answer\n" ∷ [])
+    ∷ codes "\"\n\n# Where the host is reached: your end of the tunnel, a socket in this folder, for you alone; or \"127.0.0.1:PORT\", for all users of\n# this machine.\nhost = \"unix:buckets.sock\"\n\n# Each line below shows what holds without it. To set another value, take away the \"# \" that the line begins with.\n\n# These five are fixed once the disk is formatted.\n# block = 4096               # the bytes of a block\n# slots = 4                  # how many blocks a bucket has room for\n# leaf_load = 5              # for how many blocks there is a leaf, which takes two buckets at the host; with fewer than 4 slots it is 1\n# table = 1024               # the most entries of the table that the client keeps\n# sealer = \"chacha\"          # how buckets are sealed; \"plain\" hides nothing, and is only for trying things out\n\n# These may be changed at any time.\n# listen = \"unix:disk.sock\"  # where the disk is served: a socket in this folder, for you alone; or \"127.0.0.1:PORT\", for all users of this machine\n# state = \"disk.state\"       # the file of the disk's state, in this folder\n# sync = true                # each state is synced before it counts\n# reconnect_timeout = 600    # for how many seconds the client waits for a host that doesn't answer\n" ∷ [])

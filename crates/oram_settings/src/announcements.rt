@@ -11,7 +11,7 @@ fn next_text(alloc: Global, folder: &str) -> Result<String, AllocError>
     ensures { IfOk result (λ text. string_bytes text ≡ spec.next_text folder.now) }
 {
     format!(in alloc;
-        "Next, once host.toml is at the rented machine, and a tunnel leads there (ssh -N -L 7001:127.0.0.1:7001 you@rented):\n  there:  oramdisk host --new host.toml\n  here:   oramdisk format {folder}/disk.toml\n  here:   oramdisk serve {folder}/disk.toml\nClients of NBD then connect to nbd+unix:///?socket={folder}/disk.sock"
+        "Next, once host.toml is at the rented machine, and a tunnel leads there (ssh -N -o StreamLocalBindUnlink=yes -L {folder}/buckets.sock:/home/you/buckets.sock you@rented):\n  there:  oramdisk host --new host.toml\n  here:   oramdisk format {folder}/disk.toml\n  here:   oramdisk serve {folder}/disk.toml\nClients of NBD then connect to nbd+unix:///?socket={folder}/disk.sock"
     )
 }
 

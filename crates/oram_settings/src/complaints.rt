@@ -1,7 +1,7 @@
 //! Complaints about a settings file, for whoever wrote it.
 
 use crate::disk_file::{DiskSettings, flag_at, place_at, sealing_at};
-use oram_cli::{address_at, count_at, key_at, name_at, number_at};
+use oram_cli::{count_at, key_at, name_at, number_at};
 use std::alloc::{AllocError, Global};
 use std::fmt;
 use strsim::levenshtein;
@@ -14,7 +14,6 @@ enum Kind {
     Seconds,
     Sealer,
     Key,
-    Address,
     Place,
     Name,
     Flag,
@@ -28,7 +27,6 @@ impl fmt::Display for Kind {
             Kind::Seconds => "a number of seconds from 1 to 1000000, without quotation marks",
             Kind::Sealer => "\"chacha\" or \"plain\"",
             Kind::Key => "64 hexadecimal digits in quotation marks",
-            Kind::Address => "\"127.0.0.1:PORT\", with a port from 1 to 65535",
             Kind::Place => {
                 "\"127.0.0.1:PORT\", with a port from 1 to 65535, or \"unix:NAME\", with the name of a socket"
             }
@@ -86,7 +84,7 @@ const DISK: [Setting; 12] = [
     },
     Setting {
         key: "host",
-        kind: Kind::Address,
+        kind: Kind::Place,
         is_required: true,
     },
     Setting {
@@ -115,7 +113,7 @@ const DISK: [Setting; 12] = [
 const HOST: [Setting; 2] = [
     Setting {
         key: "listen",
-        kind: Kind::Address,
+        kind: Kind::Place,
         is_required: true,
     },
     Setting {
@@ -135,7 +133,6 @@ fn is_right(table: &Table, setting: Setting) -> bool {
         Kind::Seconds => count_at(table, setting.key).is_ok(),
         Kind::Sealer => sealing_at(table, setting.key).is_ok(),
         Kind::Key => key_at(table, setting.key).is_ok(),
-        Kind::Address => address_at(table, setting.key).is_ok(),
         Kind::Place => place_at(table, setting.key).is_ok(),
         Kind::Name => name_at(table, setting.key).is_ok(),
         Kind::Flag => flag_at(table, setting.key).is_ok(),

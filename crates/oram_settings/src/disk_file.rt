@@ -58,7 +58,7 @@ pub struct DiskSettings {
     pub sealer: Sealing,
     /// The key from which the disk's other keys are derived.
     pub key: [u8; 32],
-    /// The address at which the host is reached.
+    /// Where the host is reached: an address, or `unix:` and the name of a socket, relative to the folder of the settings.
     pub host: String,
     /// Where the disk is served: an address, or `unix:` and the name of a socket, relative to the folder of the
     /// settings.
@@ -127,8 +127,8 @@ fn is_socket(text: &str) -> bool
     }
 }
 
-/// Returns where clients connect: an address, or `unix:` and the name of a Unix socket.
-pub(crate) fn place_at<'a>(table: &'a Table, key: &str) -> Result<&'a str, InputFault>
+/// Returns a place at which a program listens, or another one is reached: an address, or `unix:` and the name of a Unix socket.
+pub fn place_at<'a>(table: &'a Table, key: &str) -> Result<&'a str, InputFault>
     ensures { Finds (λ s. s.now) (λ s. HasText (table_view table.now) key.now s × IsPlace s) result }
 {
     let text = name_at(table, key)?;
@@ -244,7 +244,7 @@ fn disk_in(alloc: Global, document: &Table) -> Result<DiskSettings, InputFault>
     let table = number_or(document, "table", DEFAULT_TABLE)?;
     let sealer = sealing_or(document, "sealer", Sealing::ChaCha)?;
     let key = key_at(document, "key")?;
-    let host = address_at(document, "host")?;
+    let host = place_at(document, "host")?;
     let listen = place_or(document, "listen", "unix:disk.sock")?;
     let state = name_or(document, "state", "disk.state")?;
     let sync = flag_or(document, "sync", true)?;
@@ -297,6 +297,6 @@ pub fn disk_text(alloc: Global, size: u64, key: &[u8; 32]) -> Result<String, All
     let key = encode(alloc, key)?;
     let key = key.as_str();
     format!(in alloc;
-        "# The disk's size in bytes. It is fixed once the disk is formatted.\nsize = {size}\n\n# Whoever has this key can read the disk. Without it nobody can.\nkey = \"{key}\"\n\n# Where the host is reached: your end of the tunnel.\nhost = \"127.0.0.1:7001\"\n\n# Each line below shows what holds without it. To set another value, take away the \"# \" that the line begins with.\n\n# These five are fixed once the disk is formatted.\n# block = 4096               # the bytes of a block\n# slots = 4                  # how many blocks a bucket has room for\n# leaf_load = 5              # for how many blocks there is a leaf, which takes two buckets at the host; with fewer than 4 slots it is 1\n# table = 1024               # the most entries of the table that the client keeps\n# sealer = \"chacha\"          # how buckets are sealed; \"plain\" hides nothing, and is only for trying things out\n\n# These may be changed at any time.\n# listen = \"unix:disk.sock\"  # where the disk is served: a socket in this folder, for you alone; or \"127.0.0.1:PORT\", for all users of this machine\n# state = \"disk.state\"       # the file of the disk's state, in this folder\n# sync = true                # each state is synced before it counts\n# reconnect_timeout = 600    # for how many seconds the client waits for a host that doesn't answer\n"
+        "# The disk's size in bytes. It is fixed once the disk is formatted.\nsize = {size}\n\n# Whoever has this key can read the disk. Without it nobody can.\nkey = \"{key}\"\n\n# Where the host is reached: your end of the tunnel, a socket in this folder, for you alone; or \"127.0.0.1:PORT\", for all users of\n# this machine.\nhost = \"unix:buckets.sock\"\n\n# Each line below shows what holds without it. To set another value, take away the \"# \" that the line begins with.\n\n# These five are fixed once the disk is formatted.\n# block = 4096               # the bytes of a block\n# slots = 4                  # how many blocks a bucket has room for\n# leaf_load = 5              # for how many blocks there is a leaf, which takes two buckets at the host; with fewer than 4 slots it is 1\n# table = 1024               # the most entries of the table that the client keeps\n# sealer = \"chacha\"          # how buckets are sealed; \"plain\" hides nothing, and is only for trying things out\n\n# These may be changed at any time.\n# listen = \"unix:disk.sock\"  # where the disk is served: a socket in this folder, for you alone; or \"127.0.0.1:PORT\", for all users of this machine\n# state = \"disk.state\"       # the file of the disk's state, in this folder\n# sync = true                # each state is synced before it counts\n# reconnect_timeout = 600    # for how many seconds the client waits for a host that doesn't answer\n"
     )
 }

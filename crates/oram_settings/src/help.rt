@@ -10,7 +10,7 @@ The rented machine runs 'oramdisk host', which keeps the disk's buckets. Your ow
 pub(crate) const PROGRAM_MORE: &str = "A first disk, in the order of the commands:
   yours:   oramdisk new mydisk --size 1GiB        and copy mydisk/host.toml to the rented machine
   rented:  oramdisk host --new host.toml
-  yours:   ssh -N -L 7001:127.0.0.1:7001 you@rented
+  yours:   ssh -N -o StreamLocalBindUnlink=yes -L mydisk/buckets.sock:/home/you/buckets.sock you@rented
   yours:   oramdisk format mydisk/disk.toml
   yours:   oramdisk serve mydisk/disk.toml
   yours:   sudo nbd-client -unix mydisk/disk.sock /dev/nbd0

@@ -28,10 +28,10 @@ pub use complaints::{disk_complaint, host_complaint, numbers_complaint};
 pub use differences::{FixedKey, first_difference};
 pub use disk_file::{
     DEFAULT_BLOCK, DEFAULT_LEAF_LOAD, DEFAULT_SLOTS, DEFAULT_TABLE, DiskSettings, LIFETIME,
-    Sealing, device_of, disk_text, read_disk_settings,
+    Sealing, device_of, disk_text, place_at, read_disk_settings,
 };
 pub use footprint::stored_bytes;
-pub use names::relative_to;
+pub use names::{place_beside, relative_to};
 pub use progress::{Meter, percent, progress_text};
 pub use sizes::read_size;
 pub use status::{Status, failure_text, report, status_of};

@@ -1,14 +1,16 @@
 //! Connections that keep nobody out: while a server waits for one of them, it also watches the listener and the clock.
 //!
-//! A [`Listener`] accepts connections at an address or at a Unix socket. [`watch`] returns both directions of a
-//! connection. An [`Attendant`] decides how long the server waits for it, and what happens when somebody else connects.
+//! A [`Listener`] accepts connections at an address or at a Unix socket, and [`connect_to`] connects to either. [`watch`]
+//! returns both directions of a connection. An [`Attendant`] decides how long the server waits for it, and what happens when somebody else connects.
 //! If a server answers messages, [`MarkedReader`] and [`MarkedWriter`] tell it whether it is in the middle of one.
 #![tactic(auto)]
 
+mod connection;
 mod listener;
 mod marked;
 mod watched;
 
-pub use listener::{Connection, Listener, Peer, listen_at_path};
+pub use connection::{Connection, UNIX, connect_to};
+pub use listener::{Listener, Peer, listen_at_path};
 pub use marked::{MarkedReader, MarkedWriter, Marks};
 pub use watched::{Attendant, Direction, Halves, Watched, watch};

@@ -2,16 +2,21 @@
 
 ghost use Rattle.std.specs.Prelude.{None};
 
-use std::io::{Error, ErrorKind, Read, Write};
-use std::net::{Net, OpenListener, OpenStream, SocketAddr, TcpListener, TcpStream};
+use crate::connection::Connection;
+use std::fs::DirBuilder;
+use std::io::{Error, ErrorKind};
+use std::net::{Net, OpenListener, SocketAddr, TcpListener, TcpStream};
 use std::os::fd::{AsRawFd, RawFd};
-use std::os::unix::fs::{FileTypeExt, PermissionsExt};
+use std::os::unix::fs::{DirBuilderExt, FileTypeExt, PermissionsExt};
 use std::os::unix::net::{UnixListener, UnixStream};
 use std::rt::Files;
 use std::{fmt, fs, io};
 
 /// The mode of a socket's file: only its owner can connect.
 const OWNERS_ALONE: u32 = 0o600;
+
+/// The mode of the folder in which a socket is made: only its owner can open it.
+const OWNERS_FOLDER: u32 = 0o700;
 
 /// Who has connected.
 #[derive(Clone, Copy, Debug, PartialEq, Eq)]
@@ -37,16 +42,9 @@ pub enum Listener {
     Unix(UnixListener),
 }
 
-/// A connection that was accepted.
-#[derive(Drop)]
-pub enum Connection {
-    Tcp(TcpStream),
-    Unix(UnixStream),
-}
-
 impl Listener {
     /// Waits for a connection, and accepts it. Fails with `WouldBlock` if none waits and the listener doesn't block.
-    pub fn accept(&self) -> io::Result<(Connection, Peer)> {
+    pub fn accept(&self) -> io::Result<(Connection<TcpStream>, Peer)> {
         match self {
             Listener::Tcp(listener) => {
                 let (stream, address) = listener.accept()?;
@@ -78,66 +76,6 @@ impl AsRawFd for Listener {
     }
 }
 
-impl AsRawFd for Connection {
-    ghost raw_fd = { λ _. None };
-
-    fn as_raw_fd(&self) -> RawFd {
-        match self {
-            Connection::Tcp(stream) => stream.as_raw_fd(),
-            Connection::Unix(stream) => stream.as_raw_fd(),
-        }
-    }
-}
-
-impl Read for Connection {
-    fn read(&mut self, buf: &mut [u8]) -> io::Result<usize> {
-        match self {
-            Connection::Tcp(stream) => stream.read(buf),
-            Connection::Unix(stream) => stream.read(buf),
-        }
-    }
-}
-
-impl Write for Connection {
-    fn write(&mut self, buf: &[u8]) -> io::Result<usize> {
-        match self {
-            Connection::Tcp(stream) => stream.write(buf),
-            Connection::Unix(stream) => stream.write(buf),
-        }
-    }
-
-    fn flush(&mut self) -> io::Result<()> {
-        match self {
-            Connection::Tcp(stream) => stream.flush(),
-            Connection::Unix(stream) => stream.flush(),
-        }
-    }
-}
-
-impl OpenStream for Connection {
-    // A Unix socket holds nothing back anyway.
-    fn set_nodelay(&self, nodelay: bool) -> io::Result<()> {
-        match self {
-            Connection::Tcp(stream) => stream.set_nodelay(nodelay),
-            Connection::Unix(_) => Ok(()),
-        }
-    }
-
-    fn set_nonblocking(&self, nonblocking: bool) -> io::Result<()> {
-        match self {
-            Connection::Tcp(stream) => stream.set_nonblocking(nonblocking),
-            Connection::Unix(stream) => stream.set_nonblocking(nonblocking),
-        }
-    }
-
-    fn try_clone(&self) -> io::Result<Connection> {
-        Ok(match self {
-            Connection::Tcp(stream) => Connection::Tcp(stream.try_clone()?),
-            Connection::Unix(stream) => Connection::Unix(stream.try_clone()?),
-        })
-    }
-}
-
 /// Removes a socket's file if no process listens at that socket any more. A process that is killed leaves such a file.
 /// The file stays, and the call fails, if a process listens (`AddrInUse`) or if it isn't a socket (`AlreadyExists`).
 fn clear<R: Files + Net>(rt: &R, path: &str) -> io::Result<()> {
@@ -156,11 +94,34 @@ fn clear<R: Files + Net>(rt: &R, path: &str) -> io::Result<()> {
     }
 }
 
-/// Listens at the Unix socket `path`, to which only its owner can connect. Replaces a socket at which nobody listens
-/// any more. In the moment between the two calls that make the socket, the process's umask decides who can connect.
-pub fn listen_at_path<R: Files + Net>(rt: &R, path: &str) -> io::Result<Listener> {
+/// Removes the folder in which a socket is made, and what is left in it.
+fn remove_folder<R: Files>(rt: &R, folder: &str, made: &str) {
+    let _may_not_be_there = fs::remove_file(rt, made);
+    let _may_not_be_there = fs::remove_dir(rt, folder);
+}
+
+/// Makes a listening socket under the name `made`, for its owner alone, and then gives it the name `path`.
+fn listen_and_rename<R: Files + Net>(rt: &R, made: &str, path: &str) -> io::Result<UnixListener> {
+    let listener = UnixListener::bind(rt, made)?;
+    fs::set_permissions(rt, made, fs::Permissions::from_mode(OWNERS_ALONE))?;
+    fs::rename(rt, made, path)?;
+    Ok(listener)
+}
+
+/// Listens at the Unix socket `path`, to which only its owner can connect. Replaces a socket at which nobody listens any more.
+///
+/// The system decides by the process's umask who can connect to a new socket. So the socket is made in a folder that only its
+/// owner can open, and leaves it with its mode. A process that was killed meanwhile may have left that folder.
+pub fn listen_at_path<R: Files + Net + AllocGlobal>(rt: &R, path: &str) -> io::Result<Listener> {
+    let alloc = rt.alloc();
     clear(rt, path)?;
-    let listener = UnixListener::bind(rt, path)?;
-    fs::set_permissions(rt, path, fs::Permissions::from_mode(OWNERS_ALONE))?;
-    Ok(Listener::Unix(listener))
+    let folder = format!(in alloc; "{path}~")?;
+    let made = format!(in alloc; "{path}~/s")?;
+    remove_folder(rt, folder.as_str(), made.as_str());
+    let mut builder = DirBuilder::new();
+    builder.mode(OWNERS_FOLDER);
+    builder.create(rt, folder.as_str())?;
+    let listener = listen_and_rename(rt, made.as_str(), path);
+    remove_folder(rt, folder.as_str(), made.as_str());
+    Ok(Listener::Unix(listener?))
 }

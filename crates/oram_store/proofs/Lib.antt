@@ -5,7 +5,8 @@ pub mod Crashes
 pub mod Outcomes
 pub mod Allowed
 pub mod Sound
-pub mod Levels
+pub mod Identity
+mod Levels
 pub mod BatchBytes
 pub mod CommittedPuts
 pub mod Served

@@ -1,11 +1,16 @@
--- What a store's first STORE leaves.
-use Rattle.std.specs.Prelude.{◌≡◌, ℕ, List, None, Some}
+-- What a store's first STORE leaves, and what no request changes.
+use Rattle.std.specs.Prelude.{◌≡◌, ℕ, List, None, Some, is_some, true}
 use Rattle.oram_redo.specs.Content.{Content}
 use Rattle.oram_layout.specs.BucketFile.{IsBucketFile}
 use Rattle.oram_layout.specs.Limits.{TreeShape}
 use Rattle.oram_layout.specs.Records.{Records, records_in}
 use Rattle.oram_layout.specs.Trees.{Trees, shape_at}
+use Rattle.oram_store.specs.Answers.{Answers}
 use Rattle.oram_store.specs.KeptRecords.{Stores}
+use Rattle.oram_store.specs.Refusals.{RespondsWith}
+use Rattle.oram_store.specs.declared.store.TheConstants.{DISK_IDENTITY_TREE}
+use Rattle.oram_wire.specs.declared.host_messages.HostAnswer.{HostAnswer}
+use Rattle.oram_wire.specs.declared.host_messages.HostRequest.{HostRequest}
 
 abbrev pub no_records : Records
 no_records tree node = None
@@ -15,3 +20,8 @@ pub record HoldsPath (trees : Trees) (tree : ℕ) (s : TreeShape) (leaf : ℕ) (
   pub file : IsBucketFile trees c
   pub shape : shape_at trees tree ≡ Some s
   pub records : Stores tree s leaf bytes no_records (records_in trees c)
+
+-- Once a disk has its first tree, no request changes the disk's identity, whatever it is answered.
+abbrev pub IdentityStays : Type 0
+IdentityStays = (trees after : Trees) (message : HostRequest) (answer : HostAnswer) (old new : Records) (node : ℕ) → is_some (shape_at trees 0) ≡ true
+    → RespondsWith trees message answer after → Answers trees old message answer new → new DISK_IDENTITY_TREE node ≡ old DISK_IDENTITY_TREE node

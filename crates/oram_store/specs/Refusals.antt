@@ -1,5 +1,5 @@
 -- Which requests the trees of a store refuse, before any record is read.
-use Rattle.std.specs.Prelude.{◌≡◌, ◌⊎◌, ℕ, ◌+◌, ◌-◌, ◌*◌, ◌^◌, ◌==◌, nat_lt, is_none, if◌then◌else◌, Bool, length, Option, Some, None}
+use Rattle.std.specs.Prelude.{◌≡◌, ◌⊎◌, ℕ, ◌+◌, ◌-◌, ◌*◌, ◌^◌, ◌==◌, ◌&&◌, nat_lt, is_none, is_some, if◌then◌else◌, Bool, length, Option, Some, None}
 use Rattle.oram_wire.specs.declared.host_messages.HostAnswer.{HostAnswer}
 use Rattle.oram_wire.specs.declared.host_messages.HostAnswer.TheVariants as answer
 use Rattle.oram_wire.specs.declared.host_messages.HostRequest.{HostRequest}
@@ -9,13 +9,22 @@ use Rattle.oram_host.specs.Refusals.{code_of}
 use Rattle.oram_host.specs.declared.refusals.HostRefusal.{HostRefusal}
 use Rattle.oram_host.specs.declared.refusals.HostRefusal.TheVariants.{NoShape, BadLeaf, BadNode, BadLength, ShapeTaken, Missing, OutOfMemory}
 use Rattle.oram_layout.specs.Limits.{TreeShape}
+use Rattle.oram_store.specs.declared.store.TheConstants.{DISK_IDENTITY_TREE}
 use Rattle.oram_layout.specs.Trees.{Trees, shape_at}
 
 -- the refusal `why` if the condition doesn't hold, or else `rest`
 abbrev unless : Bool → HostRefusal → Option HostRefusal → Option HostRefusal
 unless holds why rest = if holds then rest else Some why
 
-abbrev by_shape : Option TreeShape → (TreeShape → Option HostRefusal) → Option HostRefusal
+-- the refusal `why` if the condition holds, or else `rest`
+abbrev pub when : Bool → HostRefusal → Option HostRefusal → Option HostRefusal
+when holds why rest = if holds then Some why else rest
+
+-- A tree whose records stay as they are: the one with the identity of a disk, once there is the tree with the disk's blocks.
+abbrev pub is_fixed : Trees → ℕ → Bool
+is_fixed trees tree = (tree == DISK_IDENTITY_TREE) && is_some (shape_at trees 0)
+
+abbrev pub by_shape : Option TreeShape → (TreeShape → Option HostRefusal) → Option HostRefusal
 by_shape None rest = Some NoShape
 by_shape (Some shape) rest = rest shape
 
@@ -23,9 +32,11 @@ by_shape (Some shape) rest = rest shape
 abbrev pub refusal_by : Trees → HostRequest → Option HostRefusal
 refusal_by trees (request.Fetch tree leaf) = by_shape (shape_at trees tree) (λ s. unless (nat_lt leaf (2 ^ s.depth)) BadLeaf None)
 refusal_by trees (request.Store tree leaf records) =
-    by_shape (shape_at trees tree) (λ s. unless (nat_lt leaf (2 ^ s.depth)) BadLeaf (unless (length records == (s.depth + 1) * s.record_len) BadLength None))
+    by_shape (shape_at trees tree) (λ s. when (is_fixed trees tree) ShapeTaken
+    (unless (nat_lt leaf (2 ^ s.depth)) BadLeaf (unless (length records == (s.depth + 1) * s.record_len) BadLength None)))
 refusal_by trees (request.Put tree node bytes) =
-    by_shape (shape_at trees tree) (λ s. unless (nat_lt node (2 ^ (s.depth + 1) - 1)) BadNode (unless (length bytes == s.record_len) BadLength None))
+    by_shape (shape_at trees tree) (λ s. when (is_fixed trees tree) ShapeTaken
+    (unless (nat_lt node (2 ^ (s.depth + 1) - 1)) BadNode (unless (length bytes == s.record_len) BadLength None)))
 refusal_by trees (request.Shape tree depth record_len) = unless (is_shape depth record_len) BadLength (unless (is_none (shape_at trees tree)) ShapeTaken None)
 
 -- the trees before and after a request that was carried out

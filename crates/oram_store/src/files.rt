@@ -33,7 +33,7 @@ const OWNERS_ALONE: u32 = 0o600;
 /// appended. The two belong together.
 ///
 /// A file that isn't a store's, is damaged or is held by another process is refused and keeps its bytes. This reads
-/// only the header of the file. It reads the log, which has 64 MiB at most, once; after a clean end the log is empty.
+/// only the header of the file. It reads the log, which has 64 MiB at most, and writes it over itself.
 ///
 /// After the disk has failed (`StoreFault::Io`, `StoreFault::Closed`), drop the store and open its file again with this
 /// function: everything that was acknowledged and committed is there.

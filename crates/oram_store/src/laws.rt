@@ -7,7 +7,7 @@ ghost use Rattle.oram_redo.specs.FilePair.{Contents};
 ghost use Rattle.oram_store.specs.Answers.{IsKeptAtOnce};
 ghost use Rattle.oram_store.specs.Crashes.{Serves};
 ghost use Rattle.oram_store.specs.KeptRecords.{Holds, IsSound, records_of, sure_records};
-ghost use Rattle.oram_store.specs.Laws.{HoldsPath, no_records};
+ghost use Rattle.oram_store.specs.Laws.{HoldsPath, IdentityStays, no_records};
 ghost use Rattle.oram_store.specs.RecordFile.{Finds, Runs};
 ghost use Rattle.oram_store.specs.Refusals.{RespondsWith};
 ghost use Rattle.oram_wire.specs.HostBodies.{HasNumbers};
@@ -26,6 +26,11 @@ use std::alloc::{AllocError, Global};
 pub fn found_again<F: FilePair>(store: &FileStore<F>)
     ensures { IsSound F.model store.now → (c : Contents) → F.model.may_leave store.now.file.files c
         → Finds (F.model.seen store.now.file.files) (Holds store.now.trees (sure_records F.model store.now)) c }
+{}
+
+/// Once a disk has its first tree, no request changes the disk's identity, whatever the store answers.
+pub fn identity_stays()
+    ensures { IdentityStays }
 {}
 
 /// Makes a store of empty files, gives it a tree, and stores the records of one path. Each crash from then on leaves

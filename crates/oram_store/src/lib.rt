@@ -1,6 +1,7 @@
 //! A bucket server that keeps its records in a file.
 //!
-//! It gives the same answers, code by code, as `oram_host::Server`. `oram_layout` defines the layout of the file, and a
+//! It gives the same answers, code by code, as `oram_host::Server`, except that it keeps the identity of a disk from being
+//! changed ([`DISK_IDENTITY_TREE`]). `oram_layout` defines the layout of the file, and a
 //! redo log beside it (`oram_redo`) takes each change before the file does. So a crash at any moment leaves the records
 //! as they were before a request or as they are after it. A STORE is durable before it is answered; the records of a
 //! formatting become durable in groups.
@@ -20,5 +21,5 @@ mod store;
 pub use creation::create;
 pub use faults::StoreFault;
 pub use files::{BucketFile, open_store};
-pub use laws::{first_life, found_again};
-pub use store::FileStore;
+pub use laws::{first_life, found_again, identity_stays};
+pub use store::{DISK_IDENTITY_TREE, FileStore};

@@ -1,10 +1,10 @@
 //! The file of records with its redo log: what is read and written, and what stops it.
 //!
 //! Each call of the redo log is in a function of its own, because a proof carries along what is known about each call.
-ghost use Rattle.std.specs.Prelude.{◌≡◌, ◌⊎◌, ◌+◌, ◌<◌, ◌≤◌, ◌∷◌, [], All, true, false, length, IfOk, MatchResult, OnErr, OnOk};
+ghost use Rattle.std.specs.Prelude.{◌≡◌, ◌⊎◌, ◌+◌, ◌<◌, ◌≤◌, ◌∷◌, [], All, true, false, length, IfErr, IfOk, IsErrOf, MatchResult, OnErr, OnOk};
 ghost use Rattle.oram_redo.specs.Batch.{patches_of};
 ghost use Rattle.oram_redo.specs.Content.{Agrees, bytes_at, put};
-ghost use Rattle.oram_redo.specs.FilePair.{ReadOnto};
+ghost use Rattle.oram_redo.specs.FilePair.{ReadOnto, Rises};
 ghost use Rattle.oram_redo.specs.Log.{AgreesBut, Fits, entries, put_all};
 ghost use Rattle.oram_redo.specs.Redo.{bounds_of, end_of};
 ghost use Rattle.oram_store.specs.RecordFile.{Calls, Commits, IsSteady, MayHave, Passes, ReadsOnly, bounds};
@@ -57,6 +57,11 @@ impl<F: FilePair> RecordFile<F> {
             is_loose: false,
             has_stopped: false,
         }
+    }
+
+    /// Returns the number of the system's error for which a call of the files failed last, if the system gave one.
+    pub(crate) fn errno(&self) -> Option<i32> {
+        self.files.errno()
     }
 
     /// Returns the store's fault for an error of the redo log. Most errors stop the file.
@@ -144,6 +149,7 @@ impl<F: FilePair> RecordFile<F> {
         ensures empty { OnOk result (end_of self.new.redo ≡ bounds.log_start) }
         ensures sure { OnOk result (self.new.is_loose ≡ false) }
         ensures same { Agrees (F.model.seen self.new.files Records) (F.model.seen self.old.files Records) }
+        ensures errors { IfErr result (λ fault. (fault ≡ StoreFault.Io) ⊎ (fault ≡ StoreFault.Closed)) }
         ensures calls { Calls F.model result self.old self.new }
         ensures running { OnOk result (self.new.has_stopped ≡ false) }
     {
@@ -165,6 +171,7 @@ impl<F: FilePair> RecordFile<F> {
             → Passes F.model [] (λ r. AgreesBut loose r (F.model.seen self.old.files Records)) self.old self.new }
         ensures sure { OnOk result (self.new.is_loose ≡ false) }
         ensures same { Agrees (F.model.seen self.new.files Records) (F.model.seen self.old.files Records) }
+        ensures errors { IfErr result (λ fault. (fault ≡ StoreFault.Io) ⊎ (fault ≡ StoreFault.Closed)) }
         ensures calls { Calls F.model result self.old self.new }
     {
         if self.is_loose {
@@ -173,16 +180,19 @@ impl<F: FilePair> RecordFile<F> {
         Ok(())
     }
 
-    /// Commits a batch, and returns whether the log had room for it.
+    /// Commits a batch, and returns whether the log had room for it, and its disk had.
     fn commit_if_room(&mut self, alloc: Global, batch: &[Patch]) -> Result<bool, StoreFault>
         requires { All (Fits bounds) (patches_of batch.now) }
         ensures passes { IsSteady F.model self.old []
             → Passes F.model []
             (MayHave F.model (MatchResult result (λ fits. fits ≡ true) (λ _. self.new.has_stopped ≡ true)) (patches_of batch.now) self.old) self.old self.new }
         ensures done { IfOk result (λ fits. fits ≡ true → Agrees (F.model.seen self.new.files Records) (put_all (patches_of batch.now) (F.model.seen self.old.files Records))) }
-        ensures full { IfOk result (λ fits. fits ≡ false → bounds.log_end ≤ end_of self.old.redo + length (entries (patches_of batch.now))) }
+        ensures full { IfOk result (λ fits. fits ≡ false
+            → (bounds.log_end ≤ end_of self.old.redo + length (entries (patches_of batch.now))) ⊎ Rises F.model.shortages self.old.files self.new.files) }
+        ensures end_stays { IfOk result (λ fits. fits ≡ false → end_of self.new.redo ≡ end_of self.old.redo) }
         ensures not_done { IfOk result (λ fits. fits ≡ false → Agrees (F.model.seen self.new.files Records) (F.model.seen self.old.files Records)) }
         ensures refused { OnErr result (self.new.has_stopped ≡ false → Agrees (F.model.seen self.new.files Records) (F.model.seen self.old.files Records)) }
+        ensures room { IsErrOf result StoreFault.NoRoom → ⊥ }
         ensures calls { Calls F.model result self.old self.new }
         ensures running { OnOk result (self.new.has_stopped ≡ false) }
     {
@@ -192,13 +202,14 @@ impl<F: FilePair> RecordFile<F> {
         match self.redo.commit(alloc, &mut self.files, batch) {
             Ok(()) => Ok(true),
             Err(RedoError::LogFull) => Ok(false),
+            Err(RedoError::NoRoom) => Ok(false),
             Err(RedoError::Memory) => Err(StoreFault::OutOfMemory),
-            Err(RedoError::NoRoom) => Err(StoreFault::NoRoom),
             Err(error @ (RedoError::Failed | RedoError::Damaged)) => Err(self.stopped_by(error)),
         }
     }
 
-    /// Commits a batch that fits in an empty log.
+    /// Commits a batch that fits in an empty log. If the log has no room for it, the log is begun anew: its first bytes have
+    /// room even on a full disk, since the file has them already.
     fn commit_sure(&mut self, alloc: Global, batch: &[Patch]) -> Result<(), StoreFault>
         requires fits { All (Fits bounds) (patches_of batch.now) }
         requires short { bounds.log_start + length (entries (patches_of batch.now)) < bounds.log_end }
@@ -207,6 +218,7 @@ impl<F: FilePair> RecordFile<F> {
             (MayHave F.model (OnErr result (self.new.has_stopped ≡ true)) (patches_of batch.now) self.old) self.old self.new }
         ensures done { OnOk result (Agrees (F.model.seen self.new.files Records) (put_all (patches_of batch.now) (F.model.seen self.old.files Records))) }
         ensures undone { OnErr result (self.new.has_stopped ≡ false → Agrees (F.model.seen self.new.files Records) (F.model.seen self.old.files Records)) }
+        ensures no_room { IsErrOf result StoreFault.NoRoom → end_of self.new.redo ≡ bounds.log_start }
         ensures calls { Calls F.model result self.old self.new }
         ensures running { OnOk result (self.new.has_stopped ≡ false) }
     {
@@ -217,16 +229,17 @@ impl<F: FilePair> RecordFile<F> {
         if self.commit_if_room(alloc, batch)? {
             return Ok(());
         }
-        // An empty log has room, so this isn't reached.
-        Err(self.stopped_by(RedoError::LogFull))
+        // An empty log isn't full, so it's the disk that is.
+        Err(StoreFault::NoRoom)
     }
 
     /// Commits a batch that fits in an empty log: all of it. After `Err` nothing is committed, unless the file has
-    /// stopped.
+    /// stopped. It finds no room only if the log is empty.
     pub(crate) fn commit(&mut self, alloc: Global, batch: &[Patch]) -> Result<(), StoreFault>
         requires fits { All (Fits bounds) (patches_of batch.now) }
         requires short { bounds.log_start + length (entries (patches_of batch.now)) < bounds.log_end }
         ensures commits { Commits F.model (patches_of batch.now) result self.old self.new }
+        ensures no_room { IsErrOf result StoreFault.NoRoom → end_of self.new.redo ≡ bounds.log_start }
         ensures calls { Calls F.model result self.old self.new }
         ensures running { OnOk result (self.new.has_stopped ≡ false) }
     {

@@ -12,7 +12,7 @@ ghost use Rattle.oram_store.specs.Crashes.{CommitsPuts, Serves};
 ghost use Rattle.oram_store.specs.KeptRecords.{Changes, IsSound, IsSoundFile, Stores};
 ghost use Rattle.oram_store.specs.PendingCells.{AreCells};
 ghost use Rattle.oram_store.specs.Reasons.{IsReasonFor, ReportsWhy};
-ghost use Rattle.oram_store.specs.Refusals.{IsRefused, ChangesTrees, refusal_by};
+ghost use Rattle.oram_store.specs.Refusals.{IsRefused, ChangesTrees, is_fixed, refusal_by};
 ghost use Rattle.oram_store.specs.RecordFile.{Calls, Commits, FileValue, IsReason, Runs};
 ghost use Rattle.oram_wire.specs.declared.host_messages.HostAnswer.{HostAnswer};
 ghost use Rattle.oram_wire.specs.declared.host_messages.HostRequest.{HostRequest};
@@ -26,6 +26,9 @@ use oram_layout::{Shape, Tree, entry_place, next_base};
 use oram_redo::{FileKind, FilePair, Patch};
 use std::alloc::Global;
 use std::marker::Model;
+
+/// The tree in which the formatting of a disk puts the disk's identity, before it makes the disk's own trees.
+pub const DISK_IDENTITY_TREE: u8 = 255;
 
 /// The greatest number of records of a formatting that are committed together.
 const MOST_PENDING: usize = 4_096;
@@ -179,12 +182,25 @@ impl<F: FilePair> FileStore<F> {
         self.trees[usize::from(number)]
     }
 
+    /// Returns whether the records of a tree stay as they are. Those with a disk's identity do, once the disk has a tree of its
+    /// own: so whoever formats a second disk here can't take the first one's identity away.
+    fn is_fixed(&self, number: u8) -> bool
+        ensures { result ≡ is_fixed self.now.trees number }
+    {
+        number == DISK_IDENTITY_TREE && self.tree_of(0).is_some()
+    }
+
     /// Returns why there was no room, the last time that a request was refused with code 8 or `commit_puts` failed. After
     /// `Io` and `Closed` the file has to be opened again.
     pub fn failure(&self) -> Option<StoreFault>
         ensures { result ≡ self.now.failure }
     {
         self.failure
+    }
+
+    /// Returns the number of the system's error for which a call of the files failed last, if the system gave one.
+    pub fn errno(&self) -> Option<i32> {
+        self.file.errno()
     }
 
     /// Keeps the reason why there is no room, and returns the refusal.
@@ -314,6 +330,9 @@ impl<F: FilePair> FileStore<F> {
         let Some(tree) = self.tree_of(number) else {
             return Err(HostRefusal::NoShape);
         };
+        if self.is_fixed(number) {
+            return Err(HostRefusal::ShapeTaken);
+        }
         if leaf >= tree.shape.leaves() {
             return Err(HostRefusal::BadLeaf);
         }
@@ -341,6 +360,9 @@ impl<F: FilePair> FileStore<F> {
         let Some(tree) = self.tree_of(number) else {
             return Err(HostRefusal::NoShape);
         };
+        if self.is_fixed(number) {
+            return Err(HostRefusal::ShapeTaken);
+        }
         if node >= tree.shape.nodes() {
             return Err(HostRefusal::BadNode);
         }

@@ -21,7 +21,7 @@ use oram_volume::Volume;
 use std::alloc::{AllocError, Global};
 use std::fs;
 use std::io::ErrorKind;
-use std::net::Net;
+use std::net::{Net, TcpStream};
 use std::os::fd::AsRawFd;
 use std::rt::Clock;
 
@@ -33,6 +33,8 @@ const EXPORT: &[u8] = b"disk";
 struct HostStatusPrinter<'a, R> {
     rt: &'a R,
     host: String,
+    /// For how many seconds a host that is lost is tried.
+    reconnect_timeout: u64,
 }
 
 impl<'a, R: Eprint + AllocGlobal> HostStatusPrinter<'a, R> {
@@ -46,7 +48,14 @@ impl<'a, R: Eprint + AllocGlobal> HostStatusPrinter<'a, R> {
 
 impl<'a, R: Eprint + AllocGlobal> HostWatch for HostStatusPrinter<'a, R> {
     fn lost(&mut self) {
-        self.print("is out of reach");
+        let alloc = self.rt.alloc();
+        let Ok(time) = counted(alloc, self.reconnect_timeout, "second") else {
+            return self.print("is out of reach");
+        };
+        let time = time.as_str();
+        if let Ok(what) = format!(in alloc; "is out of reach: it is tried for {time}, while requests wait") {
+            self.print(what.as_str());
+        }
     }
 
     fn full(&mut self) {
@@ -104,7 +113,7 @@ fn report_connection<R: Clock + Eprint + AllocGlobal>(
 fn serve_client<R: Net + Clock + Eprint + AllocGlobal, D: BlockDevice>(
     rt: &R,
     listener: &Listener,
-    stream: Connection,
+    stream: Connection<TcpStream>,
     disk: &mut D,
 ) -> Ended {
     let alloc = rt.alloc();
@@ -136,7 +145,7 @@ fn serve_client<R: Net + Clock + Eprint + AllocGlobal, D: BlockDevice>(
 fn serve_client_alone<R: Net + Clock + Eprint + AllocGlobal, D: BlockDevice>(
     rt: &R,
     listener: &Listener,
-    stream: Connection,
+    stream: Connection<TcpStream>,
     disk: &mut D,
 ) -> Ended {
     if listener.set_nonblocking(true).is_err() {
@@ -181,7 +190,7 @@ impl<'a, S: Sealer, B: BatchLink, K: Keeper, T: Tape> FailureKeeper<Volume<S, B,
 fn serve_connection<R: Net + Clock + Eprint + AllocGlobal, D: BlockDevice>(
     rt: &R,
     listener: &Listener,
-    stream: Connection,
+    stream: Connection<TcpStream>,
     peer: Peer,
     disk: &mut D,
 ) -> bool {
@@ -288,6 +297,7 @@ fn link_to<'a>(
     let watch = HostStatusPrinter {
         rt,
         host: String::from_str(alloc, host)?,
+        reconnect_timeout: settings.reconnect_timeout,
     };
     Ok(ReconnectLink::new(alloc, dialer, watch, settings.reconnect_timeout))
 }

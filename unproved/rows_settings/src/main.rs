@@ -33,6 +33,7 @@ impl Table for Calls {
             "write-number" => texts::write_number(alloc, words, page),
             "size" => texts::size(words, page),
             "beside" => texts::beside_file(alloc, words, page),
+            "place" => texts::place(alloc, words, page),
             "words" => texts::command_line(alloc, words, page),
             "says" => announcements::says(alloc, words, page),
             "disk" => disks::disk(alloc, words, page),

@@ -1,7 +1,7 @@
 //! Sizes, names, command lines, and texts that are written.
 
 use oram_cli::{put_between, put_number};
-use oram_settings::{NoRequest, Subcommand, read_command_line, read_size, relative_to};
+use oram_settings::{NoRequest, Subcommand, place_beside, read_command_line, read_size, relative_to};
 use rows::{Page, RowFault, RowWords};
 use std::alloc::Global;
 
@@ -20,6 +20,15 @@ pub fn beside_file(alloc: Global, words: &mut RowWords, page: &mut Page) -> Resu
     let name = words.text();
     let found = relative_to(alloc, file, name)?;
     page.word(found.as_str());
+    Ok(())
+}
+
+/// `place FILE PLACE`: writes a place that the settings in `FILE` name, as seen from the working directory.
+pub fn place(alloc: Global, words: &mut RowWords, page: &mut Page) -> Result<(), RowFault> {
+    let file = words.text();
+    let place = words.text();
+    let seen = place_beside(alloc, file, place)?;
+    page.word(seen.as_str());
     Ok(())
 }
 

@@ -1,4 +1,4 @@
-//! Files that are lent to a store, and fail from some call on.
+//! Files that are lent to a store, which fail from some call on, or whose log has little room.
 use oram_redo::{FileKind, FilePair, RedoError};
 
 /// Files that are lent to a store.
@@ -7,10 +7,19 @@ pub struct FailingFiles<'a, F: FilePair> {
     pub files: &'a mut F,
     /// How many more calls the files answer. After that, each call fails.
     pub calls: u64,
+    /// The place up to which the log has room.
+    pub log_room: u64,
+}
+
+impl<F: FilePair> FailingFiles<'_, F> {
+    /// Returns whether a write of `len` bytes finds room.
+    fn has_room(&self, file: FileKind, at: u64, len: usize) -> bool {
+        file == FileKind::Records || at.saturating_add(len as u64) <= self.log_room
+    }
 }
 
 impl<F: FilePair> FilePair for FailingFiles<'_, F> {
-    // Any call may be one too many.
+    // Any call may be one too many, and any write may find no room.
     ghost model = { record {
       seen = λ l. F.model.seen l.files.now;
       may_leave = λ l. F.model.may_leave l.files.now;
@@ -46,6 +55,9 @@ impl<F: FilePair> FilePair for FailingFiles<'_, F> {
             return Err(RedoError::Failed);
         };
         self.calls = calls;
+        if !self.has_room(file, at, bytes.len()) {
+            return Err(RedoError::NoRoom);
+        }
         self.files.write_at(file, at, bytes)
     }
 
@@ -55,5 +67,9 @@ impl<F: FilePair> FilePair for FailingFiles<'_, F> {
         };
         self.calls = calls;
         self.files.sync(file)
+    }
+
+    fn errno(&self) -> Option<i32> {
+        self.files.errno()
     }
 }

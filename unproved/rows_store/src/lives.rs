@@ -19,6 +19,8 @@ pub struct Lives {
 struct Life {
     /// How many calls its files answer before they fail.
     calls: u64,
+    /// The place up to which the log has room.
+    log_room: u64,
     /// Whether the store is closed at the end. If not, its process is killed.
     is_closed: bool,
 }
@@ -29,12 +31,14 @@ const MOST_CALLS: u64 = 1_000;
 /// A life in which the files don't fail, and at the end the process is killed.
 const KILLED: Life = Life {
     calls: u64::MAX,
+    log_room: u64::MAX,
     is_closed: false,
 };
 
 /// A life in which the files don't fail, and at the end the store is closed.
 const CLOSED: Life = Life {
     calls: u64::MAX,
+    log_room: u64::MAX,
     is_closed: true,
 };
 
@@ -117,6 +121,7 @@ fn live(
     let lent = FailingFiles {
         files,
         calls: life.calls,
+        log_room: life.log_room,
     };
     match FileStore::over(alloc, lent) {
         Ok(store) => ask_each(store, bodies, life.is_closed, page),
@@ -132,11 +137,7 @@ fn cut(alloc: Global, bodies: &[Vec<u8>], calls: u64, page: &mut Page) -> Result
     let (_, last) = cut.split_at(cut.len().saturating_sub(1));
     let mut files = created(alloc)?;
     live(alloc, &mut files, CLOSED, first, &mut Page::new(alloc))?;
-    let life = Life {
-        calls,
-        is_closed: false,
-    };
-    live(alloc, &mut files, life, cut, page)?;
+    live(alloc, &mut files, Life { calls, ..KILLED }, cut, page)?;
     let mut found = Page::new(alloc);
     live(alloc, &mut files, KILLED, last, &mut found)?;
     page.word("then");
@@ -185,7 +186,8 @@ impl Lives {
     }
 
     /// Answers a row about lives. `life new` makes new files; `life killed BODIES` and `life closed BODIES` let a store
-    /// live over them; `life file FILE AT LEN` writes bytes that are in them afterwards.
+    /// live over them, and `life full PLACE BODIES` one whose log has room up to that place; `life file FILE AT LEN` writes bytes
+    /// that are in them afterwards.
     pub fn answer(
         &mut self,
         alloc: Global,
@@ -207,6 +209,10 @@ impl Lives {
         match name {
             "killed" => live(alloc, files, KILLED, &words.bodies(alloc), page),
             "closed" => live(alloc, files, CLOSED, &words.bodies(alloc), page),
+            "full" => {
+                let log_room = words.number();
+                live(alloc, files, Life { log_room, ..KILLED }, &words.bodies(alloc), page)
+            }
             "file" => write_bytes(alloc, files, words, page),
             _ => Err(RowFault::NoRow),
         }

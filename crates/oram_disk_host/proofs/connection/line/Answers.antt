@@ -12,7 +12,7 @@ pub returns : goal.returns
 returns c =
     let v = c.args.report.now in
     written string_bytes c.format.result _ _ c.format.ensures.ok
-    (rw (c.as_str-peer.ensures.value, c.as_str-from.ensures.value, c.as_str-until.ensures.value, c.as_str-messages.ensures.value, c.in_ok-messages.ensures, c.ending-ended.ensures, c.failing-failed.ensures)
+    (rw (c.as_str-peer.ensures.value, c.as_str-from.ensures.value, c.as_str-until.ensures.value, c.as_str-messages.ensures.value, c.in_ok-messages.ensures, c.ending-ended.ensures, c.failing-failed.ensures, c.as_str-reason.ensures.value)
     (grouped (codes "oramdisk: ") (string_bytes v.peer) (codes " from ") (string_bytes v.from) (codes " until ") (string_bytes v.until) (codes ", ")
     (counted v.tally.messages (codes "message")) (codes ", ") (decimal v.tally.received) (codes " bytes in, ") (decimal v.tally.sent) (codes " bytes out")
-    (ending v.ended) (failing v.tally.failure) (codes "\n")))
+    (ending v.ended) (failing v.tally.failure) (string_bytes v.reason) (codes "\n")))

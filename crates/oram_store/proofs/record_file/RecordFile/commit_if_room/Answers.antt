@@ -31,7 +31,7 @@ returns-in-Err-Memory-clause-calls g c =
 pub returns-in-Err-NoRoom-clause-calls : goal.returns-in-Err-NoRoom-clause-calls
 returns-in-Err-NoRoom-clause-calls g c =
     let new : FileValue g.row.F.Denot = record { files = c.commit.new.files; redo = c.commit.new.self; is_loose = c.self.inside.is_loose; has_stopped = c.self.inside.has_stopped } in
-    subst (λ (v : FileValue g.row.F.Denot). Calls g.F.FilePair.model (Err fault.NoRoom) v new) c.self.view_is (calls_made g.F.FilePair.model (Err fault.NoRoom) _ new c.if-self.false c.commit.ensures.after refl (c.commit.ensures.no_room (c.in-Err-NoRoom.is ∙ ap (λ (e : RedoError). Err e) c.in-Err-NoRoom.field-0-is)))
+    subst (λ (v : FileValue g.row.F.Denot). Calls g.F.FilePair.model (Ok false) v new) c.self.view_is (calls_made g.F.FilePair.model (Ok false) _ new c.if-self.false c.commit.ensures.after refl tt)
 
 pub returns-then-self-clause-calls : goal.returns-then-self-clause-calls
 returns-then-self-clause-calls g c =

@@ -1,9 +1,10 @@
-use Rattle.std.proofs.Common.{◌≡◌, ◌∙◌, ℕ, ◌+◌, ◌<◌, ◌≤◌, true≢false, length, sym, Ok, arith}
+use Rattle.std.proofs.Common.{◌≡◌, ◌∙◌, ℕ, ◌+◌, ◌<◌, ◌≤◌, true≢false, length, sym, Ok, Err, ⊎_elim, arith}
 use Rattle.oram_redo.specs.Batch.{patches_of}
 use Rattle.oram_redo.specs.Log.{entries}
 use Rattle.oram_redo.specs.Redo.{end_of}
 use Rattle.oram_redo.specs.declared.file_pair.FileKind.TheVariants.{Records}
 use Rattle.oram_store.specs.RecordFile.{bounds}
+use Rattle.oram_store.specs.declared.faults.StoreFault.TheVariants as fault
 use Rattle.oram_store.proofs.Crashes.{agrees_all, calls_ok, calls_residual, calls_then, may_have_more, runs_then, sure_again, sure_restarted}
 use Rattle.oram_redo.proofs.Outcomes.{on_ok_none}
 use Rattle.oram_store.proofs.Outcomes.{calls_passed, on_err_holds}
@@ -127,25 +128,31 @@ returns-then-branch-2-clause-running g c = c.in_ok-commit_if_room-2.ensures.runn
 
 pub returns-clause-passes : goal.returns-clause-passes
 returns-clause-passes g c s =
-    absurd (has_room bounds.log_start (end_of c.restart.new.self.redo) (length (entries (patches_of c.args.batch.now))) bounds.log_end
-    c.in_ok-restart.ensures.empty c.requires.short (c.in_ok-commit_if_room-2.ensures.full c.if-branch-2.false))
-
-pub returns-clause-done : goal.returns-clause-done
-returns-clause-done g c =
-    absurd (has_room bounds.log_start (end_of c.restart.new.self.redo) (length (entries (patches_of c.args.batch.now))) bounds.log_end
-    c.in_ok-restart.ensures.empty c.requires.short (c.in_ok-commit_if_room-2.ensures.full c.if-branch-2.false))
+    let mid = c.commit_if_room.new.self in
+    let again = c.restart.new.self in
+    sure_again g.F.FilePair.model _ _ (patches_of c.args.batch.now) c.args.self.now again c.commit_if_room-2.new.self
+    (λ fits. absurd (true≢false (sym fits ∙ c.if-branch-2.false)))
+    (sure_restarted g.F.FilePair.model _ _ (patches_of c.args.batch.now) c.args.self.now mid again
+    (λ fits. absurd (true≢false (sym fits ∙ c.if-branch.false))) (c.in_ok-commit_if_room.ensures.passes s) (c.in_ok-commit_if_room.ensures.not_done c.if-branch.false)
+    (λ sure. c.restart.ensures.passes _ sure) c.restart.ensures.calls.runs.stays (g.met.F.FilePair.counts_now mid.files) (g.met.F.FilePair.whole mid.files))
+    (λ i. c.restart.ensures.same i ∙ c.in_ok-commit_if_room.ensures.not_done c.if-branch.false i) c.in_ok-commit_if_room-2.ensures.passes c.commit_if_room-2.ensures.calls.runs.stays
+    (g.met.F.FilePair.counts_now again.files) (g.met.F.FilePair.whole again.files)
 
 pub returns-clause-undone : goal.returns-clause-undone
-returns-clause-undone g c =
-    absurd (has_room bounds.log_start (end_of c.restart.new.self.redo) (length (entries (patches_of c.args.batch.now))) bounds.log_end
-    c.in_ok-restart.ensures.empty c.requires.short (c.in_ok-commit_if_room-2.ensures.full c.if-branch-2.false))
+returns-clause-undone g c running i =
+    c.in_ok-commit_if_room-2.ensures.not_done c.if-branch-2.false i ∙ c.restart.ensures.same i ∙ c.in_ok-commit_if_room.ensures.not_done c.if-branch.false i
+
+pub returns-clause-no_room : goal.returns-clause-no_room
+returns-clause-no_room g c none = c.in_ok-commit_if_room-2.ensures.end_stays c.if-branch-2.false ∙ c.in_ok-restart.ensures.empty
 
 pub returns-clause-calls : goal.returns-clause-calls
 returns-clause-calls g c =
-    absurd (has_room bounds.log_start (end_of c.restart.new.self.redo) (length (entries (patches_of c.args.batch.now))) bounds.log_end
-    c.in_ok-restart.ensures.empty c.requires.short (c.in_ok-commit_if_room-2.ensures.full c.if-branch-2.false))
-
-pub returns-clause-running : goal.returns-clause-running
-returns-clause-running g c =
-    absurd (has_room bounds.log_start (end_of c.restart.new.self.redo) (length (entries (patches_of c.args.batch.now))) bounds.log_end
-    c.in_ok-restart.ensures.empty c.requires.short (c.in_ok-commit_if_room-2.ensures.full c.if-branch-2.false))
+    calls_then g.F.FilePair.model (Err fault.NoRoom) c.args.self.now c.restart.new.self c.commit_if_room-2.new.self
+    (runs_then g.F.FilePair.model c.args.self.now c.commit_if_room.new.self c.restart.new.self c.commit_if_room.ensures.calls.runs c.restart.ensures.calls.runs)
+    (c.in_ok-restart.ensures.calls.goes_on ∙ c.in_ok-commit_if_room.ensures.calls.goes_on)
+    (record {
+      runs = c.commit_if_room-2.ensures.calls.runs;
+      goes_on = tt;
+      reason = ⊎_elim (λ full. absurd (has_room bounds.log_start (end_of c.restart.new.self.redo) (length (entries (patches_of c.args.batch.now))) bounds.log_end
+          c.in_ok-restart.ensures.empty c.requires.short full)) (λ rises. rises) (c.in_ok-commit_if_room-2.ensures.full c.if-branch-2.false);
+    })

@@ -13,6 +13,11 @@ returns-in_default-clause-serves g c honest s =
     serves_untouched g.F.FilePair.model (request.Put c.args.number c.args.node c.args.bytes.now) 1 c.args.self.now (λ six. absurd (omega arith)) s
     (g.met.F.FilePair.only_now c.args.self.now.file.files)
 
+pub returns-then-is_fixed-clause-serves : goal.returns-then-is_fixed-clause-serves
+returns-then-is_fixed-clause-serves g c honest s =
+    serves_untouched g.F.FilePair.model (request.Put c.args.number c.args.node c.args.bytes.now) 5 c.args.self.now (λ six. absurd (omega arith)) s
+    (g.met.F.FilePair.only_now c.args.self.now.file.files)
+
 pub returns-then-node-nodes-clause-serves : goal.returns-then-node-nodes-clause-serves
 returns-then-node-nodes-clause-serves g c honest s =
     serves_untouched g.F.FilePair.model (request.Put c.args.number c.args.node c.args.bytes.now) 3 c.args.self.now (λ six. absurd (omega arith)) s
@@ -33,11 +38,11 @@ returns-in-Err-clause-serves g c honest s =
 
 pub returns-in-Ok-clause-allowed : goal.returns-in-Ok-clause-allowed
 returns-in-Ok-clause-allowed g c =
-    put_allowed c.args.self.now.trees c.args.number c.args.node c.args.bytes.now c.in-Some.tree (sym c.tree_of.ensures ∙ c.in-Some.is) (subst (λ (n : ℕ). c.args.node < n) c.nodes.ensures c.if-node-nodes.false) c.if-bytes-tree.false
+    put_allowed c.args.self.now.trees c.args.number c.args.node c.args.bytes.now c.in-Some.tree (sym c.tree_of.ensures ∙ c.in-Some.is) (sym c.is_fixed.ensures ∙ c.if-is_fixed.false) (subst (λ (n : ℕ). c.args.node < n) c.nodes.ensures c.if-node-nodes.false) c.if-bytes-tree.false
 
 pub returns-in-Ok-clause-untouched : goal.returns-in-Ok-clause-untouched
 returns-in-Ok-clause-untouched g c =
-    not_refused (refusal_by c.args.self.now.trees (request.Put c.args.number c.args.node c.args.bytes.now)) _ (put_allowed c.args.self.now.trees c.args.number c.args.node c.args.bytes.now c.in-Some.tree (sym c.tree_of.ensures ∙ c.in-Some.is) (subst (λ (n : ℕ). c.args.node < n) c.nodes.ensures c.if-node-nodes.false) c.if-bytes-tree.false)
+    not_refused (refusal_by c.args.self.now.trees (request.Put c.args.number c.args.node c.args.bytes.now)) _ (put_allowed c.args.self.now.trees c.args.number c.args.node c.args.bytes.now c.in-Some.tree (sym c.tree_of.ensures ∙ c.in-Some.is) (sym c.is_fixed.ensures ∙ c.if-is_fixed.false) (subst (λ (n : ℕ). c.args.node < n) c.nodes.ensures c.if-node-nodes.false) c.if-bytes-tree.false)
 
 pub returns-in-Ok-clause-trees : goal.returns-in-Ok-clause-trees
 returns-in-Ok-clause-trees g c = c.put_record.ensures.trees
@@ -50,11 +55,11 @@ returns-in-Ok-clause-running g c = c.in-Ok.ensures.running
 
 pub returns-in-Err-clause-refused : goal.returns-in-Err-clause-refused
 returns-in-Err-clause-refused g c =
-    inr (put_allowed c.args.self.now.trees c.args.number c.args.node c.args.bytes.now c.in-Some.tree (sym c.tree_of.ensures ∙ c.in-Some.is) (subst (λ (n : ℕ). c.args.node < n) c.nodes.ensures c.if-node-nodes.false) c.if-bytes-tree.false, c.refuse.ensures.why)
+    inr (put_allowed c.args.self.now.trees c.args.number c.args.node c.args.bytes.now c.in-Some.tree (sym c.tree_of.ensures ∙ c.in-Some.is) (sym c.is_fixed.ensures ∙ c.if-is_fixed.false) (subst (λ (n : ℕ). c.args.node < n) c.nodes.ensures c.if-node-nodes.false) c.if-bytes-tree.false, c.refuse.ensures.why)
 
 pub returns-in-Err-clause-untouched : goal.returns-in-Err-clause-untouched
 returns-in-Err-clause-untouched g c =
-    not_refused (refusal_by c.args.self.now.trees (request.Put c.args.number c.args.node c.args.bytes.now)) _ (put_allowed c.args.self.now.trees c.args.number c.args.node c.args.bytes.now c.in-Some.tree (sym c.tree_of.ensures ∙ c.in-Some.is) (subst (λ (n : ℕ). c.args.node < n) c.nodes.ensures c.if-node-nodes.false) c.if-bytes-tree.false)
+    not_refused (refusal_by c.args.self.now.trees (request.Put c.args.number c.args.node c.args.bytes.now)) _ (put_allowed c.args.self.now.trees c.args.number c.args.node c.args.bytes.now c.in-Some.tree (sym c.tree_of.ensures ∙ c.in-Some.is) (sym c.is_fixed.ensures ∙ c.if-is_fixed.false) (subst (λ (n : ℕ). c.args.node < n) c.nodes.ensures c.if-node-nodes.false) c.if-bytes-tree.false)
 
 pub returns-in-Err-clause-trees : goal.returns-in-Err-clause-trees
 returns-in-Err-clause-trees g c = ap (λ (v : StoreValue g.row.F.Denot). v.trees) c.refuse.ensures.kept ∙ c.put_record.ensures.trees
