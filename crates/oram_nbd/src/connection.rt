@@ -58,9 +58,9 @@ pub fn serve<R: Read + Arrived, W: Write, D: BlockDevice, H: HandshakeWatch>(
     watch: &H,
 ) -> Result<u64, NbdFault>
     requires { length name.now ≤ LONGEST_NAME }
-    ensures ok { IfOk result (λ count. HasConnected (device_kind D.block_len D.size D.failed D.had D.hears D.holds D.kept) disk.old disk.new name.now count
+    ensures ok { IfOk result (λ count. HasConnected (device_kind D.block_len D.size D.failed D.asked D.had D.hears D.holds D.kept) disk.old disk.new name.now count
         (streams (R.remaining reader.old) (W.contents writer.old)) (streams (R.remaining reader.new) (W.contents writer.new))) }
-    ensures err { IfErr result (λ fault. StopsConnection (device_kind D.block_len D.size D.failed D.had D.hears D.holds D.kept) disk.old disk.new name.now fault
+    ensures err { IfErr result (λ fault. StopsConnection (device_kind D.block_len D.size D.failed D.asked D.had D.hears D.holds D.kept) disk.old disk.new name.now fault
         (streams (R.remaining reader.old) (W.contents writer.old)) (streams (R.remaining reader.new) (W.contents writer.new))) }
     ensures stopped { IfErr result (λ fault. fault ≡ NbdFault.Stopped → IsStopped D.stops disk.new) }
     ensures stays { Stays D.block_len D.size D.failed disk.old disk.new }
