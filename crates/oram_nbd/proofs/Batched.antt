@@ -109,7 +109,7 @@ module _ {D W E : Type 0} (kind : DeviceKind D W E) (old : D) (from : Streams) w
     cut_off fault.Truncated cut = (s.answered, part, s.served, exchanged kind old from count mid now part s, cut)
     cut_off fault.Magic cut = (s.answered, part, s.served, exchanged kind old from count mid now part s, cut)
     cut_off fault.Write cut = absurd cut
-    cut_off fault.OldClient cut = absurd cut
+    cut_off fault.UnknownFlags cut = absurd cut
     cut_off fault.UnknownExport cut = absurd cut
     cut_off fault.TooManyOptions cut = absurd cut
     cut_off fault.OutOfMemory cut = absurd cut

@@ -366,15 +366,18 @@ module _ {D W E : Type 0} {kind : DeviceKind D W E} (size : ℕ) (old new : D) (
       record {
         same = same;
         served = one_batch (answered_fit size arrived ops given collected.all collected.served lens) (answered_refuse size (kind.failed old) arrived given alive)
-            (record { asks = inl (subst (λ (l : List WholeRequest). AsksFor kind.asked old (request_calls (kind.block_len old) size (map (λ (a : WholeRequest). a.request) l)) new) (sym same) (subst (λ (l : List Range). AsksFor kind.asked old (calls_of (kind.block_len old) l) new) (ranges_as_requested size arrived ops collected.served) asks)); leads = (weaker goes (λ may_lie world before later h step.
-            let long = sized may_lie world before.held h.0 in (
-              subst (λ (l : List ℕ). IsService before.held (answered_requests size arrived given) l) (sym step.1)
-                  (subst (λ (gs : List (List ℕ)). IsService before.held (answered_requests size arrived gs) (all_done ops before.held)) (sym step.0)
-                  (answered_service size arrived ops before.held collected.all collected.served long)),
-              λ honest. answered_never_fail size arrived given,
-              inl (subst (λ (l : List WholeRequest). (later.held ≡ array_after_requests l before.held) × SavesAll (RequestsTouchSomeByte size l) before later) (sym same)
-                  (step.1 ∙ all_done_as_requested size arrived ops before.held collected.served long, all_weaker step.2 (some_touches size arrived ops collected.served))),
-            ))) });
+            (record {
+              asks = inl (subst (λ (l : List WholeRequest). AsksFor kind.asked old (request_calls (kind.block_len old) size (map (λ (a : WholeRequest). a.request) l)) new) (sym same) (subst (λ (l : List Range). AsksFor kind.asked old (calls_of (kind.block_len old) l) new) (ranges_as_requested size arrived ops collected.served) asks));
+              leads = (weaker goes (λ may_lie world before later h step.
+                  let long = sized may_lie world before.held h.0 in (
+                    subst (λ (l : List ℕ). IsService before.held (answered_requests size arrived given) l) (sym step.1)
+                        (subst (λ (gs : List (List ℕ)). IsService before.held (answered_requests size arrived gs) (all_done ops before.held)) (sym step.0)
+                        (answered_service size arrived ops before.held collected.all collected.served long)),
+                    λ honest. answered_never_fail size arrived given,
+                    inl (subst (λ (l : List WholeRequest). (later.held ≡ array_after_requests l before.held) × SavesAll (RequestsTouchSomeByte size l) before later) (sym same)
+                        (step.1 ∙ all_done_as_requested size arrived ops before.held collected.served long, all_weaker step.2 (some_touches size arrived ops collected.served))),
+                  )));
+            });
         reported = λ says. absurd (answered_tell_none size arrived given says);
       }
 
@@ -386,19 +389,22 @@ module _ {D W E : Type 0} {kind : DeviceKind D W E} (size : ℕ) (old new : D) (
   all_refused requests ops e collected why fails before after r split none goes = record {
     same = refused_same size arrived e;
     served = one_batch (refused_fit size arrived e why collected.all) (refused_refuse size (kind.failed old) arrived e)
-        (record { asks = inr (all_refusals size arrived e); leads = (weaker goes (λ may_lie world from to h step.
-        let long = sized may_lie world from.held h.0 in (
-          refused_service size arrived ops e from.held to.held why collected.all collected.served long step.0.0,
-          λ honest. refused_never_fail size arrived e (λ io. let lies : may_lie ≡ true = step.1 io in cc),
-          inr (
-            all_refusals size arrived e,
-            inr (
-              refused_says_fault size arrived e why (accepted_in size arrived before after r (collected.same ∙ split) none),
-              subst (λ (l : List WholeRequest). SavesPart (AreRequestsBegun l) from to) (sym (refused_same size arrived e))
-                  (part_weaker step.0.1 (λ x begun. requests_begun size arrived ops from.held x collected.served long begun)),
-            ),
-          ),
-        ))) });
+        (record {
+          asks = inr (all_refusals size arrived e);
+          leads = (weaker goes (λ may_lie world from to h step.
+              let long = sized may_lie world from.held h.0 in (
+                refused_service size arrived ops e from.held to.held why collected.all collected.served long step.0.0,
+                λ honest. refused_never_fail size arrived e (λ io. let lies : may_lie ≡ true = step.1 io in cc),
+                inr (
+                  all_refusals size arrived e,
+                  inr (
+                    refused_says_fault size arrived e why (accepted_in size arrived before after r (collected.same ∙ split) none),
+                    subst (λ (l : List WholeRequest). SavesPart (AreRequestsBegun l) from to) (sym (refused_same size arrived e))
+                        (part_weaker step.0.1 (λ x begun. requests_begun size arrived ops from.held x collected.served long begun)),
+                  ),
+                ),
+              )));
+        });
     reported = λ says. fails (refused_tell size arrived e says);
   }
 
@@ -421,11 +427,14 @@ pub refused_at_rest : {D W E : Type 0} {kind : DeviceKind D W E} (size : ℕ) (d
 refused_at_rest {kind = kind} size d arrived sized are = record {
   same = refused_same size arrived NoMemory;
   served = one_batch (refused_fit size arrived NoMemory (inr refl) are) (refused_refuse size (kind.failed d) arrived NoMemory)
-      (record { asks = inr (all_refusals size arrived NoMemory); leads = (at_rest (λ may_lie world before h. (
-        refused_idle size arrived NoMemory before.held (inr refl) are (sized may_lie world before.held h.0),
-        λ honest. refused_never_fail size arrived NoMemory (λ io. cc),
-        inr (all_refusals size arrived NoMemory, inl (refl, refl)),
-      ))) });
+      (record {
+        asks = inr (all_refusals size arrived NoMemory);
+        leads = (at_rest (λ may_lie world before h. (
+          refused_idle size arrived NoMemory before.held (inr refl) are (sized may_lie world before.held h.0),
+          λ honest. refused_never_fail size arrived NoMemory (λ io. cc),
+          inr (all_refusals size arrived NoMemory, inl (refl, refl)),
+        )));
+      });
   reported = λ says. absurd (let none : NoMemory ≡ Io = refused_tell size arrived NoMemory says in cc);
 }
 
@@ -446,7 +455,7 @@ behind_cut fault.Read part new h = inr (inr (inl h))
 behind_cut fault.Truncated part new h = inr (inr (inl h.0))
 behind_cut fault.Magic part new h = inr (inr (inr h))
 behind_cut fault.Write part new h = absurd h
-behind_cut fault.OldClient part new h = absurd h
+behind_cut fault.UnknownFlags part new h = absurd h
 behind_cut fault.UnknownExport part new h = absurd h
 behind_cut fault.TooManyOptions part new h = absurd h
 behind_cut fault.OutOfMemory part new h = absurd h
@@ -538,7 +547,7 @@ payload_cut a b c r fault.Truncated is head h =
     (request_text r ++ h.0, Consumes-trans a b c (request_text r) h.0 head h.2, (inr (r, h.0, is, h.1, refl), (let some : 0 < length (request_text r ++ h.0) = omega (arith, length-append (request_text r) h.0) in some), h.4))
 payload_cut a b c r fault.Magic is head h = absurd h
 payload_cut a b c r fault.Write is head h = absurd h
-payload_cut a b c r fault.OldClient is head h = absurd h
+payload_cut a b c r fault.UnknownFlags is head h = absurd h
 payload_cut a b c r fault.UnknownExport is head h = absurd h
 payload_cut a b c r fault.TooManyOptions is head h = absurd h
 payload_cut a b c r fault.OutOfMemory is head h = absurd h

@@ -10,7 +10,7 @@ use Rattle.oram_nbd.specs.Messages.{payload_len, request_text, IsRequest}
 use Rattle.oram_nbd.specs.Service.{array_after_requests, whole_request_of, whole_requests_text, refusal_of, requests_text, replies_text, AnsweredRequest, AreRequestsBegun, FailsForGood, IsRefusal, IsReplied, IsService, IsWholeRequest, NeverFails, RequestsTouchSomeByte, SaysFault, WholeRequest}
 use Rattle.oram_nbd.specs.Streams.{Streams}
 use Rattle.oram_nbd.specs.declared.faults.NbdFault.{NbdFault}
-use Rattle.oram_nbd.specs.declared.faults.NbdFault.TheVariants.{Read, Truncated, Magic, Write, OldClient, UnknownExport, TooManyOptions, OutOfMemory, Stopped}
+use Rattle.oram_nbd.specs.declared.faults.NbdFault.TheVariants.{Read, Truncated, Magic, Write, UnknownFlags, UnknownExport, TooManyOptions, OutOfMemory, Stopped}
 use Rattle.oram_nbd.specs.declared.requests.Command.TheVariants.{Disconnect}
 use Rattle.oram_nbd.specs.declared.requests.Request.{Request}
 
@@ -35,7 +35,7 @@ IsCutOff Read part new = IsUnfinished part
 IsCutOff Truncated part new = IsUnfinished part × (0 < length part) × IsAtEnd new
 IsCutOff Magic part new = IsNoRequest part
 IsCutOff Write part new = ⊥
-IsCutOff OldClient part new = ⊥
+IsCutOff UnknownFlags part new = ⊥
 IsCutOff UnknownExport part new = ⊥
 IsCutOff TooManyOptions part new = ⊥
 IsCutOff OutOfMemory part new = ⊥

@@ -1,6 +1,6 @@
 //! A device of whole blocks.
 
-ghost use Rattle.std.specs.Prelude.{◌≡◌, ℕ, Bool, false, List, ◌*◌, ◌<◌, ◌^◌, ◌↔◌, All, length, map, IfOk, OnOk, IsTrue, MatchResult};
+ghost use Rattle.std.specs.Prelude.{◌≡◌, ℕ, Bool, false, List, ◌*◌, ◌<◌, ◌^◌, ◌↔◌, All, length, map, IfOk, OnOk, IsErrOf, IsTrue, MatchResult};
 ghost use Rattle.oram_nbd.specs.Accesses.{blocks_of};
 ghost use Rattle.oram_nbd.specs.Beside.{GoesOn, HasArrays};
 ghost use Rattle.oram_nbd.specs.Calls.{FailsByLies, IsCall, Saves};
@@ -88,5 +88,7 @@ pub trait BlockDevice {
         // are, nor on any byte.
         ensures asks { OnOk result (asked self.old (blocks_of (block_len self.old) operations.now) self.new) }
         ensures refused { OnOk result (failed self.old → ⊥) }
+        // A device that has failed says so, whatever else it lacks.
+        ensures told { failed self.old → IsErrOf result DiskFault.Failed }
         ensures call { IsCall block_len size failed (stops self.old self.new) self.old result self.new };
 }

@@ -1,6 +1,6 @@
 //! Carries out operations on byte ranges, as many at once as are on whole blocks.
 
-ghost use Rattle.std.specs.Prelude.{◌≡◌, ◌<◌, ◌≤◌, true, false, All, drop, length, map, take, IfOk, IsTrue, MatchResult, OnOk};
+ghost use Rattle.std.specs.Prelude.{◌≡◌, ◌<◌, ◌≤◌, true, false, All, drop, length, map, take, IfOk, IsErrOf, IsTrue, MatchResult, OnOk};
 ghost use Rattle.oram_nbd.specs.Accesses.{AsksFirst, AsksFor, begins_whole, calls_of, is_part, part_calls, range_of};
 ghost use Rattle.oram_nbd.specs.Beside.{GoesOn, HasArrays, IsStopped};
 ghost use Rattle.oram_nbd.specs.Calls.{FailsByLies, IsCall, Saves, SavesAll, SavesPart};
@@ -122,6 +122,7 @@ pub(crate) fn carry_out_all<D: BlockDevice>(
         × Saves result (TouchSomeByte operations.now) (AreBegun operations.now) old new) disk.new }
     ensures asks { OnOk result (AsksFor D.asked disk.old (calls_of (D.block_len disk.old) (map range_of operations.now)) disk.new) }
     ensures refused { OnOk result (D.failed disk.old → ⊥) }
+    ensures told { D.failed disk.old → IsErrOf result DiskFault.Failed }
     ensures call { IsCall D.block_len D.size D.failed (IsStopped D.stops disk.new) disk.old result disk.new }
 {
     if disk.has_failed() {

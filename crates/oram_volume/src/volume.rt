@@ -42,6 +42,7 @@ pub struct Volume<S: Sealer, B: BatchLink, K: Keeper, T: Tape> {
 fn disk_fault(fault: RoundFault) -> DiskFault
     ensures failed { result ≢ DiskFault.Failed }
     ensures stopped { result ≡ DiskFault.Stopped → (fault ≡ RoundFault.Stalled) ⊎ (fault ≡ RoundFault.NotKept) }
+    ensures memory { result ≡ DiskFault.OutOfMemory → fault ≡ RoundFault.OutOfMemory }
 {
     match fault {
         RoundFault::Stalled | RoundFault::NotKept => DiskFault::Stopped,
