@@ -103,6 +103,14 @@ class NbdClient:
         self.cookie += 1
         return self.give(head_of(self.cookie, request.kind, request.offset, request.length, request.flags) + request.payload)
 
+    def say_all(self, requests):
+        """Sends requests at once under the next cookies, and returns whether it could."""
+        sent = b""
+        for request in requests:
+            self.cookie += 1
+            sent += head_of(self.cookie, request.kind, request.offset, request.length, request.flags) + request.payload
+        return self.give(sent)
+
     def hear(self, cookie, request):
         """The error of the reply to a request, and what the reply brings. None also if another reply comes."""
         reply = self.take(16)

@@ -15,7 +15,7 @@ def send_noise(_trial, nbd, dice):
 
 
 def answer_greeting_wrongly(_trial, nbd, dice):
-    nbd.greet(dice.choice([0, 2, 1 << 31]))
+    nbd.greet(dice.choice([4, 7, 1 << 31]))
     nbd.give(dice.randbytes(100))
 
 

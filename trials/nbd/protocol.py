@@ -19,10 +19,15 @@ def try_protocol(trial):
     nbd.give(option_of(EXPORT_NAME, bytes(LONGEST_OPTION + 1)))
     trial.check("protocol: a name that is too long", nbd.take(1) is None)
     nbd.close()
-    nbd = disk.connect()
-    # A client that doesn't do without the zeros after the answer to its choice.
-    found = nbd.greet(1) and nbd.choose()
-    trial.check("protocol: the zeros", (found, nbd.take(124)) == (SMALL, bytes(124)), found)
+    # Clients with and without the flag of the fixed newstyle, and that of no zeros after the answer to their choice.
+    for flags, zeros in ((3, 0), (2, 0), (0, 124), (1, 124)):
+        nbd = disk.connect()
+        found = nbd.greet(flags) and nbd.choose()
+        trial.check(f"protocol: the flags {flags}", (found, nbd.take(zeros)) == (SMALL, bytes(zeros)), found)
+        reply = nbd.ask(READ, 0, 512)
+        trial.check(f"protocol: a request after the flags {flags}", reply == (0, bytes(512)), reply)
+        if flags != 1:
+            nbd.close()
     for what, kind, offset, length, flags, error in (
         ("an unknown flag", READ, 0, 512, 1 << 5, EINVAL),
         ("the flag of zeroes at a read", READ, 0, 512, 2, EINVAL),

@@ -20,8 +20,8 @@ use Rattle.oram_nbd.proofs.Served.{Served, batch_answered, exchanged, read_on, s
 -- for a device of this kind, from this state on, at the beginning of these streams
 module _ {D W E : Type 0} (kind : DeviceKind D W E) (old : D) (from : Streams) where
   -- a batch was read
-  module _ (count : ℕ) (mid : D) (now : Streams) (unread : Option (List ℕ)) (block size : ℕ) (requests : List Request) (ops : List Operation) (close : Close) (s : Served kind old from count mid now []) (same : kind.size mid ≡ kind.size old)
-      (h : HasGathered block size requests ops close now.unread unread) where
+  module _ (count : ℕ) (mid : D) (now : Streams) (unread : Option (List ℕ)) (size : ℕ) (requests : List Request) (ops : List Operation) (close : Close) (s : Served kind old from count mid now []) (same : kind.size mid ≡ kind.size old)
+      (h : HasGathered size requests ops close now.unread unread) where
     was_read : Served kind old from count mid (streams unread now.written) (whole_requests_text h.arrived ++ h.part)
     was_read = read_on kind old from count mid now [] s unread (whole_requests_text h.arrived ++ h.part) refl h.read
 
@@ -109,7 +109,7 @@ module _ {D W E : Type 0} (kind : DeviceKind D W E) (old : D) (from : Streams) w
     cut_off fault.Truncated cut = (s.answered, part, s.served, exchanged kind old from count mid now part s, cut)
     cut_off fault.Magic cut = (s.answered, part, s.served, exchanged kind old from count mid now part s, cut)
     cut_off fault.Write cut = absurd cut
-    cut_off fault.OldClient cut = absurd cut
+    cut_off fault.UnknownFlags cut = absurd cut
     cut_off fault.UnknownExport cut = absurd cut
     cut_off fault.TooManyOptions cut = absurd cut
     cut_off fault.OutOfMemory cut = absurd cut

@@ -7,7 +7,8 @@ use Rattle.std.proofs.lemmas.Grind.{flat_map-append}
 use Rattle.std.specs.Io.KnownBytes.{Appends, Consumes}
 use Rattle.std.proofs.KnownBytes.{Appends-trans, Consumes-nil, Consumes-trans}
 use Rattle.std.proofs.lemmas.List.Elements.{All-append, All-cons, All-head, All-nil, All-tail}
-use Rattle.oram_nbd.specs.Batches.{answers_text, refusals_text, reply_if, reply_of, requested_bytes, AreCollected, AreServedBy, EndsBy, HasRepliedToAll, HasBegun, HasGathered, IsWithoutMemory, LeftBy, DoesRequest, DoesIfAccepted}
+use Rattle.oram_nbd.specs.Accesses.{AsksFor, Range, calls_of, range_of, request_calls}
+use Rattle.oram_nbd.specs.Batches.{answers_text, refusals_text, reply_if, reply_of, AreCollected, AreServedBy, EndsBy, HasRepliedToAll, HasBegun, HasGathered, IsWithoutMemory, LeftBy, DoesRequest, DoesIfAccepted}
 use Rattle.oram_nbd.specs.Beside.{GoesOn, Arrays, HasArrays}
 use Rattle.oram_nbd.specs.Bytes.{bytes_at}
 use Rattle.oram_nbd.specs.Calls.{SavesAll, SavesPart}
@@ -22,7 +23,7 @@ use Rattle.oram_nbd.specs.declared.requests.Command.{Command}
 use Rattle.oram_nbd.specs.declared.requests.Command.TheVariants as command
 use Rattle.oram_nbd.specs.Messages.{payload_len, reply_text, request_text, IsRequest, SimpleReply}
 use Rattle.oram_nbd.specs.Messages.SimpleReply.{Done, Refused}
-use Rattle.oram_nbd.specs.Operations.{all_done, all_given, done_by, given_by, read_len, AreBegun, IsPartOf, IsWithin, ReadsWhole, TouchSomeByte}
+use Rattle.oram_nbd.specs.Operations.{all_done, all_given, done_by, given_by, read_len, AreBegun, IsPartOf, IsPlaced, IsWithin, TouchSomeByte}
 use Rattle.oram_nbd.specs.Service.{after, array_after_requests, whole_request_of, given, given_len, refusal_of, touched_len, whole_requests_text, replies_text, AreRequestsBegun, RequestsTouchSomeByte, WholeRequest, FailsForGood, IsAnswer, IsWholeRequest, IsLeftIf, IsPartly, IsRefusal, IsReplied, IsReply, IsService, IsAnsweredBy, NeverFails, SaysFailed, SaysFault, AnsweredRequest}
 use Rattle.oram_nbd.specs.declared.faults.NbdError.{NbdError}
 use Rattle.oram_nbd.specs.declared.faults.NbdError.TheVariants.{Io, NoMemory}
@@ -31,58 +32,57 @@ use Rattle.oram_nbd.specs.declared.operations.Operation.TheVariants.{Read}
 use Rattle.oram_nbd.specs.declared.requests.Request.{Request}
 use Rattle.oram_nbd.proofs.Beside.{at_rest, weaker}
 use Rattle.oram_nbd.proofs.Saving.{all_weaker, part_weaker}
-use Rattle.oram_nbd.proofs.KeptBatches.{all_done_as_requested, done_as_requested, served_one, some_touches}
+use Rattle.oram_nbd.proofs.KeptBatches.{all_done_as_requested, done_as_requested, ranges_as_requested, served_one, some_touches}
 use Rattle.oram_nbd.proofs.ListSteps.{length_done, length_part, part_whole}
 use Rattle.oram_nbd.proofs.Served.{partly_none, refusal_is_other}
-use Rattle.oram_nbd.proofs.Splices.{part_of_block}
 
 abbrev pub answered_with : WholeRequest → SimpleReply → AnsweredRequest
 answered_with a reply = record { request = a.request; payload = a.payload; reply = reply }
 
 -- ---- The operations of a batch
 
-pub all_within : (block size : ℕ) (arrived : List WholeRequest) (ops : List Operation) → AreServedBy block size arrived ops → All (IsWithin size) ops
-all_within block size [] [] served = All-nil (IsWithin size)
-all_within block size [] (op ∷ ops) served = absurd served
-all_within block size (a ∷ arrived) [] served = absurd served
-all_within block size (a ∷ arrived) (op ∷ ops) served =
-    All-cons (IsWithin size) op ops (served_one block size (refusal_of size a.request) a op served.0).0 (all_within block size arrived ops served.1)
+pub all_within : (size : ℕ) (arrived : List WholeRequest) (ops : List Operation) → AreServedBy size arrived ops → All (IsWithin size) ops
+all_within size [] [] served = All-nil (IsWithin size)
+all_within size [] (op ∷ ops) served = absurd served
+all_within size (a ∷ arrived) [] served = absurd served
+all_within size (a ∷ arrived) (op ∷ ops) served =
+    All-cons (IsWithin size) op ops (served_one size (refusal_of size a.request) a op served.0).0 (all_within size arrived ops served.1)
 
-pub all_whole : (block size : ℕ) (arrived : List WholeRequest) (ops : List Operation) → AreServedBy block size arrived ops → All (ReadsWhole block) ops
-all_whole block size [] [] served = All-nil (ReadsWhole block)
-all_whole block size [] (op ∷ ops) served = absurd served
-all_whole block size (a ∷ arrived) [] served = absurd served
-all_whole block size (a ∷ arrived) (op ∷ ops) served =
-    All-cons (ReadsWhole block) op ops (served_one block size (refusal_of size a.request) a op served.0).1 (all_whole block size arrived ops served.1)
+pub all_placed : (size : ℕ) (arrived : List WholeRequest) (ops : List Operation) → AreServedBy size arrived ops → All IsPlaced ops
+all_placed size [] [] served = All-nil IsPlaced
+all_placed size [] (op ∷ ops) served = absurd served
+all_placed size (a ∷ arrived) [] served = absurd served
+all_placed size (a ∷ arrived) (op ∷ ops) served =
+    All-cons IsPlaced op ops (served_one size (refusal_of size a.request) a op served.0).1 (all_placed size arrived ops served.1)
 
-pub as_many : (block size : ℕ) (arrived : List WholeRequest) (ops : List Operation) → AreServedBy block size arrived ops → length ops ≡ length arrived
-as_many block size [] [] served = refl
-as_many block size [] (op ∷ ops) served = absurd served
-as_many block size (a ∷ arrived) [] served = absurd served
-as_many block size (a ∷ arrived) (op ∷ ops) served = ap (λ (n : ℕ). suc n) (as_many block size arrived ops served.1)
+pub as_many : (size : ℕ) (arrived : List WholeRequest) (ops : List Operation) → AreServedBy size arrived ops → length ops ≡ length arrived
+as_many size [] [] served = refl
+as_many size [] (op ∷ ops) served = absurd served
+as_many size (a ∷ arrived) [] served = absurd served
+as_many size (a ∷ arrived) (op ∷ ops) served = ap (λ (n : ℕ). suc n) (as_many size arrived ops served.1)
 
-pub served_by_more : (block size : ℕ) (arrived : List WholeRequest) (ops : List Operation) (a : WholeRequest) (op : Operation) → AreServedBy block size arrived ops → DoesIfAccepted (refusal_of size a.request) block size a op
-    → AreServedBy block size (arrived ++ a ∷ []) (ops ++ op ∷ [])
-served_by_more block size [] [] a op served one = (one, tt)
-served_by_more block size [] (x ∷ ops) a op served one = absurd served
-served_by_more block size (x ∷ arrived) [] a op served one = absurd served
-served_by_more block size (x ∷ arrived) (y ∷ ops) a op served one = (served.0, served_by_more block size arrived ops a op served.1 one)
+pub served_by_more : (size : ℕ) (arrived : List WholeRequest) (ops : List Operation) (a : WholeRequest) (op : Operation) → AreServedBy size arrived ops → DoesIfAccepted (refusal_of size a.request) size a op
+    → AreServedBy size (arrived ++ a ∷ []) (ops ++ op ∷ [])
+served_by_more size [] [] a op served one = (one, tt)
+served_by_more size [] (x ∷ ops) a op served one = absurd served
+served_by_more size (x ∷ arrived) [] a op served one = absurd served
+served_by_more size (x ∷ arrived) (y ∷ ops) a op served one = (served.0, served_by_more size arrived ops a op served.1 one)
 
 -- ---- One request and its reply
 
 -- the operation was done
-answer_done : (block size : ℕ) (a : WholeRequest) (op : Operation) (o : Option NbdError) (bytes : List ℕ) → refusal_of size a.request ≡ o → DoesIfAccepted o block size a op → length bytes ≡ size
-    → IsAnswer bytes a.request a.payload (reply_if o (Done (requested_bytes block a.request (given_by op bytes)))) (done_by op bytes)
-answer_done block size a op (Some e) bytes is nothing long =
+answer_done : (size : ℕ) (a : WholeRequest) (op : Operation) (o : Option NbdError) (bytes : List ℕ) → refusal_of size a.request ≡ o → DoesIfAccepted o size a op → length bytes ≡ size
+    → IsAnswer bytes a.request a.payload (reply_if o (Done (given_by op bytes))) (done_by op bytes)
+answer_done size a op (Some e) bytes is nothing long =
     inl (ap (λ (n : ℕ). refusal_of n a.request) long ∙ is, ap (λ (x : Operation). done_by x bytes) nothing)
-answer_done block size a op None bytes is s long = (ap (λ (n : ℕ). refusal_of n a.request) long ∙ is, s.gives bytes, s.does bytes)
+answer_done size a op None bytes is s long = (ap (λ (n : ℕ). refusal_of n a.request) long ∙ is, s.gives bytes, s.does bytes)
 
 -- it is refused, and was done in part
-answer_part : (block size : ℕ) (a : WholeRequest) (op : Operation) (o : Option NbdError) (e : NbdError) (bytes later : List ℕ) → (e ≡ Io) ⊎ (e ≡ NoMemory) → refusal_of size a.request ≡ o → DoesIfAccepted o block size a op
+answer_part : (size : ℕ) (a : WholeRequest) (op : Operation) (o : Option NbdError) (e : NbdError) (bytes later : List ℕ) → (e ≡ Io) ⊎ (e ≡ NoMemory) → refusal_of size a.request ≡ o → DoesIfAccepted o size a op
     → length bytes ≡ size → IsPartOf op bytes later → IsAnswer bytes a.request a.payload (reply_if o (Refused e)) later
-answer_part block size a op (Some f) e bytes later why is nothing long part =
+answer_part size a op (Some f) e bytes later why is nothing long part =
     inl (ap (λ (n : ℕ). refusal_of n a.request) long ∙ is, subst (λ (x : Operation). IsPartOf x bytes later) nothing part)
-answer_part block size a op None e bytes later why is s long part =
+answer_part size a op None e bytes later why is s long part =
     inr (ap (λ (n : ℕ). refusal_of n a.request) long ∙ is, why, s.in_part bytes later part)
 
 -- it is refused, and nothing of it was done
@@ -97,79 +97,79 @@ answered_by a reply old new is answer = record { request = is.request; payload =
 
 -- ---- A batch whose operations were all done
 
-abbrev pub answered_requests : ℕ → ℕ → List WholeRequest → List (List ℕ) → List AnsweredRequest
-answered_requests block size [] given = []
-answered_requests block size (a ∷ arrived) [] = []
-answered_requests block size (a ∷ arrived) (bytes ∷ given) = answered_with a (reply_of block size a.request bytes) ∷ answered_requests block size arrived given
+abbrev pub answered_requests : ℕ → List WholeRequest → List (List ℕ) → List AnsweredRequest
+answered_requests size [] given = []
+answered_requests size (a ∷ arrived) [] = []
+answered_requests size (a ∷ arrived) (bytes ∷ given) = answered_with a (reply_of size a.request bytes) ∷ answered_requests size arrived given
 
-pub answered_same : (block size : ℕ) (arrived : List WholeRequest) (given : List (List ℕ)) → length given ≡ length arrived → map whole_request_of (answered_requests block size arrived given) ≡ arrived
-answered_same block size [] given many = refl
-answered_same block size (a ∷ arrived) [] many = absurd (omega (arith, many))
-answered_same block size (a ∷ arrived) (bytes ∷ given) many = ap (λ (l : List WholeRequest). a ∷ l) (answered_same block size arrived given (omega (arith, many)))
+pub answered_same : (size : ℕ) (arrived : List WholeRequest) (given : List (List ℕ)) → length given ≡ length arrived → map whole_request_of (answered_requests size arrived given) ≡ arrived
+answered_same size [] given many = refl
+answered_same size (a ∷ arrived) [] many = absurd (omega (arith, many))
+answered_same size (a ∷ arrived) (bytes ∷ given) many = ap (λ (l : List WholeRequest). a ∷ l) (answered_same size arrived given (omega (arith, many)))
 
-pub answered_text : (block size : ℕ) (arrived : List WholeRequest) (given : List (List ℕ)) → replies_text (answered_requests block size arrived given) ≡ answers_text block size (map (λ (a : WholeRequest). a.request) arrived) given
-answered_text block size [] given = refl
-answered_text block size (a ∷ arrived) [] = refl
-answered_text block size (a ∷ arrived) (bytes ∷ given) =
-    ap (λ (l : List ℕ). reply_text a.request.cookie (reply_of block size a.request bytes) ++ l) (answered_text block size arrived given)
+pub answered_text : (size : ℕ) (arrived : List WholeRequest) (given : List (List ℕ)) → replies_text (answered_requests size arrived given) ≡ answers_text size (map (λ (a : WholeRequest). a.request) arrived) given
+answered_text size [] given = refl
+answered_text size (a ∷ arrived) [] = refl
+answered_text size (a ∷ arrived) (bytes ∷ given) =
+    ap (λ (l : List ℕ). reply_text a.request.cookie (reply_of size a.request bytes) ++ l) (answered_text size arrived given)
 
-reply_done : (block size : ℕ) (a : WholeRequest) (op : Operation) (o : Option NbdError) (bytes : List ℕ) → refusal_of size a.request ≡ o → DoesIfAccepted o block size a op → length bytes ≡ read_len op
-    → IsReply size a.request (reply_if o (Done (requested_bytes block a.request bytes)))
-reply_done block size a op (Some e) bytes is s long = inl is
-reply_done block size a op None bytes is s long = (is, s.long bytes long)
+reply_done : (size : ℕ) (a : WholeRequest) (op : Operation) (o : Option NbdError) (bytes : List ℕ) → refusal_of size a.request ≡ o → DoesIfAccepted o size a op → length bytes ≡ read_len op
+    → IsReply size a.request (reply_if o (Done bytes))
+reply_done size a op (Some e) bytes is s long = inl is
+reply_done size a op None bytes is s long = (is, long ∙ s.long)
 
-pub answered_fit : (block size : ℕ) (arrived : List WholeRequest) (ops : List Operation) (given : List (List ℕ)) → All IsWholeRequest arrived → AreServedBy block size arrived ops → map length given ≡ map read_len ops
-    → All (λ (t : AnsweredRequest). IsReplied size t) (answered_requests block size arrived given)
-answered_fit block size [] ops given are served lens = All-nil (λ (t : AnsweredRequest). IsReplied size t)
-answered_fit block size (a ∷ arrived) [] given are served lens = absurd served
-answered_fit block size (a ∷ arrived) (op ∷ ops) [] are served lens = All-nil (λ (t : AnsweredRequest). IsReplied size t)
-answered_fit block size (a ∷ arrived) (op ∷ ops) (bytes ∷ given) are served lens =
+pub answered_fit : (size : ℕ) (arrived : List WholeRequest) (ops : List Operation) (given : List (List ℕ)) → All IsWholeRequest arrived → AreServedBy size arrived ops → map length given ≡ map read_len ops
+    → All (λ (t : AnsweredRequest). IsReplied size t) (answered_requests size arrived given)
+answered_fit size [] ops given are served lens = All-nil (λ (t : AnsweredRequest). IsReplied size t)
+answered_fit size (a ∷ arrived) [] given are served lens = absurd served
+answered_fit size (a ∷ arrived) (op ∷ ops) [] are served lens = All-nil (λ (t : AnsweredRequest). IsReplied size t)
+answered_fit size (a ∷ arrived) (op ∷ ops) (bytes ∷ given) are served lens =
     let is = All-head IsWholeRequest a arrived are in
     let first : length bytes ≡ read_len op = cc in
     let rest : map length given ≡ map read_len ops = cc in
-    All-cons (λ (t : AnsweredRequest). IsReplied size t) (answered_with a (reply_of block size a.request bytes)) (answered_requests block size arrived given)
-    (record { request = is.request; payload = is.payload; reply = reply_done block size a op (refusal_of size a.request) bytes refl served.0 first })
-    (answered_fit block size arrived ops given (All-tail IsWholeRequest a arrived are) served.1 rest)
+    All-cons (λ (t : AnsweredRequest). IsReplied size t) (answered_with a (reply_of size a.request bytes)) (answered_requests size arrived given)
+    (record { request = is.request; payload = is.payload; reply = reply_done size a op (refusal_of size a.request) bytes refl served.0 first })
+    (answered_fit size arrived ops given (All-tail IsWholeRequest a arrived are) served.1 rest)
 
 -- no such reply says that the device has failed
 never_io : (size : ℕ) (r : Request) (o : Option NbdError) (bytes : List ℕ) → refusal_of size r ≡ o → reply_if o (Done bytes) ≡ Refused Io → ⊥
 never_io size r (Some e) bytes is says = refusal_is_other size r e is (let same : e ≡ Io = cc in same)
 never_io size r None bytes is says = cc
 
-pub answered_never_fail : (block size : ℕ) (arrived : List WholeRequest) (given : List (List ℕ)) → NeverFails (answered_requests block size arrived given)
-answered_never_fail block size [] given = tt
-answered_never_fail block size (a ∷ arrived) [] = tt
-answered_never_fail block size (a ∷ arrived) (bytes ∷ given) =
-    (never_io size a.request (refusal_of size a.request) (requested_bytes block a.request bytes) refl, answered_never_fail block size arrived given)
+pub answered_never_fail : (size : ℕ) (arrived : List WholeRequest) (given : List (List ℕ)) → NeverFails (answered_requests size arrived given)
+answered_never_fail size [] given = tt
+answered_never_fail size (a ∷ arrived) [] = tt
+answered_never_fail size (a ∷ arrived) (bytes ∷ given) =
+    (never_io size a.request (refusal_of size a.request) bytes refl, answered_never_fail size arrived given)
 
-pub answered_tell_none : (block size : ℕ) (arrived : List WholeRequest) (given : List (List ℕ)) → SaysFailed (answered_requests block size arrived given) → ⊥
-answered_tell_none block size [] given none = none
-answered_tell_none block size (a ∷ arrived) [] none = none
-answered_tell_none block size (a ∷ arrived) (bytes ∷ given) (inl says) = never_io size a.request (refusal_of size a.request) (requested_bytes block a.request bytes) refl says
-answered_tell_none block size (a ∷ arrived) (bytes ∷ given) (inr rest) = answered_tell_none block size arrived given rest
+pub answered_tell_none : (size : ℕ) (arrived : List WholeRequest) (given : List (List ℕ)) → SaysFailed (answered_requests size arrived given) → ⊥
+answered_tell_none size [] given none = none
+answered_tell_none size (a ∷ arrived) [] none = none
+answered_tell_none size (a ∷ arrived) (bytes ∷ given) (inl says) = never_io size a.request (refusal_of size a.request) bytes refl says
+answered_tell_none size (a ∷ arrived) (bytes ∷ given) (inr rest) = answered_tell_none size arrived given rest
 
-pub answered_refuse : (block size : ℕ) (failed : Type 0) (arrived : List WholeRequest) (given : List (List ℕ)) → (failed → ⊥) → FailsForGood failed (answered_requests block size arrived given)
-answered_refuse block size failed [] given alive = tt
-answered_refuse block size failed (a ∷ arrived) [] alive = tt
-answered_refuse block size failed (a ∷ arrived) (bytes ∷ given) alive = (
+pub answered_refuse : (size : ℕ) (failed : Type 0) (arrived : List WholeRequest) (given : List (List ℕ)) → (failed → ⊥) → FailsForGood failed (answered_requests size arrived given)
+answered_refuse size failed [] given alive = tt
+answered_refuse size failed (a ∷ arrived) [] alive = tt
+answered_refuse size failed (a ∷ arrived) (bytes ∷ given) alive = (
   λ f. absurd (alive f),
-  answered_refuse block size (failed ⊎ (reply_of block size a.request bytes ≡ Refused Io)) arrived given (λ e. elim e [
+  answered_refuse size (failed ⊎ (reply_of size a.request bytes ≡ Refused Io)) arrived given (λ e. elim e [
     | inl f ↦ alive f
-    | inr says ↦ never_io size a.request (refusal_of size a.request) (requested_bytes block a.request bytes) refl says
+    | inr says ↦ never_io size a.request (refusal_of size a.request) bytes refl says
   ]),
 )
 
-pub answered_service : (block size : ℕ) (arrived : List WholeRequest) (ops : List Operation) (bytes : List ℕ) → All IsWholeRequest arrived → AreServedBy block size arrived ops → length bytes ≡ size
-    → IsService bytes (answered_requests block size arrived (all_given ops bytes)) (all_done ops bytes)
-answered_service block size [] [] bytes are served long = refl
-answered_service block size [] (op ∷ ops) bytes are served long = absurd served
-answered_service block size (a ∷ arrived) [] bytes are served long = absurd served
-answered_service block size (a ∷ arrived) (op ∷ ops) bytes are served long = (
+pub answered_service : (size : ℕ) (arrived : List WholeRequest) (ops : List Operation) (bytes : List ℕ) → All IsWholeRequest arrived → AreServedBy size arrived ops → length bytes ≡ size
+    → IsService bytes (answered_requests size arrived (all_given ops bytes)) (all_done ops bytes)
+answered_service size [] [] bytes are served long = refl
+answered_service size [] (op ∷ ops) bytes are served long = absurd served
+answered_service size (a ∷ arrived) [] bytes are served long = absurd served
+answered_service size (a ∷ arrived) (op ∷ ops) bytes are served long = (
   done_by op bytes,
-  answered_by a (reply_of block size a.request (given_by op bytes)) bytes (done_by op bytes) (All-head IsWholeRequest a arrived are)
-      (answer_done block size a op (refusal_of size a.request) bytes refl served.0 long),
-  answered_service block size arrived ops (done_by op bytes) (All-tail IsWholeRequest a arrived are) served.1
-      (length_done size op bytes long (served_one block size (refusal_of size a.request) a op served.0).0),
+  answered_by a (reply_of size a.request (given_by op bytes)) bytes (done_by op bytes) (All-head IsWholeRequest a arrived are)
+      (answer_done size a op (refusal_of size a.request) bytes refl served.0 long),
+  answered_service size arrived ops (done_by op bytes) (All-tail IsWholeRequest a arrived are) served.1
+      (length_done size op bytes long (served_one size (refusal_of size a.request) a op served.0).0),
 )
 
 -- ---- A batch that is refused: with this error, where its requests aren't refused already
@@ -240,46 +240,46 @@ refused_idle size (a ∷ arrived) e bytes why are long = (
 )
 
 -- the operations were begun
-pub refused_service : (block size : ℕ) (arrived : List WholeRequest) (ops : List Operation) (e : NbdError) (bytes later : List ℕ) → (e ≡ Io) ⊎ (e ≡ NoMemory) → All IsWholeRequest arrived → AreServedBy block size arrived ops
+pub refused_service : (size : ℕ) (arrived : List WholeRequest) (ops : List Operation) (e : NbdError) (bytes later : List ℕ) → (e ≡ Io) ⊎ (e ≡ NoMemory) → All IsWholeRequest arrived → AreServedBy size arrived ops
     → length bytes ≡ size → AreBegun ops bytes later → IsService bytes (refused_requests size arrived e) later
-refused_service block size [] [] e bytes later why are served long same = same
-refused_service block size [] (op ∷ ops) e bytes later why are served long begun = absurd served
-refused_service block size (a ∷ arrived) [] e bytes later why are served long begun = absurd served
-refused_service block size (a ∷ arrived) (op ∷ ops) e bytes later why are served long (inl part) =
+refused_service size [] [] e bytes later why are served long same = same
+refused_service size [] (op ∷ ops) e bytes later why are served long begun = absurd served
+refused_service size (a ∷ arrived) [] e bytes later why are served long begun = absurd served
+refused_service size (a ∷ arrived) (op ∷ ops) e bytes later why are served long (inl part) =
     let is = All-head IsWholeRequest a arrived are in
-    let within = (served_one block size (refusal_of size a.request) a op served.0).0 in (
+    let within = (served_one size (refusal_of size a.request) a op served.0).0 in (
       later,
-      answered_by a (reply_if (refusal_of size a.request) (Refused e)) bytes later is (answer_part block size a op (refusal_of size a.request) e bytes later why refl served.0 long part),
+      answered_by a (reply_if (refusal_of size a.request) (Refused e)) bytes later is (answer_part size a op (refusal_of size a.request) e bytes later why refl served.0 long part),
       refused_idle size arrived e later why (All-tail IsWholeRequest a arrived are) (length_part size op bytes later long within part),
     )
-refused_service block size (a ∷ arrived) (op ∷ ops) e bytes later why are served long (inr rest) =
+refused_service size (a ∷ arrived) (op ∷ ops) e bytes later why are served long (inr rest) =
     let is = All-head IsWholeRequest a arrived are in
-    let within = (served_one block size (refusal_of size a.request) a op served.0).0 in (
+    let within = (served_one size (refusal_of size a.request) a op served.0).0 in (
       done_by op bytes,
       answered_by a (reply_if (refusal_of size a.request) (Refused e)) bytes (done_by op bytes) is
-          (answer_part block size a op (refusal_of size a.request) e bytes (done_by op bytes) why refl served.0 long (part_whole op bytes)),
-      refused_service block size arrived ops e (done_by op bytes) later why (All-tail IsWholeRequest a arrived are) served.1 (length_done size op bytes long within) rest,
+          (answer_part size a op (refusal_of size a.request) e bytes (done_by op bytes) why refl served.0 long (part_whole op bytes)),
+      refused_service size arrived ops e (done_by op bytes) later why (All-tail IsWholeRequest a arrived are) served.1 (length_done size op bytes long within) rest,
     )
 
 -- ---- A batch at which the device stopped
 
-left_part : (block size : ℕ) (a : WholeRequest) (op : Operation) (o : Option NbdError) (bytes later : List ℕ) → DoesIfAccepted o block size a op → IsPartOf op bytes later
+left_part : (size : ℕ) (a : WholeRequest) (op : Operation) (o : Option NbdError) (bytes later : List ℕ) → DoesIfAccepted o size a op → IsPartOf op bytes later
     → IsLeftIf o bytes (IsPartly a.request.command bytes a.request.offset a.request.length a.payload later) later
-left_part block size a op (Some e) bytes later nothing part = subst (λ (x : Operation). IsPartOf x bytes later) nothing part
-left_part block size a op None bytes later s part = s.in_part bytes later part
+left_part size a op (Some e) bytes later nothing part = subst (λ (x : Operation). IsPartOf x bytes later) nothing part
+left_part size a op None bytes later s part = s.in_part bytes later part
 
-pub requests_begun : (block size : ℕ) (arrived : List WholeRequest) (ops : List Operation) (bytes later : List ℕ) → AreServedBy block size arrived ops → length bytes ≡ size → AreBegun ops bytes later
+pub requests_begun : (size : ℕ) (arrived : List WholeRequest) (ops : List Operation) (bytes later : List ℕ) → AreServedBy size arrived ops → length bytes ≡ size → AreBegun ops bytes later
     → AreRequestsBegun arrived bytes later
-requests_begun block size [] [] bytes later served long same = same
-requests_begun block size [] (op ∷ ops) bytes later served long begun = absurd served
-requests_begun block size (a ∷ arrived) [] bytes later served long begun = absurd served
-requests_begun block size (a ∷ arrived) (op ∷ ops) bytes later served long (inl part) =
+requests_begun size [] [] bytes later served long same = same
+requests_begun size [] (op ∷ ops) bytes later served long begun = absurd served
+requests_begun size (a ∷ arrived) [] bytes later served long begun = absurd served
+requests_begun size (a ∷ arrived) (op ∷ ops) bytes later served long (inl part) =
     inl (subst (λ (n : ℕ). IsLeftIf (refusal_of n a.request) bytes (IsPartly a.request.command bytes a.request.offset a.request.length a.payload later) later) (sym long)
-    (left_part block size a op (refusal_of size a.request) bytes later served.0 part))
-requests_begun block size (a ∷ arrived) (op ∷ ops) bytes later served long (inr rest) =
-    let within = (served_one block size (refusal_of size a.request) a op served.0).0 in
-    inr (subst (λ (b : List ℕ). AreRequestsBegun arrived b later) (done_as_requested block size a op bytes served.0 long)
-    (requests_begun block size arrived ops (done_by op bytes) later served.1 (length_done size op bytes long within) rest))
+    (left_part size a op (refusal_of size a.request) bytes later served.0 part))
+requests_begun size (a ∷ arrived) (op ∷ ops) bytes later served long (inr rest) =
+    let within = (served_one size (refusal_of size a.request) a op served.0).0 in
+    inr (subst (λ (b : List ℕ). AreRequestsBegun arrived b later) (done_as_requested size a op bytes served.0 long)
+    (requests_begun size arrived ops (done_by op bytes) later served.1 (length_done size op bytes long within) rest))
 
 -- a request that isn't refused, among those that arrived
 pub accepted_in : (size : ℕ) (arrived : List WholeRequest) (before after : List Request) (r : Request) → map (λ (a : WholeRequest). a.request) arrived ≡ before ++ r ∷ after → refusal_of size r ≡ None
@@ -306,20 +306,20 @@ refused_says_fault size arrived e why (xs, ys, a, split, none) = subst (λ (l : 
 
 -- ---- Requests that are collected, one after the other
 
-pub record Collected (block size : ℕ) (requests : List Request) (operations : List Operation) (unread unread' : Option (List ℕ)) : Type 0 where
+pub record Collected (size : ℕ) (requests : List Request) (operations : List Operation) (unread unread' : Option (List ℕ)) : Type 0 where
   pub arrived : List WholeRequest
-  pub collected : AreCollected block size arrived requests operations
+  pub collected : AreCollected size arrived requests operations
   pub read : Consumes unread unread' (whole_requests_text arrived)
 
-module _ (block size : ℕ) (requests : List Request) (operations : List Operation) (unread mid : Option (List ℕ)) (so_far : Collected block size requests operations unread mid) where
+module _ (size : ℕ) (requests : List Request) (operations : List Operation) (unread mid : Option (List ℕ)) (so_far : Collected size requests operations unread mid) where
   pub collected_more : (requests' : List Request) (operations' : List Operation) (later : Option (List ℕ)) (a : WholeRequest) (op : Operation) → IsWholeRequest a → requests' ≡ requests ++ a.request ∷ [] → operations' ≡ operations ++ op ∷ []
-      → DoesIfAccepted (refusal_of size a.request) block size a op → Consumes mid later (request_text a.request ++ a.payload) → Collected block size requests' operations' unread later
+      → DoesIfAccepted (refusal_of size a.request) size a op → Consumes mid later (request_text a.request ++ a.payload) → Collected size requests' operations' unread later
   collected_more requests' operations' later a op is more more' serves came = record {
     arrived = so_far.arrived ++ a ∷ [];
     collected = record {
       all = All-append IsWholeRequest so_far.arrived (a ∷ []) so_far.collected.all (All-cons IsWholeRequest a [] is (All-nil IsWholeRequest));
       same = map-append (λ (x : WholeRequest). x.request) so_far.arrived (a ∷ []) ∙ ap (λ (l : List Request). l ++ a.request ∷ []) so_far.collected.same ∙ sym more;
-      served = subst (AreServedBy block size (so_far.arrived ++ a ∷ [])) (sym more') (served_by_more block size so_far.arrived operations a op so_far.collected.served serves);
+      served = subst (AreServedBy size (so_far.arrived ++ a ∷ [])) (sym more') (served_by_more size so_far.arrived operations a op so_far.collected.served serves);
     };
     read = subst (Consumes unread later)
         (ap (λ (l : List ℕ). whole_requests_text so_far.arrived ++ l) (sym (append-nil (request_text a.request ++ a.payload)))
@@ -328,17 +328,17 @@ module _ (block size : ℕ) (requests : List Request) (operations : List Operati
   }
 
   pub gathered_then : (requests' : List Request) (operations' : List Operation) (later : Option (List ℕ)) (close : Close) (part : List ℕ) → requests' ≡ requests → operations' ≡ operations → Consumes mid later part
-      → EndsBy close part later → HasGathered block size requests' operations' close unread later
+      → EndsBy close part later → HasGathered size requests' operations' close unread later
   gathered_then requests' operations' later close part same same' came ends = record {
     arrived = so_far.arrived;
     part = part;
-    collected = record { all = so_far.collected.all; same = so_far.collected.same ∙ sym same; served = subst (AreServedBy block size so_far.arrived) (sym same') so_far.collected.served };
+    collected = record { all = so_far.collected.all; same = so_far.collected.same ∙ sym same; served = subst (AreServedBy size so_far.arrived) (sym same') so_far.collected.served };
     read = Consumes-trans unread mid later (whole_requests_text so_far.arrived) part so_far.read came;
     ends = ends;
   }
 
   -- nothing else was read
-  pub gathered : (close : Close) → EndsBy close [] mid → HasGathered block size requests operations close unread mid
+  pub gathered : (close : Close) → EndsBy close [] mid → HasGathered size requests operations close unread mid
   gathered close ends = gathered_then requests operations mid close [] refl refl (Consumes-nil mid) ends
 
 -- ---- What the replies to a batch come to
@@ -352,64 +352,71 @@ one_batch {new = new} {batch = batch} fits refused serves = record { fits = fits
 abbrev pub Begun : List Operation → Arrays (List ℕ) → Arrays (List ℕ) → Type 0
 Begun ops from to = AreBegun ops from.held to.held × SavesPart (AreBegun ops) from to
 
-module _ {D W E : Type 0} {kind : DeviceKind D W E} (block size : ℕ) (old new : D) (arrived : List WholeRequest)
+module _ {D W E : Type 0} {kind : DeviceKind D W E} (size : ℕ) (old new : D) (arrived : List WholeRequest)
     (sized : (may_lie : Bool) (world : W) (bytes : List ℕ) → kind.holds may_lie old world bytes → length bytes ≡ size) where
   -- all operations were done
-  pub all_answered : (requests : List Request) (ops : List Operation) (given : List (List ℕ)) → AreCollected block size arrived requests ops → map length given ≡ map read_len ops → (kind.failed old → ⊥)
+  pub all_answered : (requests : List Request) (ops : List Operation) (given : List (List ℕ)) → AreCollected size arrived requests ops → map length given ≡ map read_len ops → (kind.failed old → ⊥)
       → GoesOn kind.had kind.hears (HasArrays kind.holds kind.kept) old
       (λ may_lie before later. (given ≡ all_given ops before.held) × (later.held ≡ all_done ops before.held) × SavesAll (TouchSomeByte ops) before later) new
-      → HasRepliedToAll kind size old new arrived (answered_requests block size arrived given)
-  all_answered requests ops given collected lens alive goes =
-      let many : length given ≡ length arrived = sym (length-map given length) ∙ ap length lens ∙ length-map ops read_len ∙ as_many block size arrived ops collected.served in
-      let same = answered_same block size arrived given many in
+      → AsksFor kind.asked old (calls_of (kind.block_len old) (map range_of ops)) new
+      → HasRepliedToAll kind size old new arrived (answered_requests size arrived given)
+  all_answered requests ops given collected lens alive goes asks =
+      let many : length given ≡ length arrived = sym (length-map given length) ∙ ap length lens ∙ length-map ops read_len ∙ as_many size arrived ops collected.served in
+      let same = answered_same size arrived given many in
       record {
         same = same;
-        served = one_batch (answered_fit block size arrived ops given collected.all collected.served lens) (answered_refuse block size (kind.failed old) arrived given alive)
-            (weaker goes (λ may_lie world before later h step.
-            let long = sized may_lie world before.held h.0 in (
-              subst (λ (l : List ℕ). IsService before.held (answered_requests block size arrived given) l) (sym step.1)
-                  (subst (λ (gs : List (List ℕ)). IsService before.held (answered_requests block size arrived gs) (all_done ops before.held)) (sym step.0)
-                  (answered_service block size arrived ops before.held collected.all collected.served long)),
-              λ honest. answered_never_fail block size arrived given,
-              inl (subst (λ (l : List WholeRequest). (later.held ≡ array_after_requests l before.held) × SavesAll (RequestsTouchSomeByte size l) before later) (sym same)
-                  (step.1 ∙ all_done_as_requested block size arrived ops before.held collected.served long, all_weaker step.2 (some_touches block size arrived ops collected.served))),
-            )));
-        reported = λ says. absurd (answered_tell_none block size arrived given says);
+        served = one_batch (answered_fit size arrived ops given collected.all collected.served lens) (answered_refuse size (kind.failed old) arrived given alive)
+            (record {
+              asks = inl (subst (λ (l : List WholeRequest). AsksFor kind.asked old (request_calls (kind.block_len old) size (map (λ (a : WholeRequest). a.request) l)) new) (sym same) (subst (λ (l : List Range). AsksFor kind.asked old (calls_of (kind.block_len old) l) new) (ranges_as_requested size arrived ops collected.served) asks));
+              leads = (weaker goes (λ may_lie world before later h step.
+                  let long = sized may_lie world before.held h.0 in (
+                    subst (λ (l : List ℕ). IsService before.held (answered_requests size arrived given) l) (sym step.1)
+                        (subst (λ (gs : List (List ℕ)). IsService before.held (answered_requests size arrived gs) (all_done ops before.held)) (sym step.0)
+                        (answered_service size arrived ops before.held collected.all collected.served long)),
+                    λ honest. answered_never_fail size arrived given,
+                    inl (subst (λ (l : List WholeRequest). (later.held ≡ array_after_requests l before.held) × SavesAll (RequestsTouchSomeByte size l) before later) (sym same)
+                        (step.1 ∙ all_done_as_requested size arrived ops before.held collected.served long, all_weaker step.2 (some_touches size arrived ops collected.served))),
+                  )));
+            });
+        reported = λ says. absurd (answered_tell_none size arrived given says);
       }
 
   -- the operations were begun, and all requests are refused
-  pub all_refused : (requests : List Request) (ops : List Operation) (e : NbdError) → AreCollected block size arrived requests ops → (e ≡ Io) ⊎ (e ≡ NoMemory) → (e ≡ Io → kind.failed new)
+  pub all_refused : (requests : List Request) (ops : List Operation) (e : NbdError) → AreCollected size arrived requests ops → (e ≡ Io) ⊎ (e ≡ NoMemory) → (e ≡ Io → kind.failed new)
       → (before after : List Request) (r : Request) → requests ≡ before ++ r ∷ after → refusal_of size r ≡ None
       → GoesOn kind.had kind.hears (HasArrays kind.holds kind.kept) old (λ may_lie before later. Begun ops before later × (e ≡ Io → may_lie ≡ true)) new
       → HasRepliedToAll kind size old new arrived (refused_requests size arrived e)
   all_refused requests ops e collected why fails before after r split none goes = record {
     same = refused_same size arrived e;
     served = one_batch (refused_fit size arrived e why collected.all) (refused_refuse size (kind.failed old) arrived e)
-        (weaker goes (λ may_lie world from to h step.
-        let long = sized may_lie world from.held h.0 in (
-          refused_service block size arrived ops e from.held to.held why collected.all collected.served long step.0.0,
-          λ honest. refused_never_fail size arrived e (λ io. let lies : may_lie ≡ true = step.1 io in cc),
-          inr (
-            all_refusals size arrived e,
-            inr (
-              refused_says_fault size arrived e why (accepted_in size arrived before after r (collected.same ∙ split) none),
-              subst (λ (l : List WholeRequest). SavesPart (AreRequestsBegun l) from to) (sym (refused_same size arrived e))
-                  (part_weaker step.0.1 (λ x begun. requests_begun block size arrived ops from.held x collected.served long begun)),
-            ),
-          ),
-        )));
+        (record {
+          asks = inr (all_refusals size arrived e);
+          leads = (weaker goes (λ may_lie world from to h step.
+              let long = sized may_lie world from.held h.0 in (
+                refused_service size arrived ops e from.held to.held why collected.all collected.served long step.0.0,
+                λ honest. refused_never_fail size arrived e (λ io. let lies : may_lie ≡ true = step.1 io in cc),
+                inr (
+                  all_refusals size arrived e,
+                  inr (
+                    refused_says_fault size arrived e why (accepted_in size arrived before after r (collected.same ∙ split) none),
+                    subst (λ (l : List WholeRequest). SavesPart (AreRequestsBegun l) from to) (sym (refused_same size arrived e))
+                        (part_weaker step.0.1 (λ x begun. requests_begun size arrived ops from.held x collected.served long begun)),
+                  ),
+                ),
+              )));
+        });
     reported = λ says. fails (refused_tell size arrived e says);
   }
 
   -- the device stopped
-  pub all_begun : (requests : List Request) (ops : List Operation) → AreCollected block size arrived requests ops → (before after : List Request) (r : Request) → requests ≡ before ++ r ∷ after → refusal_of size r ≡ None
+  pub all_begun : (requests : List Request) (ops : List Operation) → AreCollected size arrived requests ops → (before after : List Request) (r : Request) → requests ≡ before ++ r ∷ after → refusal_of size r ≡ None
       → GoesOn kind.had kind.hears (HasArrays kind.holds kind.kept) old (λ may_lie before later. Begun ops before later) new → HasBegun kind size old new arrived
   all_begun requests ops collected before after r split none goes = record {
     accepted = accepted_in size arrived before after r (collected.same ∙ split) none;
     begun = weaker goes (λ may_lie world from to h step.
         let long = sized may_lie world from.held h.0 in (
-          requests_begun block size arrived ops from.held to.held collected.served long step.0,
-          part_weaker step.1 (λ x begun. requests_begun block size arrived ops from.held x collected.served long begun),
+          requests_begun size arrived ops from.held to.held collected.served long step.0,
+          part_weaker step.1 (λ x begun. requests_begun size arrived ops from.held x collected.served long begun),
         ));
   }
 
@@ -420,11 +427,14 @@ pub refused_at_rest : {D W E : Type 0} {kind : DeviceKind D W E} (size : ℕ) (d
 refused_at_rest {kind = kind} size d arrived sized are = record {
   same = refused_same size arrived NoMemory;
   served = one_batch (refused_fit size arrived NoMemory (inr refl) are) (refused_refuse size (kind.failed d) arrived NoMemory)
-      (at_rest (λ may_lie world before h. (
-        refused_idle size arrived NoMemory before.held (inr refl) are (sized may_lie world before.held h.0),
-        λ honest. refused_never_fail size arrived NoMemory (λ io. cc),
-        inr (all_refusals size arrived NoMemory, inl (refl, refl)),
-      )));
+      (record {
+        asks = inr (all_refusals size arrived NoMemory);
+        leads = (at_rest (λ may_lie world before h. (
+          refused_idle size arrived NoMemory before.held (inr refl) are (sized may_lie world before.held h.0),
+          λ honest. refused_never_fail size arrived NoMemory (λ io. cc),
+          inr (all_refusals size arrived NoMemory, inl (refl, refl)),
+        )));
+      });
   reported = λ says. absurd (let none : NoMemory ≡ Io = refused_tell size arrived NoMemory says in cc);
 }
 
@@ -445,7 +455,7 @@ behind_cut fault.Read part new h = inr (inr (inl h))
 behind_cut fault.Truncated part new h = inr (inr (inl h.0))
 behind_cut fault.Magic part new h = inr (inr (inr h))
 behind_cut fault.Write part new h = absurd h
-behind_cut fault.OldClient part new h = absurd h
+behind_cut fault.UnknownFlags part new h = absurd h
 behind_cut fault.UnknownExport part new h = absurd h
 behind_cut fault.TooManyOptions part new h = absurd h
 behind_cut fault.OutOfMemory part new h = absurd h
@@ -505,15 +515,15 @@ module _ (old now : Option (List ℕ)) (all rest : List ℕ) (t : WritesOn old n
       front k {part = part} same = ap (take (length t.so_far + k)) (sym t.split ∙ ap (λ (l : List ℕ). t.so_far ++ l) is) ∙ take-append-add t.so_far (more ++ rest') k ∙ ap (λ (l : List ℕ). t.so_far ++ l) same
 
 -- the next reply
-pub answers_next : (block size : ℕ) (requests : List Request) (given : List (List ℕ)) (i : ℕ) (r : Request) (bytes : List ℕ) → i < length requests → length given ≡ length requests
+pub answers_next : (size : ℕ) (requests : List Request) (given : List (List ℕ)) (i : ℕ) (r : Request) (bytes : List ℕ) → i < length requests → length given ≡ length requests
     → r ≡ get_or requests i r → bytes ≡ get_or given i bytes
-    → answers_text block size (drop i requests) (drop i given) ≡ reply_text r.cookie (reply_of block size r bytes) ++ answers_text block size (drop (i + 1) requests) (drop (i + 1) given)
-answers_next block size requests given i r bytes more each is is' =
+    → answers_text size (drop i requests) (drop i given) ≡ reply_text r.cookie (reply_of size r bytes) ++ answers_text size (drop (i + 1) requests) (drop (i + 1) given)
+answers_next size requests given i r bytes more each is is' =
     let one : i + 1 ≡ suc i = omega arith in
     let first : drop i requests ≡ r ∷ drop (i + 1) requests = drop-cons requests i r more ∙ ap (λ (x : Request). x ∷ drop (suc i) requests) (sym is) ∙ ap (λ (n : ℕ). r ∷ drop n requests) (sym one) in
     let second : drop i given ≡ bytes ∷ drop (i + 1) given =
     drop-cons given i bytes (omega (arith, more, each)) ∙ ap (λ (x : List ℕ). x ∷ drop (suc i) given) (sym is') ∙ ap (λ (n : ℕ). bytes ∷ drop n given) (sym one) in
-    ap (λ (l : List Request). answers_text block size l (drop i given)) first ∙ ap (λ (l : List (List ℕ)). answers_text block size (r ∷ drop (i + 1) requests) l) second
+    ap (λ (l : List Request). answers_text size l (drop i given)) first ∙ ap (λ (l : List (List ℕ)). answers_text size (r ∷ drop (i + 1) requests) l) second
 
 pub refusals_next : (size : ℕ) (requests : List Request) (e : NbdError) (i : ℕ) (r : Request) → i < length requests → r ≡ get_or requests i r
     → refusals_text size (drop i requests) e ≡ reply_text r.cookie (reply_if (refusal_of size r) (Refused e)) ++ refusals_text size (drop (i + 1) requests) e
@@ -523,30 +533,11 @@ refusals_next size requests e i r more is =
     ap (λ (l : List Request). refusals_text size l e) first
 
 -- none is left
-pub answers_end : (block size : ℕ) (requests : List Request) (given : List (List ℕ)) (i : ℕ) → length requests ≤ i → answers_text block size (drop i requests) (drop i given) ≡ []
-answers_end block size requests given i end = ap (λ (l : List Request). answers_text block size l (drop i given)) (drop_all i requests end)
+pub answers_end : (size : ℕ) (requests : List Request) (given : List (List ℕ)) (i : ℕ) → length requests ≤ i → answers_text size (drop i requests) (drop i given) ≡ []
+answers_end size requests given i end = ap (λ (l : List Request). answers_text size l (drop i given)) (drop_all i requests end)
 
 pub refusals_end : (size : ℕ) (requests : List Request) (e : NbdError) (i : ℕ) → length requests ≤ i → refusals_text size (drop i requests) e ≡ []
 refusals_end size requests e i end = ap (λ (l : List Request). refusals_text size l e) (drop_all i requests end)
-
--- the operation of a read
-pub serves_read : (block size : ℕ) (a : WholeRequest) (first count : ℕ) → a.request.command ≡ command.Read → block * first + a.request.offset % block ≡ a.request.offset → a.request.offset % block + a.request.length ≤ block * count
-    → block * first + block * count ≤ size → DoesRequest block size a (Read (block * first) (block * count))
-serves_read block size a first count is place covers within =
-    let o = a.request.offset in
-    let n = a.request.length in
-    let s : ℕ = o % block in
-    record {
-      reads = record { first = first; count = count; place = refl; len = refl };
-      within = within;
-      touches = subst (λ (c : Command). touched_len c n ≤ block * count) (sym is) (omega (arith, covers));
-      does = λ bytes. ap (λ (c : Command). after c bytes o n a.payload) (sym is);
-      in_part = λ old new h. subst (λ (c : Command). IsPartly c old o n a.payload new) (sym is) h;
-      gives = λ bytes. subst (λ (c : Command). take (given_len c n) (drop s (bytes_at bytes (block * first) (block * count))) ≡ given c bytes o n) (sym is)
-          (part_of_block bytes (block * first) (block * count) s n covers ∙ ap (λ (p : ℕ). bytes_at bytes p n) place);
-      long = λ bytes long. subst (λ (c : Command). length (take (given_len c n) (drop s bytes)) ≡ given_len c n) (sym is)
-          (length-take-le n (drop s bytes) (let rest : length (drop s bytes) ≡ length bytes - s = length-drop s bytes in omega (arith, rest, long, covers)));
-    }
 
 -- only a part of the bytes of a write came
 pub payload_cut : (a b c : Option (List ℕ)) (r : Request) (f : NbdFault) → IsRequest r → Consumes a b (request_text r) → ComesShort 0 (payload_len r.command r.length) f b c
@@ -556,7 +547,7 @@ payload_cut a b c r fault.Truncated is head h =
     (request_text r ++ h.0, Consumes-trans a b c (request_text r) h.0 head h.2, (inr (r, h.0, is, h.1, refl), (let some : 0 < length (request_text r ++ h.0) = omega (arith, length-append (request_text r) h.0) in some), h.4))
 payload_cut a b c r fault.Magic is head h = absurd h
 payload_cut a b c r fault.Write is head h = absurd h
-payload_cut a b c r fault.OldClient is head h = absurd h
+payload_cut a b c r fault.UnknownFlags is head h = absurd h
 payload_cut a b c r fault.UnknownExport is head h = absurd h
 payload_cut a b c r fault.TooManyOptions is head h = absurd h
 payload_cut a b c r fault.OutOfMemory is head h = absurd h
@@ -588,15 +579,15 @@ pub text_refused : (size : ℕ) (arrived : List WholeRequest) (e : NbdError) (re
     → refusals_text size shown e ≡ replies_text (refused_requests size arrived e)
 text_refused size arrived e requests shown are same = ap (λ (l : List Request). refusals_text size l e) (same ∙ sym are) ∙ sym (refused_text size arrived e)
 
-pub text_answered : (block size : ℕ) (arrived : List WholeRequest) (requests shown : List Request) (given shown' : List (List ℕ)) → map (λ (a : WholeRequest). a.request) arrived ≡ requests → shown ≡ requests → shown' ≡ given
-    → answers_text block size shown shown' ≡ replies_text (answered_requests block size arrived given)
-text_answered block size arrived requests shown given shown' are same same' =
-    ap (λ (l : List Request). answers_text block size l shown') (same ∙ sym are) ∙ ap (answers_text block size (map (λ (a : WholeRequest). a.request) arrived)) same' ∙ sym (answered_text block size arrived given)
+pub text_answered : (size : ℕ) (arrived : List WholeRequest) (requests shown : List Request) (given shown' : List (List ℕ)) → map (λ (a : WholeRequest). a.request) arrived ≡ requests → shown ≡ requests → shown' ≡ given
+    → answers_text size shown shown' ≡ replies_text (answered_requests size arrived given)
+text_answered size arrived requests shown given shown' are same same' =
+    ap (λ (l : List Request). answers_text size l shown') (same ∙ sym are) ∙ ap (answers_text size (map (λ (a : WholeRequest). a.request) arrived)) same' ∙ sym (answered_text size arrived given)
 
-pub collected_as : (block size : ℕ) (arrived : List WholeRequest) (requests : List Request) (operations shown : List Operation) → shown ≡ operations → AreCollected block size arrived requests operations → AreCollected block size arrived requests shown
-collected_as block size arrived requests operations shown same collected = subst (λ (ops : List Operation). AreCollected block size arrived requests ops) (sym same) collected
+pub collected_as : (size : ℕ) (arrived : List WholeRequest) (requests : List Request) (operations shown : List Operation) → shown ≡ operations → AreCollected size arrived requests operations → AreCollected size arrived requests shown
+collected_as size arrived requests operations shown same collected = subst (λ (ops : List Operation). AreCollected size arrived requests ops) (sym same) collected
 
 -- as many bytes were given as there are requests
-pub many_given : (block size : ℕ) (arrived : List WholeRequest) (requests : List Request) (ops : List Operation) (given : List (List ℕ)) → AreCollected block size arrived requests ops → map length given ≡ map read_len ops → length given ≡ length requests
-many_given block size arrived requests ops given collected lens =
-    sym (length-map given length) ∙ ap length lens ∙ length-map ops read_len ∙ as_many block size arrived ops collected.served ∙ sym (length-map arrived (λ (a : WholeRequest). a.request)) ∙ ap length collected.same
+pub many_given : (size : ℕ) (arrived : List WholeRequest) (requests : List Request) (ops : List Operation) (given : List (List ℕ)) → AreCollected size arrived requests ops → map length given ≡ map read_len ops → length given ≡ length requests
+many_given size arrived requests ops given collected lens =
+    sym (length-map given length) ∙ ap length lens ∙ length-map ops read_len ∙ as_many size arrived ops collected.served ∙ sym (length-map arrived (λ (a : WholeRequest). a.request)) ∙ ap length collected.same

@@ -4,6 +4,7 @@ pub mod Saving
 pub mod Splices
 pub mod Edges
 pub mod ListSteps
+pub mod Accesses
 pub mod Texts
 pub mod WholeRequests
 pub mod Pieces

@@ -8,7 +8,7 @@ use Rattle.std.proofs.Math.Seq.{take-add}
 use Rattle.oram_nbd.specs.Beside.{Arrays}
 use Rattle.oram_nbd.specs.Bytes.{bytes_at, zeroes, IsBegun}
 use Rattle.oram_nbd.specs.Calls.{Saves, SavesAll, SavesPart, Reads}
-use Rattle.oram_nbd.specs.Operations.{AreBegun, IsPartOf, IsWhole, IsWithin, ReadsWhole, TouchSomeByte, all_done, all_given, done_by, given_by, read_len}
+use Rattle.oram_nbd.specs.Operations.{AreBegun, IsPartOf, IsWithin, TouchSomeByte, all_done, all_given, done_by, given_by, len_of, read_len}
 use Rattle.oram_nbd.specs.declared.faults.DiskFault.{DiskFault}
 use Rattle.oram_nbd.specs.declared.operations.Operation.{Operation}
 use Rattle.oram_nbd.specs.declared.operations.Operation.TheVariants.{Read, Write, Zero}
@@ -97,13 +97,6 @@ length_done size (Zero at count) bytes long within = length-written bytes at _ (
     length_zeroes : (n : ℕ) → length (zeroes n) ≡ n
     length_zeroes n = length-replicate n 0
 
--- the place of whole blocks, by the number of blocks before it
-pub whole_place : (b block at first : ℕ) → block ≡ b → 0 < block → at ≡ b * first → b * (at / block) ≡ at
-whole_place b block at first same some is =
-    let number : at / block ≡ first =
-    ap (λ (n : ℕ). at / n) same ∙ ap (λ (n : ℕ). n / b) (is ∙ mul_comm b first ∙ sym (add-zero (first * b))) ∙ div-mul-add first b 0 (subst (λ (n : ℕ). 0 < n) same some) in
-    ap (λ (n : ℕ). b * n) number ∙ sym is
-
 -- an operation that was done was done up to its last byte
 pub part_whole : (op : Operation) (bytes : List ℕ) → IsPartOf op bytes (done_by op bytes)
 part_whole (Read at count) bytes = refl
@@ -150,21 +143,17 @@ given_lens size (op ∷ ops) bytes long within =
     ap (λ (n : ℕ). n ∷ map length (all_given ops (done_by op bytes))) (read_long size op bytes long here)
     ∙ ap (λ (l : List ℕ). read_len op ∷ l) (given_lens size ops (done_by op bytes) (length_done size op bytes long here) (All-tail (IsWithin size) op ops within))
 
--- a read of whole blocks, by their numbers
-module _ (b block at count : ℕ) (op : Operation) (is : op ≡ Read at count) (whole : ReadsWhole b op) (same : block ≡ b) (some : 0 < block) where
-  whole_read : IsWhole b (Read at count)
-  whole_read = subst (ReadsWhole b) is whole
-
-  pub read_count : b * (count / block) ≡ read_len op
-  read_count = whole_place b block count whole_read.count same some whole_read.len ∙ ap read_len (sym is)
-
-  pub read_given : (bytes : List ℕ) → bytes_at bytes (b * (at / block)) (b * (count / block)) ≡ given_by op bytes
-  read_given bytes =
-      ap (λ (n : ℕ). bytes_at bytes n (b * (count / block))) (whole_place b block at whole_read.first same some whole_read.place)
-      ∙ ap (bytes_at bytes at) (whole_place b block count whole_read.count same some whole_read.len) ∙ ap (λ (x : Operation). given_by x bytes) (sym is)
-
-  pub read_done : (bytes : List ℕ) → bytes ≡ done_by op bytes
-  read_done bytes = ap (λ (x : Operation). done_by x bytes) (sym is)
+-- One operation, the first one, was carried out alone.
+pub front_alone : (ops : List Operation) (op : Operation) (bytes : List ℕ) (items : List (List ℕ)) (old new : Arrays (List ℕ)) → 0 < length ops → op ≡ get_or ops 0 op → items ≡ bytes ∷ []
+    → bytes ≡ given_by op old.held → new.held ≡ done_by op old.held → SavesAll (0 < len_of op) old new
+    → (items ≡ all_given (take (length items) ops) old.held) × (new.held ≡ all_done (take (length items) ops) old.held) × SavesAll (TouchSomeByte (take (length items) ops)) old new
+front_alone [] op bytes items old new some is one gave led kept = absurd (omega (arith, some))
+front_alone (x ∷ ops) op bytes items old new some is one gave led kept =
+    let front : take (length items) (x ∷ ops) ≡ op ∷ [] = ap (λ (k : ℕ). take k (x ∷ ops)) (ap length one) ∙ ap (λ (o : Operation). o ∷ []) (sym is) in (
+      one ∙ ap (λ (l : List ℕ). l ∷ []) gave ∙ ap (λ (l : List Operation). all_given l old.held) (sym front),
+      led ∙ ap (λ (l : List Operation). all_done l old.held) (sym front),
+      subst (λ (l : List Operation). SavesAll (TouchSomeByte l) old new) (sym front) (all_weaker kept (λ touched. elim touched [ inl here ↦ here | inr none ↦ absurd none ])),
+    )
 
 pub lies_if : (may_lie : Bool) → (may_lie ≡ false → ⊥) → may_lie ≡ true
 lies_if true not = refl

@@ -9,7 +9,7 @@ use Rattle.std.proofs.KnownBytes.{Appends-nil, Appends-trans, Consumes-nil, Cons
 use Rattle.oram_nbd.specs.declared.TheConstants.{LONGEST_NAME, LONGEST_OPTION, MOST_OPTIONS}
 use Rattle.oram_nbd.specs.Streams.{streams, Misses, Streams}
 use Rattle.oram_nbd.specs.Options.{option_head, option_text, IsHead}
-use Rattle.oram_nbd.specs.Handshake.{greeting, refused, Answers, ExportValue, IsFixed, IsNamed}
+use Rattle.oram_nbd.specs.Handshake.{greeting, refused, Answers, ExportValue, AreClientFlags, IsNamed}
 use Rattle.oram_nbd.specs.Negotiation.{answers_to_options, options_text, asking, AnsweredOption, HasAgreed, HasNegotiated, IsAnsweredOption, IsNoOption, IsUnfinishedOption, StopsAt, StopsChoosing}
 use Rattle.oram_nbd.specs.declared.faults.NbdFault.{NbdFault}
 use Rattle.oram_nbd.specs.declared.faults.NbdFault.TheVariants as fault
@@ -49,12 +49,12 @@ module _ (e : ExportValue) (zeroes : Bool) where
     pub all : List AnsweredOption
     pub many : length all ≡ count
     pub flags : ℕ
-    pub fixed : IsFixed flags zeroes
+    pub fixed : AreClientFlags flags zeroes
     pub each : All (λ x. IsAnsweredOption e zeroes x None) all
     pub read : Consumes from.unread now.unread (to_be_bytes w32 flags ++ options_text all)
     pub wrote : Appends from.written now.written (greeting ++ answers_to_options all)
 
-  pub greeted : (from now : Streams) (flags : ℕ) → IsFixed flags zeroes → Consumes from.unread now.unread (to_be_bytes w32 flags) → Appends from.written now.written greeting → Negotiated from 0 now
+  pub greeted : (from now : Streams) (flags : ℕ) → AreClientFlags flags zeroes → Consumes from.unread now.unread (to_be_bytes w32 flags) → Appends from.written now.written greeting → Negotiated from 0 now
   greeted from now flags fixed read wrote = record {
     all = [];
     many = refl;
@@ -136,7 +136,7 @@ module _ (e : ExportValue) (zeroes : Bool) where
   stopped_at_head from count now later fault.Magic s (part, none, came) =
       (zeroes, s.all, part, negotiated_read from count now later part s came, none)
   stopped_at_head from count now later fault.Write s h = absurd h
-  stopped_at_head from count now later fault.OldClient s h = absurd h
+  stopped_at_head from count now later fault.UnknownFlags s h = absurd h
   stopped_at_head from count now later fault.UnknownExport s h = absurd h
   stopped_at_head from count now later fault.TooManyOptions s h = absurd h
   stopped_at_head from count now later fault.OutOfMemory s h = absurd h
@@ -177,7 +177,7 @@ module _ (e : ExportValue) (zeroes : Bool) where
     (h, content, is, which, refl),
   )
   stopped_behind from count now mid later h fault.Magic s is head p = absurd p
-  stopped_behind from count now mid later h fault.OldClient s is head p = absurd p
+  stopped_behind from count now mid later h fault.UnknownFlags s is head p = absurd p
   stopped_behind from count now mid later h fault.TooManyOptions s is head p = absurd p
   stopped_behind from count now mid later h fault.Stopped s is head p = absurd p
 

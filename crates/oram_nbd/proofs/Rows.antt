@@ -5,7 +5,8 @@ use Rattle.oram_nbd.specs.Service.{after, given, refusal_of, replies_text, Answe
 use Rattle.oram_nbd.specs.Messages.{reply_text, request_text}
 use Rattle.oram_nbd.specs.Options.{option_text, wanted_text, Wants}
 use Rattle.oram_nbd.specs.Handshake.{described, export_text, greeting, list_text, refused}
-use Rattle.oram_nbd.specs.Connection.{preferred_of}
+use Rattle.oram_nbd.specs.Accesses.{calls_of, range, request_calls}
+use Rattle.oram_nbd.specs.Connection.{minimum_of, preferred_of}
 use Rattle.oram_nbd.specs.declared.faults.NbdError.TheVariants.{Invalid, NoSpace}
 use Rattle.oram_nbd.specs.declared.options.HandshakeOption.TheVariants as option
 use Rattle.oram_nbd.specs.declared.options.ReplyKind.TheVariants as kind
@@ -25,9 +26,9 @@ wanted_row : Wants (0 ∷ 0 ∷ 0 ∷ 1 ∷ 100 ∷ 0 ∷ 1 ∷ 0 ∷ 3 ∷ []) 
 wanted_row = record { count = 1; requested = 0 ∷ 3 ∷ []; few = omega arith; whole = refl; short = omega arith; text = refl }
 
 -- its answer: size and flags, sizes of requests, and ACK
-described_row : described 1048576 4096 option.Go
+described_row : described 1048576 4096 4096 option.Go
     ≡ (0 ∷ 3 ∷ 232 ∷ 137 ∷ 4 ∷ 85 ∷ 101 ∷ 169 ∷ 0 ∷ 0 ∷ 0 ∷ 7 ∷ 0 ∷ 0 ∷ 0 ∷ 3 ∷ 0 ∷ 0 ∷ 0 ∷ 12 ∷ 0 ∷ 0 ∷ 0 ∷ 0 ∷ 0 ∷ 0 ∷ 0 ∷ 16 ∷ 0 ∷ 0 ∷ 0 ∷ 109 ∷ [])
-    ++ (0 ∷ 3 ∷ 232 ∷ 137 ∷ 4 ∷ 85 ∷ 101 ∷ 169 ∷ 0 ∷ 0 ∷ 0 ∷ 7 ∷ 0 ∷ 0 ∷ 0 ∷ 3 ∷ 0 ∷ 0 ∷ 0 ∷ 14 ∷ 0 ∷ 3 ∷ 0 ∷ 0 ∷ 0 ∷ 1 ∷ 0 ∷ 0 ∷ 16 ∷ 0 ∷ 2 ∷ 0 ∷ 0 ∷ 0 ∷ [])
+    ++ (0 ∷ 3 ∷ 232 ∷ 137 ∷ 4 ∷ 85 ∷ 101 ∷ 169 ∷ 0 ∷ 0 ∷ 0 ∷ 7 ∷ 0 ∷ 0 ∷ 0 ∷ 3 ∷ 0 ∷ 0 ∷ 0 ∷ 14 ∷ 0 ∷ 3 ∷ 0 ∷ 0 ∷ 16 ∷ 0 ∷ 0 ∷ 0 ∷ 16 ∷ 0 ∷ 2 ∷ 0 ∷ 0 ∷ 0 ∷ [])
     ++ (0 ∷ 3 ∷ 232 ∷ 137 ∷ 4 ∷ 85 ∷ 101 ∷ 169 ∷ 0 ∷ 0 ∷ 0 ∷ 7 ∷ 0 ∷ 0 ∷ 0 ∷ 1 ∷ 0 ∷ 0 ∷ 0 ∷ 0 ∷ [])
 described_row = refl
 
@@ -43,12 +44,31 @@ list_row = refl
 export_row : export_text 4096 false ≡ 0 ∷ 0 ∷ 0 ∷ 0 ∷ 0 ∷ 0 ∷ 16 ∷ 0 ∷ 0 ∷ 109 ∷ []
 export_row = refl
 
+least_row : minimum_of 4096 ∷ minimum_of 16 ∷ minimum_of 131072 ∷ minimum_of 1000 ∷ [] ≡ 4096 ∷ 16 ∷ 1 ∷ 1 ∷ []
+unfolding ones
+least_row = refl
+
+-- Blocks of four bytes: a part of one block; a range over parts of two; one over three that ends with a block; whole blocks, before a
+-- part and after it. The calls are the same for a read, a write and zeroes, and a request of no bytes makes none of its own.
+part_row : calls_of 4 (range 1 2 ∷ []) ≡ (0 ∷ []) ∷ (0 ∷ []) ∷ []
+part_row = refl
+
+parts_row : calls_of 4 (range 3 2 ∷ range 5 7 ∷ []) ≡ (0 ∷ 1 ∷ []) ∷ (0 ∷ 1 ∷ []) ∷ (1 ∷ []) ∷ (1 ∷ 2 ∷ []) ∷ []
+parts_row = refl
+
+among_row : calls_of 4 (range 4 8 ∷ range 0 4 ∷ range 2 1 ∷ range 8 4 ∷ range 0 0 ∷ []) ≡ (1 ∷ 2 ∷ 0 ∷ []) ∷ (0 ∷ []) ∷ (0 ∷ []) ∷ (2 ∷ []) ∷ []
+among_row = refl
+
 best_row : preferred_of 512 ∷ preferred_of 16384 ∷ preferred_of 256 ∷ preferred_of 1000 ∷ [] ≡ 512 ∷ 16384 ∷ 4096 ∷ 4096 ∷ []
 unfolding ones
 best_row = refl
 
 request : Command → ℕ → ℕ → Request
 request command offset length = record { command = command; flags = 0; cookie = 258; offset = offset; length = length }
+
+kinds_row : request_calls 4 16 (request Write 1 14 ∷ request Trim 0 4 ∷ request Read 7 0 ∷ []) ≡ request_calls 4 16 (request WriteZeroes 1 14 ∷ request Flush 9 9 ∷ request Write 7 0 ∷ [])
+unfolding request
+kinds_row = refl
 
 request_row : request_text (request WriteZeroes 512 3) ≡ 37 ∷ 96 ∷ 149 ∷ 19 ∷ 0 ∷ 0 ∷ 0 ∷ 6 ∷ 0 ∷ 0 ∷ 0 ∷ 0 ∷ 0 ∷ 0 ∷ 1 ∷ 2 ∷ 0 ∷ 0 ∷ 0 ∷ 0 ∷ 0 ∷ 0 ∷ 2 ∷ 0 ∷ 0 ∷ 0 ∷ 0 ∷ 3 ∷ []
 unfolding request

@@ -26,7 +26,7 @@ module _ {D W E : Type 0} (kind : DeviceKind D W E) (size : ℕ) (new : D) where
       subst (λ (d : D). GoesOn kind.had kind.hears (HasArrays kind.holds kind.kept) old (λ may_lie before later. (later.held ≡ before.held) × (may_lie ≡ false → NeverFails [])) d) same
       (at_rest {had = kind.had} {hears = kind.hears} {holds = HasArrays kind.holds kind.kept} (λ may_lie world before h. (refl, λ honest. tt)))
   batches_joined (batch ∷ batches) old (mid, first, rest) =
-      joined_calls {hears = kind.hears} {holds = HasArrays kind.holds kind.kept} first (batches_joined batches mid rest)
+      joined_calls {hears = kind.hears} {holds = HasArrays kind.holds kind.kept} first.leads (batches_joined batches mid rest)
       (λ may_lie world before between later h one two.
       let others = flat_map (λ (batch : List AnsweredRequest). batch) batches in (
         service_join before.held between.held batch others later.held one.0 two.0,

@@ -1,5 +1,5 @@
 -- Requests that are carried out together.
-use Rattle.std.specs.Prelude.{◌≡◌, ◌⊎◌, ℕ, ◌*◌, ◌%◌, ◌<◌, ◌≤◌, ◌^◌, List, [], ◌∷◌, ◌++◌, All, Option, Some, None, length, map, take, drop}
+use Rattle.std.specs.Prelude.{◌≡◌, ◌⊎◌, ℕ, ◌*◌, ◌<◌, ◌^◌, List, [], ◌∷◌, ◌++◌, All, Option, Some, None, length, map}
 use Rattle.std.specs.List.{flat_map}
 use Rattle.std.specs.Io.KnownBytes.{Appends, Consumes}
 use Rattle.oram_nbd.specs.Beside.{GoesOn, HasArrays}
@@ -8,7 +8,8 @@ use Rattle.oram_nbd.specs.DeviceKind.{DeviceKind}
 use Rattle.oram_nbd.specs.Streams.{IsBegunText}
 use Rattle.oram_nbd.specs.Messages.{request_text, reply_text, SimpleReply}
 use Rattle.oram_nbd.specs.Messages.SimpleReply.{Done, Refused}
-use Rattle.oram_nbd.specs.Operations.{IsPartOf, IsWithin, ReadsWhole, done_by, given_by, len_of, read_len}
+use Rattle.oram_nbd.specs.Accesses.{range_of, touched_from}
+use Rattle.oram_nbd.specs.Operations.{IsPartOf, IsWithin, done_by, given_by, read_len}
 use Rattle.oram_nbd.specs.Service.{after, whole_request_of, whole_requests_text, given, given_len, refusal_of, replies_text, touched_len, AnsweredRequest, AreRequestsBegun, IsPartly, IsWholeRequest, SaysFailed, WholeRequest}
 use Rattle.oram_nbd.specs.Transmission.{HasServedRequests, IsCutOff, IsLast}
 use Rattle.oram_nbd.specs.declared.batches.Close.{Close}
@@ -27,37 +28,32 @@ pub record AreDiskSizes (block size : ℕ) : Type 0 where
   pub whole : block * blocks ≡ size
   pub bound : size < 2 ^ 63
 
--- the bytes that a request asks for, among those of the blocks over which its range lies
-abbrev pub requested_bytes : ℕ → Request → List ℕ → List ℕ
-requested_bytes block r bytes = take (given_len r.command r.length) (drop (r.offset % block) bytes)
-
--- The operation does what the request asks for, on a device of `size` bytes in blocks of `block` bytes.
-pub record DoesRequest (block size : ℕ) (a : WholeRequest) (op : Operation) : Type 0 where
-  pub reads : ReadsWhole block op
+-- The operation does what the request asks for, on a device of `size` bytes.
+pub record DoesRequest (size : ℕ) (a : WholeRequest) (op : Operation) : Type 0 where
   pub within : IsWithin size op
-  pub touches : touched_len a.request.command a.request.length ≤ len_of op
+  pub touches : range_of op ≡ touched_from a.request.offset (touched_len a.request.command a.request.length)
   pub does : (bytes : List ℕ) → done_by op bytes ≡ after a.request.command bytes a.request.offset a.request.length a.payload
   pub in_part : (old new : List ℕ) → IsPartOf op old new → IsPartly a.request.command old a.request.offset a.request.length a.payload new
-  pub gives : (bytes : List ℕ) → requested_bytes block a.request (given_by op bytes) ≡ given a.request.command bytes a.request.offset a.request.length
-  pub long : (bytes : List ℕ) → length bytes ≡ read_len op → length (requested_bytes block a.request bytes) ≡ given_len a.request.command a.request.length
+  pub gives : (bytes : List ℕ) → given_by op bytes ≡ given a.request.command bytes a.request.offset a.request.length
+  pub long : read_len op ≡ given_len a.request.command a.request.length
 
 -- If the request is refused, its operation does nothing. Otherwise it does what the request asks for.
-abbrev pub DoesIfAccepted : Option NbdError → ℕ → ℕ → WholeRequest → Operation → Type 0
-DoesIfAccepted (Some e) block size a op = op ≡ Read 0 0
-DoesIfAccepted None block size a op = DoesRequest block size a op
+abbrev pub DoesIfAccepted : Option NbdError → ℕ → WholeRequest → Operation → Type 0
+DoesIfAccepted (Some e) size a op = op ≡ Read 0 0
+DoesIfAccepted None size a op = DoesRequest size a op
 
 -- each request has its operation
-abbrev pub AreServedBy : ℕ → ℕ → List WholeRequest → List Operation → Type 0
-AreServedBy block size [] [] = Unit {0}
-AreServedBy block size [] (op ∷ ops) = ⊥
-AreServedBy block size (a ∷ arrived) [] = ⊥
-AreServedBy block size (a ∷ arrived) (op ∷ ops) = DoesIfAccepted (refusal_of size a.request) block size a op × AreServedBy block size arrived ops
+abbrev pub AreServedBy : ℕ → List WholeRequest → List Operation → Type 0
+AreServedBy size [] [] = Unit {0}
+AreServedBy size [] (op ∷ ops) = ⊥
+AreServedBy size (a ∷ arrived) [] = ⊥
+AreServedBy size (a ∷ arrived) (op ∷ ops) = DoesIfAccepted (refusal_of size a.request) size a op × AreServedBy size arrived ops
 
 -- the batch has these requests and operations for what the client sent
-pub record AreCollected (block size : ℕ) (arrived : List WholeRequest) (requests : List Request) (operations : List Operation) : Type 0 where
+pub record AreCollected (size : ℕ) (arrived : List WholeRequest) (requests : List Request) (operations : List Operation) : Type 0 where
   pub all : All IsWholeRequest arrived
   pub same : map (λ a. a.request) arrived ≡ requests
-  pub served : AreServedBy block size arrived operations
+  pub served : AreServedBy size arrived operations
 
 -- how a batch ends, by what was read after it
 abbrev pub EndsBy : Close → List ℕ → Option (List ℕ) → Type 0
@@ -80,10 +76,10 @@ pub record IsWithoutMemory (close : Close) (part : List ℕ) (new : Option (List
   pub left : LeftBy close rest new
 
 -- a batch was read
-pub record HasGathered (block size : ℕ) (requests : List Request) (operations : List Operation) (close : Close) (unread unread' : Option (List ℕ)) : Type 0 where
+pub record HasGathered (size : ℕ) (requests : List Request) (operations : List Operation) (close : Close) (unread unread' : Option (List ℕ)) : Type 0 where
   pub arrived : List WholeRequest
   pub part : List ℕ
-  pub collected : AreCollected block size arrived requests operations
+  pub collected : AreCollected size arrived requests operations
   pub read : Consumes unread unread' (whole_requests_text arrived ++ part)
   pub ends : EndsBy close part unread'
 
@@ -95,14 +91,14 @@ reply_if (Some e) reply = Refused e
 reply_if None reply = reply
 
 -- the reply to a request for which the device read this
-abbrev pub reply_of : ℕ → ℕ → Request → List ℕ → SimpleReply
-reply_of block size r bytes = reply_if (refusal_of size r) (Done (requested_bytes block r bytes))
+abbrev pub reply_of : ℕ → Request → List ℕ → SimpleReply
+reply_of size r bytes = reply_if (refusal_of size r) (Done bytes)
 
 -- what the client receives for requests for which the device read these bytes
-abbrev pub answers_text : ℕ → ℕ → List Request → List (List ℕ) → List ℕ
-answers_text block size [] given = []
-answers_text block size (r ∷ requests) [] = []
-answers_text block size (r ∷ requests) (bytes ∷ given) = reply_text r.cookie (reply_of block size r bytes) ++ answers_text block size requests given
+abbrev pub answers_text : ℕ → List Request → List (List ℕ) → List ℕ
+answers_text size [] given = []
+answers_text size (r ∷ requests) [] = []
+answers_text size (r ∷ requests) (bytes ∷ given) = reply_text r.cookie (reply_of size r bytes) ++ answers_text size requests given
 
 -- what the client receives if all requests are refused: each with its own error, or with this one if it has none
 abbrev pub refusals_text : ℕ → List Request → NbdError → List ℕ

@@ -7,7 +7,7 @@ use Rattle.oram_nbd.specs.Negotiation.{HasAgreed, StopsNegotiating}
 use Rattle.oram_nbd.specs.Streams.{Streams}
 use Rattle.oram_nbd.specs.Transmission.{HasTransmitted, StopsServing}
 use Rattle.oram_nbd.specs.declared.TheConstants.{LONGEST_PAYLOAD}
-use Rattle.oram_nbd.specs.declared.connection.TheConstants.{LEAST_PREFERRED, DEFAULT_PREFERRED}
+use Rattle.oram_nbd.specs.declared.connection.TheConstants.{LEAST_PREFERRED, DEFAULT_PREFERRED, GREATEST_MINIMUM}
 use Rattle.oram_nbd.specs.declared.faults.NbdFault.{NbdFault}
 use Rattle.oram_nbd.specs.declared.handshake.Agreement.TheVariants.{Transmission, Gone}
 
@@ -15,11 +15,15 @@ use Rattle.oram_nbd.specs.declared.handshake.Agreement.TheVariants.{Transmission
 abbrev pub preferred_of : ℕ → ℕ
 preferred_of len = if is_power_of_two len && nat_le LEAST_PREFERRED len && nat_le len LONGEST_PAYLOAD then len else DEFAULT_PREFERRED
 
+-- the least number of bytes of a request: that of a block, if the protocol has it as a minimum
+abbrev pub minimum_of : ℕ → ℕ
+minimum_of len = if is_power_of_two len && nat_le len GREATEST_MINIMUM then len else 1
+
 -- For a device of this kind, whose export has the name `name`. It goes from one state to another beside a world.
 module _ {D W E : Type 0} (kind : DeviceKind D W E) (old new : D) (name : List ℕ) where
   -- what the server says about the device
   abbrev pub its_export : ExportValue
-  its_export = export_value name (kind.size old) (preferred_of (kind.block_len old))
+  its_export = export_value name (kind.size old) (minimum_of (kind.block_len old)) (preferred_of (kind.block_len old))
 
   -- The client left in the handshake; or requests followed, and `count` of them were answered.
   abbrev pub HasConnected : ℕ → Streams → Streams → Type 0

@@ -10,23 +10,26 @@ use Rattle.oram_nbd.specs.declared.options.HandshakeOption.TheVariants as option
 use Rattle.oram_nbd.specs.declared.options.ReplyKind.{ReplyKind}
 use Rattle.oram_nbd.specs.declared.options.ReplyKind.TheVariants as kind
 
--- what a server says about its export: its name, its number of bytes, and the preferred number of bytes of a request
+-- what a server says about its export: its name, its number of bytes, and the least and the preferred number of bytes of a
+-- request
 pub record ExportValue : Type 0 where
   pub name : List ℕ
   pub size : ℕ
+  pub minimum : ℕ
   pub preferred : ℕ
 
-abbrev pub export_value : List ℕ → ℕ → ℕ → ExportValue
-export_value name size preferred = record { name = name; size = size; preferred = preferred }
+abbrev pub export_value : List ℕ → ℕ → ℕ → ℕ → ExportValue
+export_value name size minimum preferred = record { name = name; size = size; minimum = minimum; preferred = preferred }
 
 -- the letters of a server, and its flags: it speaks the fixed newstyle, and supports clients that want no zeroes
 abbrev pub greeting : List ℕ
 greeting = to_be_bytes w64 0x4E42444D41474943 ++ to_be_bytes w64 0x49484156454F5054 ++ (0 ∷ 3 ∷ [])
 
--- the flags of a client that is served: the fixed newstyle, with or without zeroes after the answer to EXPORT_NAME
-abbrev pub IsFixed : ℕ → Bool → Type 0
-IsFixed flags true = flags ≡ 1
-IsFixed flags false = flags ≡ 3
+-- The flags of a client that is served: bit 0 says that it speaks the fixed newstyle, and bit 1 that it wants no zeroes after the
+-- answer to EXPORT_NAME. A client may leave out either (NBD's proto.md, "Handshake phase").
+abbrev pub AreClientFlags : ℕ → Bool → Type 0
+AreClientFlags flags true = (flags ≡ 0) ⊎ (flags ≡ 1)
+AreClientFlags flags false = (flags ≡ 2) ⊎ (flags ≡ 3)
 
 -- the flags of the export: it has flags, and serves FLUSH, FUA, TRIM and WRITE_ZEROES
 abbrev pub export_flags : List ℕ
@@ -35,9 +38,9 @@ export_flags = 0 ∷ 109 ∷ []
 abbrev pub size_text : ℕ → List ℕ
 size_text size = (0 ∷ 0 ∷ []) ++ to_be_bytes w64 size ++ export_flags
 
--- the sizes of requests: at least 1 byte, preferably `preferred` bytes, and at most as many as one may have
-abbrev pub block_text : ℕ → List ℕ
-block_text preferred = (0 ∷ 3 ∷ 0 ∷ 0 ∷ 0 ∷ 1 ∷ []) ++ to_be_bytes w32 preferred ++ to_be_bytes w32 LONGEST_PAYLOAD
+-- the sizes of requests: at least `minimum` bytes, preferably `preferred` bytes, and at most as many as one may have
+abbrev pub block_text : ℕ → ℕ → List ℕ
+block_text minimum preferred = (0 ∷ 3 ∷ []) ++ to_be_bytes w32 minimum ++ to_be_bytes w32 preferred ++ to_be_bytes w32 LONGEST_PAYLOAD
 
 -- the answer to EXPORT_NAME
 abbrev pub export_text : ℕ → Bool → List ℕ
@@ -50,13 +53,13 @@ refused o k = option_reply o k []
 abbrev pub IsNamed : List ℕ → List ℕ → Type 0
 IsNamed name wanted = (wanted ≡ []) ⊎ (wanted ≡ name)
 
--- the description of an export of `size` bytes, for requests preferably of `preferred` bytes
-abbrev pub described : ℕ → ℕ → HandshakeOption → List ℕ
-described size preferred o = option_reply o kind.Info (size_text size) ++ option_reply o kind.Info (block_text preferred) ++ option_reply o kind.Ack []
+-- the description of an export of `size` bytes, for requests of at least `minimum` bytes and preferably of `preferred` bytes
+abbrev pub described : ℕ → ℕ → ℕ → HandshakeOption → List ℕ
+described size minimum preferred o = option_reply o kind.Info (size_text size) ++ option_reply o kind.Info (block_text minimum preferred) ++ option_reply o kind.Ack []
 
 -- the answer to INFO and GO, and whether they ask for the export
 abbrev pub Describes : ExportValue → HandshakeOption → List ℕ → List ℕ → Bool → Type 0
-Describes e o content text true = (wanted : List ℕ) × Wants content wanted × IsNamed e.name wanted × (text ≡ described e.size e.preferred o)
+Describes e o content text true = (wanted : List ℕ) × Wants content wanted × IsNamed e.name wanted × (text ≡ described e.size e.minimum e.preferred o)
 Describes e o content text false =
     (IsMalformed content × (text ≡ refused o kind.Invalid))
     ⊎ ((wanted : List ℕ) × Wants content wanted × (IsNamed e.name wanted → ⊥) × (text ≡ refused o kind.Unknown))

@@ -1,4 +1,5 @@
 pub mod Bytes
+pub mod Accesses
 pub mod Beside
 pub mod Calls
 pub mod DeviceKind

@@ -5,10 +5,10 @@ use Rattle.std.specs.List.{flat_map}
 use Rattle.std.specs.Io.KnownBytes.{Appends, Consumes, IsAtEnd}
 use Rattle.oram_nbd.specs.Streams.{ComesShort, IsBegunText, Streams}
 use Rattle.oram_nbd.specs.Options.{option_code, option_head, option_text, IsHead, IsOption}
-use Rattle.oram_nbd.specs.Handshake.{greeting, refused, Answers, ExportValue, IsFixed, IsNamed}
+use Rattle.oram_nbd.specs.Handshake.{greeting, refused, Answers, ExportValue, AreClientFlags, IsNamed}
 use Rattle.oram_nbd.specs.declared.TheConstants.{LONGEST_OPTION, MOST_OPTIONS}
 use Rattle.oram_nbd.specs.declared.faults.NbdFault.{NbdFault}
-use Rattle.oram_nbd.specs.declared.faults.NbdFault.TheVariants.{Read, Truncated, Magic, Write, OldClient, UnknownExport, TooManyOptions, OutOfMemory, Stopped}
+use Rattle.oram_nbd.specs.declared.faults.NbdFault.TheVariants.{Read, Truncated, Magic, Write, UnknownFlags, UnknownExport, TooManyOptions, OutOfMemory, Stopped}
 use Rattle.oram_nbd.specs.declared.handshake.Agreement.{Agreement}
 use Rattle.oram_nbd.specs.declared.handshake.Agreement.TheVariants.{Gone}
 use Rattle.oram_nbd.specs.declared.options.HandshakeOption.{HandshakeOption}
@@ -56,8 +56,8 @@ abbrev pub StopsGreeting : NbdFault → Streams → Streams → Type 0
 StopsGreeting Read before after = ComesShort 0 4 Read before.unread after.unread × Appends before.written after.written greeting
 StopsGreeting Truncated before after = ComesShort 0 4 Truncated before.unread after.unread × Appends before.written after.written greeting
 StopsGreeting Write before after = (after.unread ≡ before.unread) × IsBegunText before.written after.written greeting
-StopsGreeting OldClient before after =
-    (flags : ℕ) × (flags < 2 ^ 32) × ((zeroes : Bool) → IsFixed flags zeroes → ⊥)
+StopsGreeting UnknownFlags before after =
+    (flags : ℕ) × (flags < 2 ^ 32) × ((zeroes : Bool) → AreClientFlags flags zeroes → ⊥)
     × Consumes before.unread after.unread (to_be_bytes w32 flags) × Appends before.written after.written greeting
 StopsGreeting Magic before after = ⊥
 StopsGreeting UnknownExport before after = ⊥
@@ -94,7 +94,7 @@ module _ (e : ExportValue) where
   StopsAt zeroes h OutOfMemory before after =
       (content : List ℕ) × IsNoneOrAll h.length content × Consumes before.unread after.unread content × Appends before.written after.written []
   StopsAt zeroes h Magic before after = ⊥
-  StopsAt zeroes h OldClient before after = ⊥
+  StopsAt zeroes h UnknownFlags before after = ⊥
   StopsAt zeroes h TooManyOptions before after = ⊥
   StopsAt zeroes h Stopped before after = ⊥
 
@@ -102,7 +102,7 @@ module _ (e : ExportValue) where
   -- `more` was written.
   pub record HasNegotiated (zeroes : Bool) (xs : List AnsweredOption) (part more : List ℕ) (before after : Streams) : Type 0 where
     pub flags : ℕ
-    pub fixed : IsFixed flags zeroes
+    pub fixed : AreClientFlags flags zeroes
     pub each : All (λ x. IsAnsweredOption zeroes x None) xs
     pub read : Consumes before.unread after.unread (to_be_bytes w32 flags ++ options_text xs ++ part)
     pub wrote : Appends before.written after.written (greeting ++ answers_to_options xs ++ more)
@@ -133,7 +133,7 @@ module _ (e : ExportValue) where
       (zeroes : Bool) × (xs : List AnsweredOption) × HasNegotiated zeroes xs [] [] before after × (length xs ≡ MOST_OPTIONS)
   StopsChoosing OutOfMemory before after =
       (zeroes : Bool) × (xs : List AnsweredOption) × (part : List ℕ) × HasNegotiated zeroes xs part [] before after × IsUnanswered part
-  StopsChoosing OldClient before after = ⊥
+  StopsChoosing UnknownFlags before after = ⊥
   StopsChoosing Stopped before after = ⊥
 
   abbrev pub StopsNegotiating : NbdFault → Streams → Streams → Type 0

@@ -71,8 +71,6 @@ pub record IsWhole (block : ℕ) (op : Operation) : Type 0 where
 abbrev pub IsWithin : ℕ → Operation → Type 0
 IsWithin size op = place_of op + len_of op ≤ size
 
--- what is read is whole blocks
-abbrev pub ReadsWhole : ℕ → Operation → Type 0
-ReadsWhole block (Read at count) = IsWhole block (Read at count)
-ReadsWhole block (Write at payload) = Unit {0}
-ReadsWhole block (Zero at count) = Unit {0}
+-- An operation of no bytes is at 0.
+abbrev pub IsPlaced : Operation → Type 0
+IsPlaced op = len_of op ≡ 0 → place_of op ≡ 0

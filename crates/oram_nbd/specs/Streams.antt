@@ -2,7 +2,7 @@
 use Rattle.std.specs.Prelude.{◌≡◌, ℕ, ◌<◌, ◌≤◌, List, length, take, Option}
 use Rattle.std.specs.Io.KnownBytes.{Appends, Consumes, IsAtEnd}
 use Rattle.oram_nbd.specs.declared.faults.NbdFault.{NbdFault}
-use Rattle.oram_nbd.specs.declared.faults.NbdFault.TheVariants.{Read, Truncated, Magic, Write, OldClient, UnknownExport, TooManyOptions, OutOfMemory, Stopped}
+use Rattle.oram_nbd.specs.declared.faults.NbdFault.TheVariants.{Read, Truncated, Magic, Write, UnknownFlags, UnknownExport, TooManyOptions, OutOfMemory, Stopped}
 
 -- the two streams of a connection, if their bytes are known
 pub record Streams : Type 0 where
@@ -22,7 +22,7 @@ ComesShort least n Read old new = (part : List ℕ) × (length part < n) × Cons
 ComesShort least n Truncated old new = (part : List ℕ) × (length part < n) × Consumes old new part × (least ≤ length part) × IsAtEnd new
 ComesShort least n Magic old new = ⊥
 ComesShort least n Write old new = ⊥
-ComesShort least n OldClient old new = ⊥
+ComesShort least n UnknownFlags old new = ⊥
 ComesShort least n UnknownExport old new = ⊥
 ComesShort least n TooManyOptions old new = ⊥
 ComesShort least n OutOfMemory old new = ⊥
@@ -38,7 +38,7 @@ Misses unfinished none Read old new = (part : List ℕ) × unfinished part × Co
 Misses unfinished none Truncated old new = (part : List ℕ) × unfinished part × Consumes old new part × (0 < length part) × IsAtEnd new
 Misses unfinished none Magic old new = (part : List ℕ) × none part × Consumes old new part
 Misses unfinished none Write old new = ⊥
-Misses unfinished none OldClient old new = ⊥
+Misses unfinished none UnknownFlags old new = ⊥
 Misses unfinished none UnknownExport old new = ⊥
 Misses unfinished none TooManyOptions old new = ⊥
 Misses unfinished none OutOfMemory old new = ⊥

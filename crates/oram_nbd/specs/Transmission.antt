@@ -2,6 +2,7 @@
 use Rattle.std.specs.Prelude.{◌≡◌, ◌⊎◌, ℕ, ◌<◌, false, List, [], ◌∷◌, ◌++◌, length, map, take, Option, None, All}
 use Rattle.std.specs.List.{FoldsTo, flat_map}
 use Rattle.std.specs.Io.KnownBytes.{Appends, Consumes, IsAtEnd}
+use Rattle.oram_nbd.specs.Accesses.{AsksFor, request_calls}
 use Rattle.oram_nbd.specs.Beside.{GoesOn, Arrays, HasArrays}
 use Rattle.oram_nbd.specs.Calls.{SavesAll, SavesPart}
 use Rattle.oram_nbd.specs.DeviceKind.{DeviceKind}
@@ -9,7 +10,7 @@ use Rattle.oram_nbd.specs.Messages.{payload_len, request_text, IsRequest}
 use Rattle.oram_nbd.specs.Service.{array_after_requests, whole_request_of, whole_requests_text, refusal_of, requests_text, replies_text, AnsweredRequest, AreRequestsBegun, FailsForGood, IsRefusal, IsReplied, IsService, IsWholeRequest, NeverFails, RequestsTouchSomeByte, SaysFault, WholeRequest}
 use Rattle.oram_nbd.specs.Streams.{Streams}
 use Rattle.oram_nbd.specs.declared.faults.NbdFault.{NbdFault}
-use Rattle.oram_nbd.specs.declared.faults.NbdFault.TheVariants.{Read, Truncated, Magic, Write, OldClient, UnknownExport, TooManyOptions, OutOfMemory, Stopped}
+use Rattle.oram_nbd.specs.declared.faults.NbdFault.TheVariants.{Read, Truncated, Magic, Write, UnknownFlags, UnknownExport, TooManyOptions, OutOfMemory, Stopped}
 use Rattle.oram_nbd.specs.declared.requests.Command.TheVariants.{Disconnect}
 use Rattle.oram_nbd.specs.declared.requests.Request.{Request}
 
@@ -34,7 +35,7 @@ IsCutOff Read part new = IsUnfinished part
 IsCutOff Truncated part new = IsUnfinished part × (0 < length part) × IsAtEnd new
 IsCutOff Magic part new = IsNoRequest part
 IsCutOff Write part new = ⊥
-IsCutOff OldClient part new = ⊥
+IsCutOff UnknownFlags part new = ⊥
 IsCutOff UnknownExport part new = ⊥
 IsCutOff TooManyOptions part new = ⊥
 IsCutOff OutOfMemory part new = ⊥
@@ -61,10 +62,12 @@ module _ {D W E : Type 0} (kind : DeviceKind D W E) (size : ℕ) where
       × (((new ≡ old) × (later ≡ before)) ⊎ (SaysFault batch × SavesPart (AreRequestsBegun (map whole_request_of batch)) before later)))
 
   -- A batch of requests was served. From each array that was held, they lead to one that is held. If the world doesn't lie,
-  -- no reply says that the device failed.
-  abbrev pub ServesBatch : D → List AnsweredRequest → D → Type 0
-  ServesBatch old batch new = GoesOn kind.had kind.hears (HasArrays kind.holds kind.kept) old
-      (λ may_lie before later. IsService before.held batch later.held × (may_lie ≡ false → NeverFails batch) × SavesBatch old batch new before later) new
+  -- no reply says that the device failed. Which blocks the device was asked for, call by call, follows from where the ranges of
+  -- the requests lie; or all of them are refused.
+  pub record ServesBatch (old : D) (batch : List AnsweredRequest) (new : D) : Type 0 where
+    pub leads : GoesOn kind.had kind.hears (HasArrays kind.holds kind.kept) old
+        (λ may_lie before later. IsService before.held batch later.held × (may_lie ≡ false → NeverFails batch) × SavesBatch old batch new before later) new
+    pub asks : AsksFor kind.asked old (request_calls (kind.block_len old) size (map (λ a. a.request) (map whole_request_of batch))) new ⊎ All (λ a. IsRefusal a.reply) batch
 
   -- These requests were served, in batches, one after the other.
   pub record HasServedRequests (old new : D) (answered : List AnsweredRequest) : Type 0 where

@@ -10,7 +10,7 @@ use crate::arrivals::{Arrived, has_request};
 use crate::disk_sizes::DiskSizes;
 use crate::faults::NbdFault;
 use crate::operations::Operation;
-use crate::ranges::Cover;
+use crate::ranges::touched_blocks;
 use crate::request_reader::{next_request, read_payload};
 use crate::requests::{Command, Request};
 use crate::service::refusal;
@@ -18,7 +18,7 @@ use oram_bytes::Bytes;
 use std::alloc::Global;
 use std::io::Read;
 
-/// The most requests of a batch. A batch is also full once the ranges of its operations add up to this many blocks.
+/// The most requests of a batch. A batch is also full once its operations touch this many blocks.
 const MOST: u64 = 64;
 
 /// Why a batch takes no further request.
@@ -49,25 +49,23 @@ impl From<NbdFault> for Close {
 pub(crate) struct Batch {
     pub(crate) requests: Vec<Request>,
     pub(crate) operations: Vec<Operation>,
-    /// The sum of the lengths of the operations' ranges, in bytes.
+    /// The sum of the numbers of blocks that the operations touch.
     weight: u64,
 }
 
-/// Returns the operation of a request that isn't refused. A READ reads every block that its range touches.
-fn operation_of(sizes: DiskSizes, request: &Request, payload: Vec<u8>) -> Operation
-    requires sizes { AreDiskSizes sizes.block sizes.size }
-    requires fits { refusal_of sizes.size request.now ≡ None }
-    requires payload { length payload.items ≡ payload_len request.now.command request.now.length }
-    ensures { let a : WholeRequest = record { request = request.now; payload = payload.items } in DoesRequest sizes.block sizes.size a result }
+/// Returns the operation of a request that isn't refused. A request that touches no byte has an operation that does nothing.
+fn operation_of(request: &Request, payload: Vec<u8>) -> Operation
+    requires { length payload.items ≡ payload_len request.now.command request.now.length }
+    ensures { let a : WholeRequest = record { request = request.now; payload = payload.items } in (size : ℕ) → refusal_of size request.now ≡ None → DoesRequest size a result }
 {
+    if request.length == 0 {
+        return Operation::Read { at: 0, count: 0 };
+    }
     match request.command {
-        Command::Read if request.length > 0 => {
-            let cover = Cover::over(sizes.block, request.offset, u64::from(request.length));
-            Operation::Read {
-                at: sizes.block * cover.first,
-                count: sizes.block * cover.count,
-            }
-        }
+        Command::Read => Operation::Read {
+            at: request.offset,
+            count: u64::from(request.length),
+        },
         Command::Write => Operation::Write {
             at: request.offset,
             payload: Bytes::from_vec(payload),
@@ -94,11 +92,12 @@ impl Batch {
     }
 
     /// Appends a request and its operation. Returns whether there was memory for both; if not, the batch is as it was.
-    fn push(&mut self, request: Request, operation: Operation) -> bool
+    fn push(&mut self, block: u64, request: Request, operation: Operation) -> bool
+        requires { 0 < block }
         ensures yes { result ≡ true → (self.new.requests.items ≡ self.old.requests.items ++ request ∷ []) × (self.new.operations.items ≡ self.old.operations.items ++ operation ∷ []) }
         ensures no { result ≡ false → (self.new.requests.items ≡ self.old.requests.items) × (self.new.operations.items ≡ self.old.operations.items) }
     {
-        let weight = operation.len();
+        let weight = touched_blocks(block, &operation);
         if self.requests.push(request).is_err() {
             return false;
         }
@@ -122,16 +121,16 @@ impl Batch {
         requires payload { IfSome payload (λ p. length p.items ≡ payload_len request.command request.length) }
         ensures ok { (text : List ℕ) → IfSome payload (λ p. p.items ≡ text) → OnOk result ((self.new.requests.items ≡ self.old.requests.items ++ request ∷ [])
             × (op : Operation) × (self.new.operations.items ≡ self.old.operations.items ++ op ∷ [])
-            × (let a : WholeRequest = record { request = request; payload = text } in DoesIfAccepted (refusal_of sizes.size request) sizes.block sizes.size a op)) }
+            × (let a : WholeRequest = record { request = request; payload = text } in DoesIfAccepted (refusal_of sizes.size request) sizes.size a op)) }
         ensures err { IfErr result (λ close. close ≡ Close.NoRoom request) }
         ensures same { OnErr result ((self.new.requests.items ≡ self.old.requests.items) × (self.new.operations.items ≡ self.old.operations.items)) }
     {
         let operation = match (refusal(&request, sizes.size), payload) {
             (Some(_), _) => Operation::Read { at: 0, count: 0 },
-            (None, Some(payload)) => operation_of(sizes, &request, payload),
+            (None, Some(payload)) => operation_of(&request, payload),
             (None, None) => return Err(Close::NoRoom(request)),
         };
-        if self.push(request, operation) {
+        if self.push(sizes.block, request, operation) {
             Ok(())
         } else {
             Err(Close::NoRoom(request))
@@ -148,7 +147,7 @@ impl Batch {
         requires { AreDiskSizes sizes.block sizes.size }
         ensures ok { OnOk result ((a : WholeRequest) × IsWholeRequest a × Consumes (R.remaining reader.old) (R.remaining reader.new) (request_text a.request ++ a.payload)
             × (self.new.requests.items ≡ self.old.requests.items ++ a.request ∷ [])
-            × ((op : Operation) × (self.new.operations.items ≡ self.old.operations.items ++ op ∷ []) × DoesIfAccepted (refusal_of sizes.size a.request) sizes.block sizes.size a op)) }
+            × ((op : Operation) × (self.new.operations.items ≡ self.old.operations.items ++ op ∷ []) × DoesIfAccepted (refusal_of sizes.size a.request) sizes.size a op)) }
         ensures err { IfErr result (λ close. (part : List ℕ) × Consumes (R.remaining reader.old) (R.remaining reader.new) part × EndsBy close part (R.remaining reader.new)) }
         ensures same { OnErr result ((self.new.requests.items ≡ self.old.requests.items) × (self.new.operations.items ≡ self.old.operations.items)) }
     {
@@ -162,9 +161,10 @@ impl Batch {
         self.add(sizes, request, payload)
     }
 
-    /// Returns whether the operations' ranges add up to 64 blocks or more.
-    fn is_heavy(&self, sizes: DiskSizes) -> bool {
-        self.weight >= sizes.block.saturating_mul(MOST)
+    /// Returns whether the operations touch 64 blocks or more. It counts the blocks in the same way for a read, a write and
+    /// zeroes, so which requests go together doesn't show what they do.
+    fn is_heavy(&self) -> bool {
+        self.weight >= MOST
     }
 }
 
@@ -177,7 +177,7 @@ pub(crate) fn gather<R: Read + Arrived>(
 ) -> (Batch, Close)
     requires { AreDiskSizes sizes.block sizes.size }
     ensures few { length result.0.requests.items ≤ 64 }
-    ensures gathered { HasGathered sizes.block sizes.size result.0.requests.items result.0.operations.items result.1 (R.remaining reader.old) (R.remaining reader.new) }
+    ensures gathered { HasGathered sizes.size result.0.requests.items result.0.operations.items result.1 (R.remaining reader.old) (R.remaining reader.new) }
 {
     let mut batch = Batch::new(alloc);
     for _number in 0..MOST {
@@ -185,7 +185,7 @@ pub(crate) fn gather<R: Read + Arrived>(
             Ok(()) => {}
             Err(close) => return (batch, close),
         }
-        if batch.is_heavy(sizes) || !has_request(reader.arrived()) {
+        if batch.is_heavy() || !has_request(reader.arrived()) {
             return (batch, Close::Waits);
         }
     }

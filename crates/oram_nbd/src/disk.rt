@@ -1,6 +1,7 @@
 //! A device of whole blocks.
 
-ghost use Rattle.std.specs.Prelude.{◌≡◌, ℕ, Bool, false, List, ◌*◌, ◌<◌, ◌^◌, ◌↔◌, All, length, map, IfOk, OnOk, IsTrue, MatchResult};
+ghost use Rattle.std.specs.Prelude.{◌≡◌, ℕ, Bool, false, List, ◌*◌, ◌<◌, ◌^◌, ◌↔◌, All, length, map, IfOk, OnOk, IsErrOf, IsTrue, MatchResult};
+ghost use Rattle.oram_nbd.specs.Accesses.{blocks_of};
 ghost use Rattle.oram_nbd.specs.Beside.{GoesOn, HasArrays};
 ghost use Rattle.oram_nbd.specs.Calls.{FailsByLies, IsCall, Saves};
 ghost use Rattle.oram_nbd.specs.Operations.{AreBegun, IsWhole, IsWithin, TouchSomeByte, all_done, all_given, read_len};
@@ -27,6 +28,10 @@ pub trait BlockDevice {
 
     /// What passes between the device and the world.
     ghost Event: { Type 0 };
+
+    /// A call of the device from one state to another has made accesses to these blocks, by their numbers, in this order. It
+    /// has made no others.
+    ghost asked: { Self → List ℕ → Self → Type 0 };
 
     /// An event leads the world from one state to another. The `Bool` says whether the world may lie.
     ghost hears: { Bool → World → Event → World → Type 0 };
@@ -79,6 +84,11 @@ pub trait BlockDevice {
             (λ given. (given.items ≡ all_given operations.now old.held) × (new.held ≡ all_done operations.now old.held))
             (λ _. AreBegun operations.now old.held new.held) × FailsByLies result may_lie
             × Saves result (TouchSomeByte operations.now) (AreBegun operations.now) old new) self.new }
+        // An access to each block of each operation, in order. Which accesses these are doesn't depend on what the operations
+        // are, nor on any byte.
+        ensures asks { OnOk result (asked self.old (blocks_of (block_len self.old) operations.now) self.new) }
         ensures refused { OnOk result (failed self.old → ⊥) }
+        // A device that has failed says so, whatever else it lacks.
+        ensures told { failed self.old → IsErrOf result DiskFault.Failed }
         ensures call { IsCall block_len size failed (stops self.old self.new) self.old result self.new };
 }

@@ -68,8 +68,8 @@ pub enum NbdFault {
     Truncated,
     #[error("a message doesn't begin as it has to")]
     Magic,
-    #[error("the client doesn't speak the fixed newstyle")]
-    OldClient,
+    #[error("the client sets a flag in the handshake that wasn't offered")]
+    UnknownFlags,
     #[error("the client asks for an export that isn't there")]
     UnknownExport,
     #[error("the client takes too many options")]

@@ -56,6 +56,9 @@ pub struct Export<'a> {
     pub name: &'a [u8],
     /// The size of the export, in bytes.
     pub size: u64,
+    /// The least number of bytes of a request, to a multiple of which its offset and its length should be: a power of two up to
+    /// 64 KiB. Requests for other ranges are served too.
+    pub minimum: u32,
     /// The preferred number of bytes of a request: a power of two from 512 to 32 MiB, because some clients leave if it
     /// is any other number.
     pub preferred: u32,
@@ -136,10 +139,11 @@ impl Export<'_> {
 
     /// Returns the least, the preferred and the greatest length of a request.
     fn block_info(&self, alloc: Global) -> Result<Vec<u8>, AllocError>
-        ensures { IfOk result (λ v. v.items ≡ block_text self.now.preferred) }
+        ensures { IfOk result (λ v. v.items ≡ block_text self.now.minimum self.now.preferred) }
     {
         let mut text = Vec::new(alloc);
-        text.extend_from_slice(&[0, 3, 0, 0, 0, 1])?;
+        text.extend_from_slice(&[0, 3])?;
+        text.extend_from_slice(&self.minimum.to_be_bytes())?;
         text.extend_from_slice(&self.preferred.to_be_bytes())?;
         text.extend_from_slice(&LONGEST_PAYLOAD.to_be_bytes())?;
         Ok(text)
@@ -174,7 +178,7 @@ impl Export<'_> {
 
     /// Returns everything that INFO and GO report about the export.
     fn described(&self, alloc: Global, option: HandshakeOption) -> Result<Vec<u8>, AllocError>
-        ensures { IfOk result (λ v. v.items ≡ described self.now.size self.now.preferred option) }
+        ensures { IfOk result (λ v. v.items ≡ described self.now.size self.now.minimum self.now.preferred option) }
     {
         let size = self.size_info(alloc)?;
         let block = self.block_info(alloc)?;
@@ -192,7 +196,7 @@ impl Export<'_> {
         option: HandshakeOption,
         content: &[u8],
     ) -> Result<(Vec<u8>, bool), AllocError>
-        ensures { IfOk result (λ p. Describes (export_value self.now.name.now self.now.size self.now.preferred) option content.now p.0.items p.1) }
+        ensures { IfOk result (λ p. Describes (export_value self.now.name.now self.now.size self.now.minimum self.now.preferred) option content.now p.0.items p.1) }
     {
         let Some(name) = wanted_name(content) else {
             let text = bare_reply(alloc, option, ReplyKind::Invalid)?;
@@ -217,7 +221,7 @@ impl Export<'_> {
         requires { length self.now.name.now ≤ LONGEST_NAME }
         ensures { IfOk result (λ answer. MatchOption answer
             ((option ≡ HandshakeOption.ExportName) × (IsNamed self.now.name.now content.now → ⊥))
-            (λ a. Answers (export_value self.now.name.now self.now.size self.now.preferred) zeroes option content.now a.text.items a.ends)) }
+            (λ a. Answers (export_value self.now.name.now self.now.size self.now.minimum self.now.preferred) zeroes option content.now a.text.items a.ends)) }
     {
         match option {
             HandshakeOption::ExportName => {

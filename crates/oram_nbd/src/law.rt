@@ -8,5 +8,5 @@ use crate::disk::BlockDevice;
 /// replies are those of an array. So those of the whole connection are: all of its requests, one after the other, lead from the
 /// array that the device held at first to the one that it holds at last.
 pub fn connections_serve_arrays<D: BlockDevice>()
-    ensures { ConnectionsServeArrays (device_kind D.block_len D.size D.failed D.had D.hears D.holds D.kept) }
+    ensures { ConnectionsServeArrays (device_kind D.block_len D.size D.failed D.asked D.had D.hears D.holds D.kept) }
 {}

@@ -90,6 +90,9 @@ impl BlockDevice for MemDisk {
 
     ghost hears = { λ _ _ _ _. Unit {0} };
 
+    // Nobody sees the accesses to memory.
+    ghost asked = { λ _ _ _. Unit {0} };
+
     ghost had = { λ _ events _. events ≡ [] };
 
     ghost holds = { λ _ d _ bytes. bytes ≡ d.bytes };

@@ -6,7 +6,7 @@ ghost use Rattle.std.specs.Io.KnownBytes.{Appends, Consumes};
 ghost use Rattle.oram_wire.specs.FrameIo.{GivesEnd};
 ghost use Rattle.oram_nbd.specs.Streams.{streams, Misses};
 ghost use Rattle.oram_nbd.specs.Options.{option_head, IsHead};
-ghost use Rattle.oram_nbd.specs.Handshake.{export_value, greeting, IsFixed};
+ghost use Rattle.oram_nbd.specs.Handshake.{export_value, greeting, AreClientFlags};
 ghost use Rattle.oram_nbd.specs.declared.TheConstants.{LONGEST_NAME};
 ghost use Rattle.oram_nbd.specs.Negotiation.{AnsweredOption, HasAgreed, IsAnsweredOption, IsNoOption, IsUnfinishedOption, StopsAt, StopsGreeting, StopsNegotiating};
 
@@ -24,15 +24,18 @@ use std::io::{Read, Write};
 /// speaks the fixed newstyle, and that it supports clients that want no zeroes.
 const GREETING: [u8; 18] = *b"NBDMAGICIHAVEOPT\0\x03";
 
-/// The flags of a client of the fixed newstyle that wants zeroes after the answer to EXPORT_NAME.
+/// A client's flag: it speaks the fixed newstyle. One that doesn't set it is served in the same way, as it only sends EXPORT_NAME.
 const FIXED_NEWSTYLE: u32 = 1;
 
-/// The flags of a client of the fixed newstyle that wants no zeroes there.
-const FIXED_NEWSTYLE_NO_ZEROES: u32 = 3;
+/// A client's flag: it wants no zeroes after the answer to EXPORT_NAME.
+const NO_ZEROES: u32 = 2;
+
+/// Both flags.
+const BOTH: u32 = 3;
 
 /// Greets a client, and returns whether zeroes have to follow the answer to EXPORT_NAME.
 fn greet<R: Read, W: Write>(reader: &mut R, writer: &mut W) -> Result<bool, NbdFault>
-    ensures ok { IfOk result (λ zeroes. (flags : ℕ) × IsFixed flags zeroes
+    ensures ok { IfOk result (λ zeroes. (flags : ℕ) × AreClientFlags flags zeroes
         × Consumes (R.remaining reader.old) (R.remaining reader.new) (to_be_bytes w32 flags)
         × Appends (W.contents writer.old) (W.contents writer.new) greeting) }
     ensures err { IfErr result (λ fault. StopsGreeting fault
@@ -44,9 +47,9 @@ fn greet<R: Read, W: Write>(reader: &mut R, writer: &mut W) -> Result<bool, NbdF
         return Err(NbdFault::Truncated);
     }
     match number_u32(flags) {
-        FIXED_NEWSTYLE => Ok(true),
-        FIXED_NEWSTYLE_NO_ZEROES => Ok(false),
-        _ => Err(NbdFault::OldClient),
+        0 | FIXED_NEWSTYLE => Ok(true),
+        NO_ZEROES | BOTH => Ok(false),
+        _ => Err(NbdFault::UnknownFlags),
     }
 }
 
@@ -79,10 +82,10 @@ fn take_option<R: Read, W: Write>(
     requires head { IsHead head }
     requires name { length export.now.name.now ≤ LONGEST_NAME }
     ensures ok { IfOk result (λ ends. (x : AnsweredOption) × (x.option ≡ head.option) × (length x.content ≡ head.length)
-        × IsAnsweredOption (export_value export.now.name.now export.now.size export.now.preferred) zeroes x ends
+        × IsAnsweredOption (export_value export.now.name.now export.now.size export.now.minimum export.now.preferred) zeroes x ends
         × Consumes (R.remaining reader.old) (R.remaining reader.new) x.content
         × Appends (W.contents writer.old) (W.contents writer.new) x.answer) }
-    ensures err { IfErr result (λ fault. StopsAt (export_value export.now.name.now export.now.size export.now.preferred) zeroes head fault
+    ensures err { IfErr result (λ fault. StopsAt (export_value export.now.name.now export.now.size export.now.minimum export.now.preferred) zeroes head fault
         (streams (R.remaining reader.old) (W.contents writer.old)) (streams (R.remaining reader.new) (W.contents writer.new))) }
 {
     if head.length > LONGEST_OPTION {
@@ -116,9 +119,9 @@ pub fn negotiate<R: Read, W: Write>(
     export: &Export<'_>,
 ) -> Result<Agreement, NbdFault>
     requires { length export.now.name.now ≤ LONGEST_NAME }
-    ensures ok { IfOk result (λ agreement. HasAgreed (export_value export.now.name.now export.now.size export.now.preferred) agreement
+    ensures ok { IfOk result (λ agreement. HasAgreed (export_value export.now.name.now export.now.size export.now.minimum export.now.preferred) agreement
         (streams (R.remaining reader.old) (W.contents writer.old)) (streams (R.remaining reader.new) (W.contents writer.new))) }
-    ensures err { IfErr result (λ fault. StopsNegotiating (export_value export.now.name.now export.now.size export.now.preferred) fault
+    ensures err { IfErr result (λ fault. StopsNegotiating (export_value export.now.name.now export.now.size export.now.minimum export.now.preferred) fault
         (streams (R.remaining reader.old) (W.contents writer.old)) (streams (R.remaining reader.new) (W.contents writer.new))) }
 {
     let zeroes = greet(reader, writer)?;

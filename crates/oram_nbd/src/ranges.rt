@@ -1,6 +1,7 @@
 //! Writes byte ranges by operations on whole blocks.
 
-ghost use Rattle.std.specs.Prelude.{◌≡◌, ℕ, ◌+◌, ◌*◌, ◌%◌, ◌<◌, ◌≤◌, ◌^◌, [], ◌∷◌, ◌++◌, drop, length, map, take, IfOk};
+ghost use Rattle.std.specs.Prelude.{◌≡◌, ℕ, ◌+◌, ◌-◌, ◌*◌, ◌/◌, ◌%◌, ◌<◌, ◌≤◌, ◌^◌, [], ◌∷◌, ◌++◌, true, drop, length, map, take, IfOk, OnOk};
+ghost use Rattle.oram_nbd.specs.Accesses.{AsksFor, cover_len, edges_of, is_part, numbers_from, part_calls, range};
 ghost use Rattle.oram_nbd.specs.Beside.{GoesOn, HasArrays, IsStopped};
 ghost use Rattle.oram_nbd.specs.Bytes.{bytes_at, written, zeroes};
 ghost use Rattle.oram_nbd.specs.Calls.{FailsByLies, IsCall, Reads, Writes};
@@ -28,6 +29,8 @@ impl Cover {
         requires block { 0 < block }
         requires some { 0 < len }
         requires bound { at + len < 2 ^ 63 }
+        ensures first { result.first ≡ at / block }
+        ensures count { result.count ≡ cover_len block at len }
         ensures place { block * result.first + result.start ≡ at }
         ensures start { result.start ≡ at % block }
         ensures within { (blocks : ℕ) → at + len ≤ block * blocks → block * result.first + block * result.count ≤ block * blocks }
@@ -48,6 +51,9 @@ impl Cover {
     fn of<D: BlockDevice>(disk: &D, at: u64, len: u64) -> Cover
         requires within { at + len ≤ D.size disk.now }
         requires some { 0 < len }
+        ensures first { result.first ≡ at / D.block_len disk.now }
+        ensures count { result.count ≡ cover_len (D.block_len disk.now) at len }
+        ensures offset { result.start ≡ at % D.block_len disk.now }
         ensures place { D.block_len disk.now * result.first + result.start ≡ at }
         ensures within { D.block_len disk.now * result.first + D.block_len disk.now * result.count ≤ D.size disk.now }
         ensures covers { result.start + len ≤ D.block_len disk.now * result.count }
@@ -61,6 +67,18 @@ impl Cover {
     }
 }
 
+/// Returns over how many blocks the range of an operation lies. A range that would end past 2^63 counts as the most there are.
+pub(crate) fn touched_blocks(block: u64, operation: &Operation) -> u64
+    requires { 0 < block }
+{
+    let (at, len) = (operation.place(), operation.len());
+    if len == 0 {
+        return 0;
+    }
+    let last = at.saturating_add(len - 1) / block;
+    (last - at / block).saturating_add(1)
+}
+
 /// Reads `count` blocks, from the block `first` on.
 pub(crate) fn read_blocks<D: BlockDevice>(
     alloc: Global,
@@ -72,6 +90,7 @@ pub(crate) fn read_blocks<D: BlockDevice>(
     ensures len { IfOk result (λ v. length v.items ≡ D.block_len disk.old * count) }
     ensures goes { GoesOn D.had D.hears (HasArrays D.holds D.kept) disk.old (λ may_lie old new. Reads (0 < D.block_len disk.old * count) result old new
         × IfOk result (λ v. v.items ≡ bytes_at old.held (D.block_len disk.old * first) (D.block_len disk.old * count)) × FailsByLies result may_lie) disk.new }
+    ensures asks { OnOk result (AsksFor D.asked disk.old (numbers_from first count ∷ []) disk.new) }
     ensures call { IsCall D.block_len D.size D.failed (IsStopped D.stops disk.new) disk.old result disk.new }
 {
     // For the proof alone: the call's contract says what is known of the device's size.
@@ -98,6 +117,7 @@ fn write_blocks<D: BlockDevice>(
     requires within { D.block_len disk.old * first + length payload ≤ D.size disk.old }
     requires whole { (count : ℕ) × (length payload ≡ D.block_len disk.old * count) }
     ensures goes { GoesOn D.had D.hears (HasArrays D.holds D.kept) disk.old (Writes (D.block_len disk.old * first) payload result) disk.new }
+    ensures asks { (count : ℕ) → length payload ≡ D.block_len disk.old * count → OnOk result (AsksFor D.asked disk.old (numbers_from first count ∷ []) disk.new) }
     ensures call { IsCall D.block_len D.size D.failed (IsStopped D.stops disk.new) disk.old result disk.new }
 {
     // For the proof alone: the call's contract says what is known of the device's size.
@@ -108,48 +128,6 @@ fn write_blocks<D: BlockDevice>(
     };
     disk.carry_out(alloc, &[operation])?;
     Ok(())
-}
-
-/// Returns blocks after `payload` is written into them from `start` on.
-fn spliced(
-    alloc: Global,
-    blocks: &[u8],
-    start: usize,
-    payload: &[u8],
-) -> Result<Vec<u8>, AllocError>
-    requires { start + length payload.now ≤ length blocks.now }
-    ensures { IfOk result (λ v. v.items ≡ written blocks.now start payload.now) }
-{
-    let mut whole = Vec::with_capacity(alloc, blocks.len())?;
-    whole.extend_from_slice(&blocks[..start])?;
-    whole.extend_from_slice(payload)?;
-    whole.extend_from_slice(&blocks[start + payload.len()..])?;
-    Ok(whole)
-}
-
-/// Writes bytes that lie in the blocks of a cover, from its start on. If they aren't all of these blocks, it reads the
-/// blocks first.
-fn write_covered<D: BlockDevice>(
-    alloc: Global,
-    disk: &mut D,
-    cover: Cover,
-    payload: &[u8],
-) -> Result<(), DiskFault>
-    requires within { D.block_len disk.old * cover.first + D.block_len disk.old * cover.count ≤ D.size disk.old }
-    requires some { 0 < length payload.now }
-    requires fits { cover.start + length payload.now ≤ D.block_len disk.old * cover.count }
-    ensures goes { GoesOn D.had D.hears (HasArrays D.holds D.kept) disk.old (Writes (D.block_len disk.old * cover.first + cover.start) payload.now result) disk.new }
-    ensures call { IsCall D.block_len D.size D.failed (IsStopped D.stops disk.new) disk.old result disk.new }
-{
-    // For the proof alone: the call's contract says what is known of the device's size.
-    let _blocks = disk.blocks();
-    if payload.len() as u64 == u64::from(disk.block_bytes()) * cover.count {
-        let copied = Bytes::copy(alloc, payload)?;
-        return write_blocks(alloc, disk, cover.first, copied);
-    }
-    let old = read_blocks(alloc, disk, cover.first, cover.count)?;
-    let whole = spliced(alloc, &old, cover.start, payload)?;
-    write_blocks(alloc, disk, cover.first, Bytes::from_vec(whole))
 }
 
 /// The bytes of the blocks of a range that lie outside of it.
@@ -192,6 +170,7 @@ fn read_two<D: BlockDevice>(
     ensures len { IfOk result (λ given. map length given.items ≡ count ∷ more ∷ []) }
     ensures goes { GoesOn D.had D.hears (HasArrays D.holds D.kept) disk.old (λ may_lie old new. Reads ⊥ result old new
         × IfOk result (λ given. given.items ≡ bytes_at old.held at count ∷ bytes_at old.held last more ∷ []) × FailsByLies result may_lie) disk.new }
+    ensures asks { OnOk result (AsksFor D.asked disk.old ((numbers_from (at / D.block_len disk.old) (count / D.block_len disk.old) ++ numbers_from (last / D.block_len disk.old) (more / D.block_len disk.old)) ∷ []) disk.new) }
     ensures call { IsCall D.block_len D.size D.failed (IsStopped D.stops disk.new) disk.old result disk.new }
 {
     let reads = [
@@ -218,8 +197,31 @@ fn edge_len(block: u64, len: u64) -> u64
     if len > 0 { block } else { 0 }
 }
 
-/// Reads what lies around a range of `len` bytes in the blocks of its cover. Only blocks that lie partly outside of the range
-/// are read, both in one call.
+/// Reads what lies around a range of `len` bytes in the only block of its cover.
+fn read_one_edge<D: BlockDevice>(
+    alloc: Global,
+    disk: &mut D,
+    cover: Cover,
+    len: u64,
+) -> Result<Edges, DiskFault>
+    requires within { D.block_len disk.old * cover.first + D.block_len disk.old ≤ D.size disk.old }
+    requires covers { cover.start + len ≤ D.block_len disk.old }
+    ensures before { IfOk result (λ e. length e.before ≡ cover.start) }
+    ensures after { IfOk result (λ e. cover.start + len + length e.after ≡ D.block_len disk.old) }
+    ensures goes { GoesOn D.had D.hears (HasArrays D.holds D.kept) disk.old (λ may_lie old new. Reads ⊥ result old new
+        × IfOk result (λ e. let blocks = bytes_at old.held (D.block_len disk.old * cover.first) (D.block_len disk.old) in
+        (e.before ≡ take cover.start blocks) × (e.after ≡ drop (cover.start + len) blocks)) × FailsByLies result may_lie) disk.new }
+    ensures asks { OnOk result (AsksFor D.asked disk.old ((cover.first ∷ []) ∷ []) disk.new) }
+    ensures call { IsCall D.block_len D.size D.failed (IsStopped D.stops disk.new) disk.old result disk.new }
+{
+    let bytes = read_blocks(alloc, disk, cover.first, 1)?;
+    let before = Bytes::copy(alloc, &bytes[..cover.start])?;
+    let after = Bytes::copy(alloc, &bytes[cover.start + len as usize..])?;
+    Ok(Edges { before, after })
+}
+
+/// Reads what lies around a range of `len` bytes in the blocks of its cover, in one call. Only blocks that lie partly outside of
+/// the range are read.
 fn read_edges<D: BlockDevice>(
     alloc: Global,
     disk: &mut D,
@@ -236,6 +238,7 @@ fn read_edges<D: BlockDevice>(
     ensures goes { GoesOn D.had D.hears (HasArrays D.holds D.kept) disk.old (λ may_lie old new. Reads ⊥ result old new
         × IfOk result (λ e. let blocks = bytes_at old.held (D.block_len disk.old * cover.first) (D.block_len disk.old * cover.count) in
         (e.before ≡ take cover.start blocks) × (e.after ≡ drop (cover.start + len) blocks)) × FailsByLies result may_lie) disk.new }
+    ensures asks { let rest = D.block_len disk.old * cover.count - (cover.start + len) in 0 < cover.start + rest → OnOk result (AsksFor D.asked disk.old (edges_of cover.first cover.count cover.start rest ∷ []) disk.new) }
     ensures call { IsCall D.block_len D.size D.failed (IsStopped D.stops disk.new) disk.old result disk.new }
 {
     // For the proof alone: the call's contract says what is known of the device's size.
@@ -252,6 +255,9 @@ fn read_edges<D: BlockDevice>(
             after: Bytes::from_vec(Vec::new(alloc)),
         });
     }
+    if cover.count == 1 {
+        return read_one_edge(alloc, disk, cover, len);
+    }
     let given = read_two(alloc, disk, at, ahead, end - behind, behind)?;
     let before = Bytes::copy(alloc, &given[0].as_slice()[..cover.start])?;
     let back = given[1].as_slice();
@@ -259,10 +265,38 @@ fn read_edges<D: BlockDevice>(
     Ok(Edges { before, after })
 }
 
+/// Reads a range of bytes.
+///
+/// The device is called twice, as it is for a write of the same range: the blocks that lie partly outside of the range are read,
+/// and then all its blocks are read. So a host that counts accesses can't tell a read of parts of blocks from a write of them.
+pub(crate) fn read_range<D: BlockDevice>(
+    alloc: Global,
+    disk: &mut D,
+    offset: u64,
+    count: u64,
+) -> Result<Bytes, DiskFault>
+    requires within { offset + count ≤ D.size disk.old }
+    requires some { 0 < count }
+    ensures len { IfOk result (λ given. length given ≡ count) }
+    ensures goes { GoesOn D.had D.hears (HasArrays D.holds D.kept) disk.old (λ may_lie old new. Reads (0 < count) result old new
+        × IfOk result (λ given. given ≡ bytes_at old.held offset count) × FailsByLies result may_lie) disk.new }
+    ensures asks { is_part (D.block_len disk.old) (range offset count) ≡ true → OnOk result (AsksFor D.asked disk.old (part_calls (D.block_len disk.old) (range offset count)) disk.new) }
+    ensures call { IsCall D.block_len D.size D.failed (IsStopped D.stops disk.new) disk.old result disk.new }
+{
+    // For the proof alone: the call's contract says what is known of the device's size.
+    let _blocks = disk.blocks();
+    let cover = Cover::of(disk, offset, count);
+    let _edges = read_edges(alloc, disk, cover, count)?;
+    let bytes = read_blocks(alloc, disk, cover.first, cover.count)?;
+    let end = cover.start + count as usize;
+    let asked = Bytes::copy(alloc, &bytes[cover.start..end])?;
+    Ok(asked)
+}
+
 /// Writes a range. No byte outside of it changes. On an error, a beginning of the payload may be written.
 ///
-/// The device is called at most twice: the blocks at the edges are read if they lie partly outside of the range, and then all
-/// its blocks are written.
+/// The device is called at most twice: the blocks that lie partly outside of the range are read, and then all its blocks are
+/// written. They are written even if they have these bytes already: which accesses are made doesn't depend on any bytes.
 pub(crate) fn write_range<D: BlockDevice>(
     alloc: Global,
     disk: &mut D,
@@ -271,6 +305,7 @@ pub(crate) fn write_range<D: BlockDevice>(
 ) -> Result<(), DiskFault>
     requires { offset + length payload.now ≤ D.size disk.old }
     ensures goes { GoesOn D.had D.hears (HasArrays D.holds D.kept) disk.old (Writes offset payload.now result) disk.new }
+    ensures asks { let r = range offset (length payload.now) in is_part (D.block_len disk.old) r ≡ true → 0 < r.len → OnOk result (AsksFor D.asked disk.old (part_calls (D.block_len disk.old) r) disk.new) }
     ensures call { IsCall D.block_len D.size D.failed (IsStopped D.stops disk.new) disk.old result disk.new }
 {
     // For the proof alone: the call's contract says what is known of the device's size.
@@ -280,9 +315,6 @@ pub(crate) fn write_range<D: BlockDevice>(
         return Ok(());
     }
     let cover = Cover::of(disk, offset, len);
-    if cover.count == 1 {
-        return write_covered(alloc, disk, cover, payload);
-    }
     let edges = read_edges(alloc, disk, cover, len)?;
     let whole = joined(
         alloc,
@@ -310,6 +342,7 @@ fn zero_between<D: BlockDevice>(
     requires apart { cover.count ≡ 1 → length edges.now.before + length edges.now.after ≡ 0 }
     ensures goes { GoesOn D.had D.hears (HasArrays D.holds D.kept) disk.old
         (Writes (D.block_len disk.old * cover.first) (edges.now.before ++ zeroes len ++ edges.now.after) result) disk.new }
+    ensures asks { OnOk result (AsksFor D.asked disk.old (numbers_from cover.first cover.count ∷ []) disk.new) }
     ensures call { IsCall D.block_len D.size D.failed (IsStopped D.stops disk.new) disk.old result disk.new }
 {
     // For the proof alone: the call's contract says what is known of the device's size.
@@ -353,6 +386,7 @@ pub(crate) fn zero_range<D: BlockDevice>(
 ) -> Result<(), DiskFault>
     requires { offset + count ≤ D.size disk.old }
     ensures goes { GoesOn D.had D.hears (HasArrays D.holds D.kept) disk.old (Writes offset (zeroes count) result) disk.new }
+    ensures asks { let r = range offset count in is_part (D.block_len disk.old) r ≡ true → 0 < count → OnOk result (AsksFor D.asked disk.old (part_calls (D.block_len disk.old) r) disk.new) }
     ensures call { IsCall D.block_len D.size D.failed (IsStopped D.stops disk.new) disk.old result disk.new }
 {
     // For the proof alone: the call's contract says what is known of the device's size.
@@ -363,7 +397,7 @@ pub(crate) fn zero_range<D: BlockDevice>(
     let cover = Cover::of(disk, offset, count);
     if cover.count == 1 && count < u64::from(disk.block_bytes()) {
         let none = vec![in alloc; 0u8; count as usize]?;
-        return write_covered(alloc, disk, cover, &none);
+        return write_range(alloc, disk, offset, &none);
     }
     let edges = read_edges(alloc, disk, cover, count)?;
     zero_between(alloc, disk, cover, count, &edges)

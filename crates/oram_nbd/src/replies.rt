@@ -7,10 +7,9 @@ ghost use Rattle.oram_nbd.specs.Messages.{reply_head, reply_text};
 ghost use Rattle.oram_nbd.specs.Messages.SimpleReply.{Done, Refused};
 ghost use Rattle.oram_nbd.specs.Streams.{IsBegunText};
 
-use crate::disk_sizes::DiskSizes;
 use crate::faults::{NbdError, NbdFault};
 use crate::requests::Request;
-use crate::service::{refusal, request_at, requested_bytes};
+use crate::service::{refusal, request_at};
 use crate::streams::put;
 use byteorder::{BigEndian, ByteOrder};
 use oram_bytes::Bytes;
@@ -57,20 +56,19 @@ fn put_reply<W: Write>(
 /// Writes the replies to requests for which the device gave these bytes.
 pub(crate) fn put_answers<W: Write>(
     writer: &mut W,
-    sizes: DiskSizes,
+    size: u64,
     requests: &[Request],
     given: &[Bytes],
 ) -> Result<(), NbdFault>
-    requires block { 0 < sizes.block }
-    requires each { length given.now ≡ length requests.now }
-    ensures ok { OnOk result (Appends (W.contents writer.old) (W.contents writer.new) (answers_text sizes.block sizes.size requests.now given.now)) }
+    requires { length given.now ≡ length requests.now }
+    ensures ok { OnOk result (Appends (W.contents writer.old) (W.contents writer.new) (answers_text size requests.now given.now)) }
     ensures err { IfErr result (λ fault. (fault ≡ NbdFault.Write)
-        × IsBegunText (W.contents writer.old) (W.contents writer.new) (answers_text sizes.block sizes.size requests.now given.now)) }
+        × IsBegunText (W.contents writer.old) (W.contents writer.new) (answers_text size requests.now given.now)) }
 {
     for i in 0..requests.len() {
         let request = request_at(requests, i);
-        let bytes = requested_bytes(sizes.block, &request, given[i].as_slice());
-        put_reply(writer, request.cookie, refusal(&request, sizes.size), bytes)?;
+        let bytes = given[i].as_slice();
+        put_reply(writer, request.cookie, refusal(&request, size), bytes)?;
     }
     Ok(())
 }

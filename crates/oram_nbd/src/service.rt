@@ -1,7 +1,6 @@
 //! Which requests are refused, and what the others ask for.
 
 ghost use Rattle.std.specs.Prelude.{◌≡◌, ◌∷◌, ◌++◌, List, true, false, ◌+◌, ◌<◌, ◌≢◌, All, None, length, nat_le, slice_index_or};
-ghost use Rattle.oram_nbd.specs.Batches.{requested_bytes};
 ghost use Rattle.oram_nbd.specs.Service.{refusal_of};
 ghost use Rattle.oram_nbd.specs.declared.requests.Request.{Request};
 
@@ -60,18 +59,4 @@ pub(crate) fn is_any_accepted(requests: &[Request], size: u64) -> bool
         }
     }
     false
-}
-
-/// Returns the bytes that a request asks for, out of the bytes of the blocks that its range touches.
-pub(crate) fn requested_bytes<'a>(block: u64, request: &Request, bytes: &'a [u8]) -> &'a [u8]
-    requires { 0 < block }
-    ensures { result.now ≡ requested_bytes block request.now bytes.now }
-{
-    let most = match request.command {
-        Command::Read => request.length as usize,
-        _ => 0,
-    };
-    let start = ((request.offset % block) as usize).min(bytes.len());
-    let rest = &bytes[start..];
-    &rest[..most.min(rest.len())]
 }

@@ -38,11 +38,11 @@ fn carry_out_batch<W: Write, D: BlockDevice>(
     requires block { sizes.block ≡ D.block_len disk.old }
     requires size { sizes.size ≡ D.size disk.old }
     requires sizes { AreDiskSizes sizes.block sizes.size }
-    requires collected { (arrived : List WholeRequest) × AreCollected sizes.block sizes.size arrived batch.now.requests.items batch.now.operations.items }
-    ensures ok { OnOk result ((arrived : List WholeRequest) → AreCollected sizes.block sizes.size arrived batch.now.requests.items batch.now.operations.items →
-        EndsBatch (device_kind D.block_len D.size D.failed D.had D.hears D.holds D.kept) disk.old disk.new arrived (W.contents writer.old) (W.contents writer.new)) }
-    ensures err { IfErr result (λ fault. (arrived : List WholeRequest) → AreCollected sizes.block sizes.size arrived batch.now.requests.items batch.now.operations.items →
-        BreaksBatch (device_kind D.block_len D.size D.failed D.had D.hears D.holds D.kept) disk.old disk.new arrived fault (W.contents writer.old) (W.contents writer.new)) }
+    requires collected { (arrived : List WholeRequest) × AreCollected sizes.size arrived batch.now.requests.items batch.now.operations.items }
+    ensures ok { OnOk result ((arrived : List WholeRequest) → AreCollected sizes.size arrived batch.now.requests.items batch.now.operations.items →
+        EndsBatch (device_kind D.block_len D.size D.failed D.asked D.had D.hears D.holds D.kept) disk.old disk.new arrived (W.contents writer.old) (W.contents writer.new)) }
+    ensures err { IfErr result (λ fault. (arrived : List WholeRequest) → AreCollected sizes.size arrived batch.now.requests.items batch.now.operations.items →
+        BreaksBatch (device_kind D.block_len D.size D.failed D.asked D.had D.hears D.holds D.kept) disk.old disk.new arrived fault (W.contents writer.old) (W.contents writer.new)) }
     ensures stopped { IfErr result (λ fault. fault ≡ NbdFault.Stopped → IsStopped D.stops disk.new) }
     ensures stays { Stays D.block_len D.size D.failed disk.old disk.new }
 {
@@ -52,7 +52,7 @@ fn carry_out_batch<W: Write, D: BlockDevice>(
         return put_refusals(writer, sizes.size, &batch.requests, NbdError::NoMemory);
     }
     match carry_out_all(alloc, disk, &batch.operations) {
-        Ok(given) => put_answers(writer, sizes, &batch.requests, &given),
+        Ok(given) => put_answers(writer, sizes.size, &batch.requests, &given),
         Err(DiskFault::Failed) => put_refusals(writer, sizes.size, &batch.requests, NbdError::Io),
         Err(DiskFault::OutOfMemory) => put_refusals(
             writer,
@@ -108,9 +108,9 @@ pub fn transmit<R: Read + Arrived, W: Write, D: BlockDevice>(
     writer: &mut W,
     disk: &mut D,
 ) -> Result<u64, NbdFault>
-    ensures ok { IfOk result (λ count. HasTransmitted (device_kind D.block_len D.size D.failed D.had D.hears D.holds D.kept) disk.old disk.new count
+    ensures ok { IfOk result (λ count. HasTransmitted (device_kind D.block_len D.size D.failed D.asked D.had D.hears D.holds D.kept) disk.old disk.new count
         (streams (R.remaining reader.old) (W.contents writer.old)) (streams (R.remaining reader.new) (W.contents writer.new))) }
-    ensures err { IfErr result (λ fault. StopsServing (device_kind D.block_len D.size D.failed D.had D.hears D.holds D.kept) disk.old disk.new fault
+    ensures err { IfErr result (λ fault. StopsServing (device_kind D.block_len D.size D.failed D.asked D.had D.hears D.holds D.kept) disk.old disk.new fault
         (streams (R.remaining reader.old) (W.contents writer.old)) (streams (R.remaining reader.new) (W.contents writer.new))) }
     ensures stopped { IfErr result (λ fault. fault ≡ NbdFault.Stopped → IsStopped D.stops disk.new) }
     ensures stays { Stays D.block_len D.size D.failed disk.old disk.new }

@@ -31,6 +31,7 @@ use Rattle.oram_rounds.proofs.Replies.{replies_are_the_arrays}
 use Rattle.oram_rounds.proofs.Start.{resting, served_submitted}
 use Rattle.oram_volume.specs.CarriedOut.{bodies_from}
 use Rattle.oram_volume.specs.HeldArrays.{HostBeside, HostHears}
+use Rattle.oram_volume.proofs.KeptFirst.{kept_then}
 use Rattle.oram_volume.proofs.HeldArrays.{Goes, Holds, acts_hold, submitted_hold, had, heard, keeps_on}
 
 -- no reply of an array says that the device failed
@@ -131,7 +132,7 @@ module _ {B K : Type 0} (batches : B → List (List ℕ) → BatchOutcome → Li
     pub replies_go_on : (ys : List Submission) → t.queue ≡ ys → (rest : List Act) → acts ≡ Keeps true ∷ rest
         → Goes batches reads_back are v words (process s l k)
         (λ may_lie old new. (new.held ≡ array_with v.device submitted old.held) × AreRight may_lie ys replies old.held × (new.saved ≡ Some new.held)) q
-    replies_go_on ys queue rest begin = one_call (flat_map exchanges_of acts) (had batches reads_back are v words submitted acts session s t l k q chain does)
+    replies_go_on ys queue rest begin = one_call (flat_map exchanges_of acts) (had batches reads_back are v words submitted acts session s t l k q chain does (kept_then acts rest begin))
         (λ may_lie w later run old h.
         let now : ℕ → List ℕ = array_with v.device submitted old.held in
         let there = submitted_hold batches reads_back are v words may_lie submitted session s t l k w old.held chain h.0 in

@@ -32,7 +32,9 @@ use Rattle.oram_rounds.specs.Process.Act.{Keeps}
 use Rattle.oram_rounds.specs.Process.{Act, DoesAll, Process, process, replies_of}
 use Rattle.oram_rounds.specs.Start.{AreSubmitted, SubmittedCommand, array_with}
 use Rattle.oram_rounds.specs.ProcessSteps.{ProcessStep}
-use Rattle.oram_volume.specs.CarriedOut.{Had, IsAfterFirst, Stops, TakesStep, TakesSteps, after_commands, bodies_from}
+use Rattle.oram_semantics.specs.Events.{address_of}
+use Rattle.oram_volume.proofs.KeptFirst.{KeepsFirst}
+use Rattle.oram_volume.specs.CarriedOut.{AsksRound, Had, IsAfterFirst, Stops, TakesStep, TakesSteps, after_commands, bodies_from}
 use Rattle.oram_rounds.specs.ProcessSteps.ProcessStep.{Acts, Takes}
 use Rattle.oram_volume.specs.HeldArrays.{HostHears, HoldsArray, KeepsArray, Running, running}
 use Rattle.oram_volume.specs.RangeCommands.{FitsDevice}
@@ -149,10 +151,10 @@ module _ {S B K T : Type 0} (cipher : S → Cipher) (words : T → ℕ → ℕ �
       as_new {step} = subst (λ (r : Running B K). GoesOn (Had batches reads_back) HostHears (HasArrays HoldsArray (KeepsArray reads_back)) (running cipher words old) step r) (sym (same_running cipher words old new kept_new tape_new))
 
       -- the array is the one after the first of them, and so is what is kept
-      pub some_done : HasNoWork mid.core.state → mid.core.state.failure ≡ None → NoWorkIsKept t acts new.core.state → Goes (λ may_lie from to. FirstOnes old.core.device commands from to) new
-      some_done idle alive kept_work = as_new (joined_calls resumed
+      pub some_done : HasNoWork mid.core.state → mid.core.state.failure ≡ None → KeepsFirst acts → NoWorkIsKept t acts new.core.state → Goes (λ may_lie from to. FirstOnes old.core.device commands from to) new
+      some_done idle alive sends kept_work = as_new (joined_calls resumed
           (submitted_go_on batches reads_back are v tape_words submitted acts 0 mid.core.state t mid.link mid.keeper there chain idle
-          (λ rests array. none_submitted v tape_words 0 submitted mid.core.state t chain alive rests array) does kept_work)
+          (λ rests array. none_submitted v tape_words 0 submitted mid.core.state t chain alive rests array) does sends kept_work)
           (λ may_lie world from between to h first second. (
             subst (λ (a : ℕ → List ℕ). IsAfterFirst old.core.device commands from.held a) (sym (second.0 ∙ ap (array_with old.core.device submitted) first.0)) (first_ones from.held),
             part_joined first.1 second.1 (first_none old.core.device commands from.held) (λ part either. elim either [
@@ -229,7 +231,7 @@ module _ {S B K T : Type 0} (cipher : S → Cipher) (words : T → ℕ → ℕ �
   pub submitted_done : IsFrontSubmitted → HasNoWork mid.core.state → mid.core.state.failure ≡ None → GoesTo SomeDone (record { core = core; link = mid.link; keeper = mid.keeper; tape = drawn })
   submitted_done k idle alive =
       some_done cipher words batches reads_back are old mid kept tape goes commands fits k.0 k.1 k.2 core.state (chain_under cipher words batches reads_back are old mid kept tape goes k.0 core.state k.3)
-      (record { core = core; link = mid.link; keeper = mid.keeper; tape = drawn }) kept_core (same_tape ∙ tape) [] refl idle alive (λ rests. inl rests)
+      (record { core = core; link = mid.link; keeper = mid.keeper; tape = drawn }) kept_core (same_tape ∙ tape) [] refl idle alive tt (λ rests. inl rests)
 
   module _ (after : CoreValue S) (link : Round B) (keeper : K) (kept_then : IsSameDevice core after) (acts : List Act)
       (does : DoesAll (scheme_of cipher core) batches reads_back (process core.state mid.link mid.keeper) acts (process after.state link keeper)) where
@@ -239,10 +241,34 @@ module _ {S B K T : Type 0} (cipher : S → Cipher) (words : T → ℕ → ℕ �
     does_under : DoesAll (scheme_of cipher old.core) batches reads_back (process core.state mid.link mid.keeper) acts (process after.state link keeper)
     does_under = subst (λ (u : Scheme). DoesAll u batches reads_back (process core.state mid.link mid.keeper) acts (process after.state link keeper)) (same_scheme cipher old.core core kept_core) does
 
-    pub performed_done : IsFrontSubmitted → HasNoWork mid.core.state → mid.core.state.failure ≡ None → NoWorkIsKept core.state acts after.state → GoesTo SomeDone new
-    performed_done k idle alive kept_work =
+    pub performed_done : IsFrontSubmitted → HasNoWork mid.core.state → mid.core.state.failure ≡ None → KeepsFirst acts → NoWorkIsKept core.state acts after.state → GoesTo SomeDone new
+    performed_done k idle alive sends kept_work =
         some_done cipher words batches reads_back are old mid kept tape goes commands fits k.0 k.1 k.2 core.state (chain_under cipher words batches reads_back are old mid kept tape goes k.0 core.state k.3)
-        new (same_trans old.core core after kept_core kept_then) (same_tape ∙ tape) acts does_under idle alive kept_work
+        new (same_trans old.core core after kept_core kept_then) (same_tape ∙ tape) acts does_under idle alive sends kept_work
+
+    -- the commands were a round, after the acts that carried out what waited
+    pub asked_round : (waited : List Act) → TakesSteps batches reads_back (running cipher words old) (map {B = ProcessStep} Acts waited) (running cipher words mid) → (notes : List Note) → AreAllSubmitted notes
+        → AsksRound batches reads_back (running cipher words old) (map address_of commands) (running cipher words new)
+    asked_round waited first notes k =
+        let v = scheme_of cipher old.core in
+        let ws = words old.tape in
+        let here : Running B K = record { scheme = v; words = ws; process = process mid.core.state mid.link mid.keeper } in
+        let submitted : Running B K = record { scheme = v; words = ws; process = process core.state mid.link mid.keeper } in
+        let there : Running B K = record { scheme = v; words = ws; process = process after.state link keeper } in
+        let to_here = subst (λ (r : Running B K). TakesSteps batches reads_back (running cipher words old) (map {B = ProcessStep} Acts waited) r) (same_running cipher words old mid kept tape) first in
+        let chain = chain_under cipher words batches reads_back are old mid kept tape goes k.0 core.state k.3 in
+        let taken = submitted_taken batches reads_back are v ws k.0 0 mid.core.state core.state mid.link mid.keeper chain in
+        let done = acts_taken batches reads_back are v ws acts (process core.state mid.link mid.keeper) (process after.state link keeper) does_under in
+        let both = folds_join {P = Running B K} {A = ProcessStep} (TakesStep batches reads_back) (running cipher words old) here submitted (map {B = ProcessStep} Acts waited) (map {B = ProcessStep} Takes k.0) to_here taken in
+        let all = folds_join {P = Running B K} {A = ProcessStep} (TakesStep batches reads_back) (running cipher words old) submitted there (map {B = ProcessStep} Acts waited ++ map {B = ProcessStep} Takes k.0) (map {B = ProcessStep} Acts acts) both done in
+        record {
+          before = waited;
+          taken = k.0;
+          after = acts;
+          steps = subst (λ (r : Running B K). TakesSteps batches reads_back (running cipher words old) ((map {B = ProcessStep} Acts waited ++ map {B = ProcessStep} Takes k.0) ++ map {B = ProcessStep} Acts acts) r)
+              (sym (same_running cipher words old new (same_trans old.core core after kept_core kept_then) (same_tape ∙ tape))) all;
+          same = ap (λ (cs : List Command). map address_of cs) k.1;
+        }
 
     -- fewer were accepted than there are
     pub performed_stops : (notes : List Note) → AreAllSubmitted notes → count_by is_accepted notes < length commands → Stops batches reads_back (running cipher words old) (running cipher words new)

@@ -17,6 +17,7 @@ use Rattle.oram_rounds.specs.ProcessSteps.{ProcessStep, exchanges_in}
 use Rattle.oram_volume.specs.CarriedOut.{Had, Stops, TakesStep, TakesSteps}
 use Rattle.oram_rounds.specs.ProcessSteps.ProcessStep.{Acts, Takes}
 use Rattle.oram_volume.specs.DiskCalls.{VolumeGoesOn}
+use Rattle.oram_volume.proofs.KeptFirst.{sends_join}
 use Rattle.oram_volume.specs.HeldArrays.{HostBeside, HostHears, HoldsArray, HoldsBytes, KeepsArray, KeepsBytes, Running, running}
 use Rattle.oram_volume.specs.declared.volume.Volume.{Volume}
 
@@ -24,13 +25,14 @@ module _ {B K : Type 0} (batches : B → List (List ℕ) → BatchOutcome → Li
   -- calls that were made one after the other are one call with the exchanges of them all
   all_had : (calls : List (List Exchange)) (p q : Running B K) → FoldsTo {P = Running B K} {A = List Exchange} (Had batches reads_back) p calls q
       → Had batches reads_back p (flat_map (λ (es : List Exchange). es) calls) q
-  all_had [] p q same = ([], same, refl)
+  all_had [] p q same = ([], same, refl, tt)
   all_had (exchanges ∷ calls) p q all =
       let rest = all_had calls all.0 q all.2 in (
         all.1.0 ++ rest.0,
         folds_join {P = Running B K} {A = ProcessStep} (TakesStep batches reads_back) p all.0 q all.1.0 rest.0 all.1.1 rest.1,
         flat_map-append exchanges_in all.1.0 rest.0 ∙ ap (λ (es : List Exchange). es ++ flat_map exchanges_in rest.0) all.1.2
             ∙ ap (λ (es : List Exchange). exchanges ++ es) rest.2,
+        sends_join true all.1.0 rest.0 all.1.3 rest.3,
       )
 
   -- what has stopped a process has stopped it over a longer time

@@ -28,6 +28,7 @@ use Rattle.oram_rounds.proofs.Start.{held_is_safe, submitted_is_safe}
 use Rattle.oram_rounds.specs.ProcessSteps.{ProcessStep, exchanges_in}
 use Rattle.oram_volume.specs.CarriedOut.{Had, Stops, TakesStep, TakesSteps}
 use Rattle.oram_rounds.specs.ProcessSteps.ProcessStep.{Acts, Takes}
+use Rattle.oram_volume.proofs.KeptFirst.{KeepsFirst, sends_taken}
 use Rattle.oram_volume.specs.HeldArrays.{HeldDevicesHold, HoldsArray, HostBeside, HostHears, KeepsArray, Running}
 
 -- the host goes through exchanges
@@ -110,13 +111,14 @@ module _ {B K : Type 0} (batches : B → List (List ℕ) → BatchOutcome → Li
 
   -- commands are submitted, and then acts are done
   pub had : (submitted : List SubmittedCommand) (acts : List Act) (session : ℕ) (s t : State) (l : Round B) (k : K) (q : Process B K) → AreSubmitted v words session s submitted t
-      → DoesAll v batches reads_back (process t l k) acts q → Had batches reads_back (at (process s l k)) (flat_map exchanges_of acts) (at q)
-  had submitted acts session s t l k q chain does = (
+      → DoesAll v batches reads_back (process t l k) acts q → KeepsFirst acts → Had batches reads_back (at (process s l k)) (flat_map exchanges_of acts) (at q)
+  had submitted acts session s t l k q chain does first = (
     map {B = ProcessStep} Takes submitted ++ map {B = ProcessStep} Acts acts,
     folds_join {P = Running B K} (TakesStep batches reads_back) (at (process s l k)) (at (process t l k)) (at q) (map {B = ProcessStep} Takes submitted) (map {B = ProcessStep} Acts acts)
         (submitted_taken submitted session s t l k chain) (acts_taken acts (process t l k) q does),
     flat_map-append exchanges_in (map {B = ProcessStep} Takes submitted) (map {B = ProcessStep} Acts acts)
         ∙ ap (λ (es : List Exchange). es ++ flat_map exchanges_in (map {B = ProcessStep} Acts acts)) (of_submitted submitted) ∙ of_acts acts,
+    sends_taken submitted (map {B = ProcessStep} Acts acts) first,
   )
 
   module _ (may_lie : Bool) where
@@ -209,9 +211,9 @@ module _ {B K : Type 0} (batches : B → List (List ℕ) → BatchOutcome → Li
   Goes p step q = GoesOn (Had batches reads_back) HostHears (HasArrays HoldsArray (KeepsArray reads_back)) (at p) step (at q)
 
   -- acts leave the array as it is
-  pub acts_go_on : (acts : List Act) (p q : Process B K) → DoesAll v batches reads_back p acts q → NoWorkIsKept p.core acts q.core
+  pub acts_go_on : (acts : List Act) (p q : Process B K) → DoesAll v batches reads_back p acts q → KeepsFirst acts → NoWorkIsKept p.core acts q.core
       → Goes p (λ _ old new. (new.held ≡ old.held) × SavesPart (λ array part. part ≡ array) old new) q
-  acts_go_on acts p q does kept_work = one_call (flat_map exchanges_of acts) (had [] acts 0 p.core p.core p.link p.keeper q refl does)
+  acts_go_on acts p q does sends kept_work = one_call (flat_map exchanges_of acts) (had [] acts 0 p.core p.core p.link p.keeper q refl does sends)
       (λ may_lie w later run old h. by may_lie w later run old.held old.saved h.0 h.1)
     where
       by : (may_lie : Bool) (w later : HostBeside) → FoldsTo {P = HostBeside} {A = Exchange} (HostHears may_lie) w (flat_map exchanges_of acts) later → (array : ℕ → List ℕ) (saved : Option (ℕ → List ℕ)) → Holds may_lie p w array
@@ -232,9 +234,9 @@ module _ {B K : Type 0} (batches : B → List (List ℕ) → BatchOutcome → Li
 
   -- submissions to a core at which none waits, and then acts
   pub submitted_go_on : (submitted : List SubmittedCommand) (acts : List Act) (session : ℕ) (s t : State) (l : Round B) (k : K) (q : Process B K) → AreSubmitted v words session s submitted t → HasNoWork s
-      → (HasNoWork t → (array : ℕ → List ℕ) → array_with v.device submitted array ≡ array) → DoesAll v batches reads_back (process t l k) acts q → NoWorkIsKept t acts q.core
+      → (HasNoWork t → (array : ℕ → List ℕ) → array_with v.device submitted array ≡ array) → DoesAll v batches reads_back (process t l k) acts q → KeepsFirst acts → NoWorkIsKept t acts q.core
       → Goes (process s l k) (λ _ old new. (new.held ≡ array_with v.device submitted old.held) × SavesPart (λ array part. (part ≡ array) ⊎ (part ≡ array_with v.device submitted array)) old new) q
-  submitted_go_on submitted acts session s t l k q chain idle none_accepted does kept_work = one_call (flat_map exchanges_of acts) (had submitted acts session s t l k q chain does)
+  submitted_go_on submitted acts session s t l k q chain idle none_accepted does sends kept_work = one_call (flat_map exchanges_of acts) (had submitted acts session s t l k q chain does sends)
       (λ may_lie w later run old h. by may_lie w later run old.held old.saved h.0 h.1)
     where
       by : (may_lie : Bool) (w later : HostBeside) → FoldsTo {P = HostBeside} {A = Exchange} (HostHears may_lie) w (flat_map exchanges_of acts) later → (array : ℕ → List ℕ) (saved : Option (ℕ → List ℕ))

@@ -10,8 +10,11 @@ use Rattle.oram_session.specs.CoreWork.{HasNoWork, has_no_work_in}
 use Rattle.oram_session.proofs.Resumed.{reopened, resent, resent_under_way}
 use Rattle.oram_link_laws.specs.Runs.{Exchange}
 use Rattle.oram_rounds.specs.Batches.{BatchOutcome}
-use Rattle.oram_rounds.specs.Process.{Act, DoesAll, IsBrokenResumption, IsBrokenRound, IsResumption, IsRound, Process}
+use Rattle.oram_core.specs.Core.{CoreValue}
+use Rattle.oram_rounds.specs.Process.{Act, DoesAll, IsBrokenResumption, IsBrokenRound, IsResumption, IsRound, Process, process}
+use Rattle.oram_rounds.specs.Rounds.{Round}
 use Rattle.oram_rounds.specs.Process.Act.{Hears, Keeps}
+use Rattle.oram_volume.proofs.KeptFirst.{KeepsFirst, resumption_sends}
 use Rattle.oram_volume.proofs.HeldArrays.{HaveKept, NoWorkIsKept, kept_first}
 
 -- if a core has no work with its message lost, it has none otherwise
@@ -73,3 +76,19 @@ module _ {B K : Type 0} (batches : B → List (List ℕ) → BatchOutcome → Li
   pub resumed_keeps : (acts : List Act) (p q : Process B K) → (¬ HasNoWork p.core → IsResumption IsRound acts) → DoesAll v batches reads_back p acts q → NoWorkIsKept p.core acts q.core
   resumed_keeps acts p q whole does =
       resumption_keeps acts p q (λ works. let r = whole works in inr (r.0, r.1, r.2, r.3, inr (inr r.4))) does
+
+  -- The acts of a whole resumption, which send nothing before the process keeps itself. Where no command waited there are none.
+  pub resumed_acts : (acts : List Act) (p q : Process B K) → (HasNoWork p.core → q ≡ p) → (¬ HasNoWork p.core → IsResumption IsRound acts) → DoesAll v batches reads_back p acts q
+      → (done : List Act) × DoesAll v batches reads_back p done q × KeepsFirst done × NoWorkIsKept p.core done q.core
+  resumed_acts acts p q calm whole does = by (has_no_work_in (status_in p.core)) refl
+    where
+      by : (b : Bool) → has_no_work_in (status_in p.core) ≡ b → (done : List Act) × DoesAll v batches reads_back p done q × KeepsFirst done × NoWorkIsKept p.core done q.core
+      by true is = ([], sym (calm is), tt, λ none. inl is)
+      by false is =
+          let works : ¬ HasNoWork p.core = λ h. let no : false ≡ true = sym is ∙ h in cc in
+          (acts, does, resumption_sends acts (whole works), resumed_keeps acts p q whole does)
+
+-- a process is its core, its link and its keeper
+pub same_process : {S B K : Type 0} {c d : CoreValue S} {l m : Round B} {j k : K} → c ≡ d → l ≡ m → j ≡ k → process c.state l j ≡ process d.state m k
+same_process {S} {B} {K} {c} {d} {l} {m} {j} {k} e f h =
+    ap (λ (x : CoreValue S). process x.state l j) e ∙ ap (λ (x : Round B). process d.state x j) f ∙ ap (λ (x : K). process d.state m x) h

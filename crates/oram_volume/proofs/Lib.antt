@@ -2,6 +2,7 @@ pub mod Layouts
 pub mod RangeCommands
 pub mod LaidRanges
 pub mod LaidOperations
+pub mod KeptFirst
 pub mod HeldArrays
 pub mod KeptWork
 pub mod NextProcess
@@ -9,4 +10,5 @@ pub mod Example
 pub mod Submitted
 pub mod Answered
 pub mod Carried
+pub mod Rounded
 pub mod DiskCalls

@@ -1,10 +1,11 @@
 -- What a process does for its client, from the commands that it submits to their replies, or to where it stops.
-use Rattle.std.specs.Prelude.{◌≡◌, ◌⊎◌, ℕ, ◌*◌, false, List, [], ◌∷◌, ◌++◌}
+use Rattle.std.specs.Prelude.{◌≡◌, ◌⊎◌, ℕ, ◌*◌, ◌<◌, Bool, true, false, List, [], ◌∷◌, ◌++◌, drop, length, map, take}
 use Rattle.std.specs.List.{FoldsTo, flat_map}
 use Rattle.oram_geometry.specs.Sizes.{trees_of}
 use Rattle.oram_geometry.specs.declared.Sizes.{Sizes}
 use Rattle.oram_semantics.specs.ArrayReplies.{array_after}
 use Rattle.oram_semantics.specs.Blocks.{body_from}
+use Rattle.oram_core.specs.declared.machine.TheConstants.{MOST_WAITING}
 use Rattle.oram_semantics.specs.Events.{address_of}
 use Rattle.oram_semantics.specs.Progress.Status.{Stalling}
 use Rattle.oram_semantics.specs.Run.{is_accepted}
@@ -13,7 +14,8 @@ use Rattle.oram_semantics.specs.declared.events.Command.{Command}
 use Rattle.oram_semantics.specs.declared.events.ReplyBody.{ReplyBody}
 use Rattle.oram_link_laws.specs.Runs.{Exchange}
 use Rattle.oram_rounds.specs.Batches.{BatchOutcome}
-use Rattle.oram_rounds.specs.Process.Act.{Keeps}
+use Rattle.oram_rounds.specs.Process.{Act}
+use Rattle.oram_rounds.specs.Process.Act.{Calls, GoesAhead, Hears, Keeps, Misses}
 use Rattle.oram_rounds.specs.ProcessSteps.{DoesStep, ProcessStep, exchanges_in}
 use Rattle.oram_rounds.specs.ProcessSteps.ProcessStep.{Acts, Takes}
 use Rattle.oram_rounds.specs.Start.{SubmittedCommand}
@@ -33,6 +35,22 @@ after_commands d (c ∷ commands) array = after_commands d commands (array_after
 abbrev pub IsAfterFirst : Sizes → List Command → (ℕ → List ℕ) → (ℕ → List ℕ) → Type 0
 IsAfterFirst d commands array later = (done rest : List Command) × (commands ≡ done ++ rest) × (later ≡ after_commands d done array)
 
+-- Nothing goes to the host before every command that was taken is kept. `unkept` says that one may not be when the steps begin.
+abbrev pub SendsKept : Bool → List ProcessStep → Type 0
+SendsKept unkept [] = Unit {0}
+SendsKept unkept (Takes a ∷ steps) = SendsKept true steps
+SendsKept unkept (Acts (Hears event x) ∷ steps) = SendsKept unkept steps
+SendsKept unkept (Acts (Calls o exchanges x) ∷ steps) = (unkept ≡ false) × SendsKept unkept steps
+SendsKept unkept (Acts (Misses o exchanges) ∷ steps) = (unkept ≡ false) × SendsKept unkept steps
+SendsKept unkept (Acts (GoesAhead exchanges) ∷ steps) = (unkept ≡ false) × SendsKept unkept steps
+SendsKept unkept (Acts (Keeps true) ∷ steps) = SendsKept false steps
+SendsKept unkept (Acts (Keeps false) ∷ steps) = SendsKept unkept steps
+
+-- Blocks are cut into rounds of `most`, up to the last one, which has the rest.
+abbrev pub AreRounds : ℕ → List ℕ → List (List ℕ) → Type 0
+AreRounds most blocks [] = blocks ≡ []
+AreRounds most blocks (round ∷ rounds) = (0 < length blocks) × (round ≡ take most blocks) × AreRounds most (drop most blocks) rounds
+
 -- of a process with this relation of batches, and this read-back of its keeper
 module _ {B K : Type 0} (batches : B → List (List ℕ) → BatchOutcome → List Exchange → B → Type 0) (reads_back : K → List ℕ → Type 0) where
   -- The process does a step. A command is submitted with the tape's words of the next ticket.
@@ -46,9 +64,28 @@ module _ {B K : Type 0} (batches : B → List (List ℕ) → BatchOutcome → Li
   abbrev pub TakesSteps : Running B K → List ProcessStep → Running B K → Type 0
   TakesSteps p steps q = FoldsTo {P = Running B K} TakesStep p steps q
 
-  -- the process takes some steps, and has these exchanges
+  -- The process takes some steps, and has these exchanges. It sends nothing before all commands that it has taken are kept: the
+  -- next process reads them back, so it fetches no other paths for them.
   abbrev pub Had : Running B K → List Exchange → Running B K → Type 0
-  Had p exchanges q = (steps : List ProcessStep) × TakesSteps p steps q × (flat_map exchanges_in steps ≡ exchanges)
+  Had p exchanges q = (steps : List ProcessStep) × TakesSteps p steps q × (flat_map exchanges_in steps ≡ exchanges) × SendsKept true steps
+
+  -- A round: the process carries out what waits, takes a command on each of these blocks and no others, and carries them out.
+  pub record AsksRound (p : Running B K) (blocks : List ℕ) (q : Running B K) : Type 0 where
+    pub before : List Act
+    pub taken : List SubmittedCommand
+    pub after : List Act
+    pub steps : TakesSteps p (map Acts before ++ map Takes taken ++ map Acts after) q
+    pub same : map address_of (map (λ a. a.command) taken) ≡ blocks
+
+  -- such rounds, one after the other
+  abbrev pub AskRounds : Running B K → List (List ℕ) → Running B K → Type 0
+  AskRounds p rounds q = FoldsTo {P = Running B K} {A = List ℕ} AsksRound p rounds q
+
+  -- It does so for these blocks, in rounds that are as long as they can be.
+  pub record AsksInRounds (p : Running B K) (blocks : List ℕ) (q : Running B K) : Type 0 where
+    pub rounds : List (List ℕ)
+    pub cut : AreRounds MOST_WAITING blocks rounds
+    pub each : AskRounds p rounds q
 
   -- It takes some steps, and then a message has stalled, or the keeper has failed, or the core hasn't accepted a command.
   abbrev pub Stops : Running B K → Running B K → Type 0

@@ -1,6 +1,6 @@
 //! The commands of a list of operations.
 
-ghost use Rattle.std.specs.Prelude.{◌≡◌, ◌⊎◌, ◌+◌, ◌/◌, ◌∷◌, ◌++◌, ◌<◌, ◌^◌, [], All, drop, length, slice_index_or, IfOk};
+ghost use Rattle.std.specs.Prelude.{◌≡◌, ◌⊎◌, ◌+◌, ◌/◌, ◌∷◌, ◌++◌, ◌<◌, ◌≤◌, ◌^◌, [], All, drop, length, slice_index_or, IfOk};
 ghost use Rattle.oram_nbd.specs.Operations.{IsWhole, len_of, place_of};
 ghost use Rattle.oram_nbd.specs.declared.operations.Operation.{Operation};
 ghost use Rattle.oram_volume.specs.RangeCommands.{commands_of, rest_of};
@@ -72,6 +72,7 @@ pub(crate) fn next_round(
     requires numbers { All (λ op. place_of op / block + len_of op / block < 2 ^ 32) operations.now }
     ensures next { IfOk result (λ v. rest_of block operations.now cursor.old.operation cursor.old.block ≡ v.items ++ rest_of block operations.now cursor.new.operation cursor.new.block) }
     ensures full { IfOk result (λ v. (length v.items ≡ MOST_WAITING) ⊎ (rest_of block operations.now cursor.new.operation cursor.new.block ≡ [])) }
+    ensures most { IfOk result (λ v. length v.items ≤ MOST_WAITING) }
     ensures end { IfOk result (λ v. v.items ≡ [] → rest_of block operations.now cursor.new.operation cursor.new.block ≡ []) }
 {
     let mut commands = Vec::with_capacity(alloc, MOST_WAITING)?;

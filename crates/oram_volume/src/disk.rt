@@ -1,13 +1,14 @@
 //! A volume as a disk of bytes.
 
-ghost use Rattle.std.specs.Prelude.{◌≡◌, ◌≢◌, ◌*◌, ◌-◌, ◌<◌, ◌≤◌, ◌^◌, [], ◌∷◌, ◌++◌, All, length, map, min, sum_by, IfErr, IfOk, IsErrOf, MatchResult};
+ghost use Rattle.std.specs.Prelude.{◌≡◌, ◌≢◌, ◌*◌, ◌-◌, ◌<◌, ◌≤◌, ◌^◌, [], ◌∷◌, ◌++◌, All, length, map, min, sum_by, IfErr, IfOk, IsErrOf, MatchResult, OnOk};
 ghost use Rattle.std.specs.List.{flat_map};
 ghost use Rattle.oram_core.specs.Core.{IsSameDevice};
+ghost use Rattle.oram_semantics.specs.Events.{address_of};
 ghost use Rattle.oram_session.specs.Honesty.{HasFailed};
 ghost use Rattle.oram_nbd.specs.Beside.{GoesOn, HasArrays};
 ghost use Rattle.oram_nbd.specs.Calls.{FailsByLies, Saves};
 ghost use Rattle.oram_nbd.specs.Operations.{IsWhole, IsWithin, read_len};
-ghost use Rattle.oram_volume.specs.CarriedOut.{Had, IsAfterFirst, Stops, after_commands, bodies_from};
+ghost use Rattle.oram_volume.specs.CarriedOut.{AsksInRounds, Had, IsAfterFirst, Stops, after_commands, bodies_from};
 ghost use Rattle.oram_volume.specs.DiskCalls.{data_of};
 ghost use Rattle.oram_volume.specs.HeldArrays.{HostHears, HoldsArray, KeepsArray, running};
 ghost use Rattle.oram_volume.specs.RangeCommands.{all_commands};
@@ -125,6 +126,7 @@ impl<S: Sealer, B: BatchLink, K: Keeper, T: Tape> Volume<S, B, K, T> {
             (λ found. (found.items ≡ flat_map data_of (bodies_from d all old.held)) × (new.held ≡ after_commands d all old.held))
             (λ _. IsAfterFirst d all old.held new.held) × FailsByLies result may_lie × Saves result (all ≢ []) (IsAfterFirst d all) old new)
             (running S.cipher T.words self.new) }
+        ensures asks { OnOk result (AsksInRounds B.batches K.reads_back (running S.cipher T.words self.old) (map address_of (all_commands self.old.core.device.block_bytes operations.now)) (running S.cipher T.words self.new)) }
         ensures failing { IsErrOf result DiskFault.Failed → HasFailed self.new.core.state }
         ensures still { HasFailed self.old.core.state → HasFailed self.new.core.state }
         ensures stopped { IsErrOf result DiskFault.Stopped → Stops B.batches K.reads_back (running S.cipher T.words self.old) (running S.cipher T.words self.new) }
@@ -165,7 +167,7 @@ impl<S: Sealer, B: BatchLink, K: Keeper, T: Tape> Volume<S, B, K, T> {
 
 impl<S: Sealer, B: BatchLink, K: Keeper, T: Tape> BlockDevice for Volume<S, B, K, T> {
     ghost use Rattle.oram_link_laws.specs.Runs.{Exchange};
-    ghost use Rattle.oram_volume.specs.CarriedOut.{Had};
+    ghost use Rattle.oram_volume.specs.CarriedOut.{AsksInRounds, Had};
     ghost use Rattle.oram_volume.specs.HeldArrays.{HostBeside, HostHears, HoldsBytes, KeepsBytes};
 
     ghost block_len = { λ d. d.core.device.block_bytes };
@@ -177,6 +179,9 @@ impl<S: Sealer, B: BatchLink, K: Keeper, T: Tape> BlockDevice for Volume<S, B, K
     ghost Event = { Exchange };
 
     ghost hears = { λ may_lie w e later. HostHears may_lie w e later };
+
+    // A call submits a command on each of these blocks, in rounds that are as long as a round can be.
+    ghost asked = { λ d blocks e. AsksInRounds B.batches K.reads_back (running S.cipher T.words d) blocks (running S.cipher T.words e) };
 
     ghost had = { λ d events e. Had B.batches K.reads_back (running S.cipher T.words d) events (running S.cipher T.words e) };
 

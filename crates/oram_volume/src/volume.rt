@@ -1,12 +1,15 @@
 //! A core with its link, its keeper and its tape.
 
-ghost use Rattle.std.specs.Prelude.{◌≡◌, ◌≢◌, ◌⊎◌, ◌<◌, false, [], All, map, IsOk, IfOk, IfErr, IsErrOf, IsTrue, MatchResult, OnOk};
+ghost use Rattle.std.specs.Prelude.{◌≡◌, ◌≢◌, ◌⊎◌, ◌<◌, false, List, [], All, map, IsOk, IfOk, IfErr, IsErrOf, IsTrue, MatchResult, OnOk};
 ghost use Rattle.oram_core.specs.Core.{IsSameDevice};
+ghost use Rattle.oram_semantics.specs.Events.{address_of};
+ghost use Rattle.oram_rounds.specs.Process.{Act};
+ghost use Rattle.oram_rounds.specs.ProcessSteps.ProcessStep.{Acts};
 ghost use Rattle.oram_session.specs.Honesty.{HasFailed};
 ghost use Rattle.oram_session.specs.CoreWork.{HasNoWork};
 ghost use Rattle.oram_nbd.specs.Beside.{GoesOn, HasArrays};
 ghost use Rattle.oram_nbd.specs.Calls.{FailsByLies, Saves, SavesPart};
-ghost use Rattle.oram_volume.specs.CarriedOut.{Had, IsAfterFirst, Stops, after_commands, bodies_from};
+ghost use Rattle.oram_volume.specs.CarriedOut.{AsksRound, Had, IsAfterFirst, Stops, TakesSteps, after_commands, bodies_from};
 ghost use Rattle.oram_volume.specs.RangeCommands.{FitsDevice};
 ghost use Rattle.oram_volume.specs.HeldArrays.{HostHears, HoldsArray, KeepsArray, running};
 
@@ -39,6 +42,7 @@ pub struct Volume<S: Sealer, B: BatchLink, K: Keeper, T: Tape> {
 fn disk_fault(fault: RoundFault) -> DiskFault
     ensures failed { result ≢ DiskFault.Failed }
     ensures stopped { result ≡ DiskFault.Stopped → (fault ≡ RoundFault.Stalled) ⊎ (fault ≡ RoundFault.NotKept) }
+    ensures memory { result ≡ DiskFault.OutOfMemory → fault ≡ RoundFault.OutOfMemory }
 {
     match fault {
         RoundFault::Stalled | RoundFault::NotKept => DiskFault::Stopped,
@@ -82,6 +86,8 @@ impl<S: Sealer, B: BatchLink, K: Keeper, T: Tape> Volume<S, B, K, T> {
         ensures goes { GoesOn (Had B.batches K.reads_back) HostHears (HasArrays HoldsArray (KeepsArray K.reads_back)) (running S.cipher T.words self.old)
             (λ _ old new. (new.held ≡ old.held) × SavesPart (λ array part. part ≡ array) old new) (running S.cipher T.words self.new) }
         ensures fault { IfErr result (λ e. e ≢ DiskFault.Failed) }
+        // It takes no command.
+        ensures takes_none { (acts : List Act) × TakesSteps B.batches K.reads_back (running S.cipher T.words self.old) (map Acts acts) (running S.cipher T.words self.new) }
         // It stops where a message stalls or the process can't be kept, and nowhere else.
         ensures stopped { IsErrOf result DiskFault.Stopped → Stops B.batches K.reads_back (running S.cipher T.words self.old) (running S.cipher T.words self.new) }
     {
@@ -109,6 +115,7 @@ impl<S: Sealer, B: BatchLink, K: Keeper, T: Tape> Volume<S, B, K, T> {
             (λ _. IsAfterFirst d commands.items old.held new.held) × FailsByLies result may_lie
             × Saves result (commands.items ≢ []) (IsAfterFirst d commands.items) old new)
             (running S.cipher T.words self.new) }
+        ensures asks { OnOk result (AsksRound B.batches K.reads_back (running S.cipher T.words self.old) (map address_of commands.items) (running S.cipher T.words self.new)) }
         ensures refused { OnOk result (HasFailed self.old.core.state → ⊥) }
         ensures failing { IsErrOf result DiskFault.Failed → HasFailed self.new.core.state }
         ensures still { HasFailed self.old.core.state → HasFailed self.new.core.state }

@@ -18,6 +18,7 @@ use oram_session::{ChaChaTape, LinkFault, Tape};
 use oram_settings::{DiskSettings, counted, failure_text, relative_to, serving_text};
 use oram_sockets::{Connection, Listener, Peer, listen_at_path, watch};
 use oram_volume::Volume;
+use percent_encoding::{NON_ALPHANUMERIC, utf8_percent_encode};
 use std::alloc::{AllocError, Global};
 use std::fs;
 use std::io::ErrorKind;
@@ -402,11 +403,26 @@ fn at_address(rt: &HostRuntime, address: &str) -> Result<Clients, Fault> {
     })
 }
 
+/// Returns a path as it stands in a URI: its letters, digits and `/-._~`, and each other byte as `%` and two digits.
+fn in_uri(alloc: Global, path: &str) -> Result<String, AllocError> {
+    let escaped = NON_ALPHANUMERIC
+        .remove(b'/')
+        .remove(b'-')
+        .remove(b'.')
+        .remove(b'_')
+        .remove(b'~');
+    let mut text = String::new(alloc);
+    utf8_percent_encode(path, escaped).append_to(&mut text)?;
+    Ok(text)
+}
+
 /// Listens for clients at a Unix socket.
 fn at_socket(rt: &HostRuntime, path: String) -> Result<Clients, Fault> {
     let alloc = rt.alloc();
     let name = path.as_str();
-    let uri = format!(in alloc; "nbd+unix:///disk?socket={name}")?;
+    let query = in_uri(alloc, name)?;
+    let query = query.as_str();
+    let uri = format!(in alloc; "nbd+unix:///disk?socket={query}")?;
     match listen_at_path(rt, name) {
         Ok(listener) => Ok(Clients {
             listener,

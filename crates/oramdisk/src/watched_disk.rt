@@ -45,6 +45,8 @@ impl<D: BlockDevice, F: FailureKeeper<D>> BlockDevice for WatchedDisk<D, F> {
 
     ghost hears = { D.hears };
 
+    ghost asked = { λ d blocks e. D.asked d.disk blocks e.disk };
+
     ghost had = { λ d events e. HadWithin D.had d.disk events e.disk };
 
     ghost holds = { λ may_lie d world bytes. D.holds may_lie d.disk world bytes };

@@ -44,6 +44,8 @@ impl BlockDevice for StoppingDisk {
 
     ghost hears = { ⟦<MemDisk as BlockDevice>⟧.hears };
 
+    ghost asked = { λ _ _ _. Unit {0} };
+
     ghost had = { λ d events e. HadWithin ⟦<MemDisk as BlockDevice>⟧.had d.disk events e.disk };
 
     ghost holds = { λ may_lie d world bytes. ⟦<MemDisk as BlockDevice>⟧.holds may_lie d.disk world bytes };

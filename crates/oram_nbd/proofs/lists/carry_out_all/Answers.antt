@@ -1,4 +1,4 @@
-use Rattle.std.proofs.Common.{◌≡◌, ◌-◌, ◌≤◌, ℕ, List, [], ◌++◌, Bool, length, map, take, drop, sym, ap, ◌∙◌, subst, rules, arith}
+use Rattle.std.proofs.Common.{◌≡◌, ◌-◌, ◌≤◌, ℕ, List, [], ◌++◌, Bool, length, map, take, drop, sym, ap, ◌∙◌, subst, rules, arith, length-append}
 use Rattle.std.proofs.lemmas.Result.{err_from_is_err_and}
 use Rattle.oram_nbd.specs.Operations.{AreBegun, TouchSomeByte, read_len}
 use Rattle.oram_nbd.proofs.Beside.{at_rest as calls_none, joined_calls}
@@ -6,6 +6,7 @@ use Rattle.oram_nbd.proofs.Calls.{at_rest, stays_on}
 use Rattle.oram_nbd.proofs.Saving.{all_at_rest, all_joined, part_after_all, part_at_rest, part_behind}
 use Rattle.oram_nbd.proofs.ListSteps.{Carried, begun_nothing, carried_begun, carried_none, carried_slice, carried_stopped, lies_if, slice_few, slice_lens, slice_split, touch_split}
 use Rattle.oram_nbd.proofs.lists.carry_out_all.Goals as goal
+use Rattle.oram_nbd.proofs.Accesses.{asks_all, asks_more, asks_none}
 
 pub returns-then-has_failed-clause-goes : goal.returns-then-has_failed-clause-goes
 returns-then-has_failed-clause-goes g c =
@@ -31,6 +32,7 @@ loop-alloc-init g c =
         subst (λ (gs : List (List ℕ)). Carried c.args.operations.now old.held (length gs) gs old.held) (sym none) (carried_none c.args.operations.now old.held),
         all_at_rest (λ touched. subst (λ (gs : List (List ℕ)). TouchSomeByte (take (length gs) c.args.operations.now)) none touched),
       ));
+      asked = asks_none g.D.BlockDevice.asked _ c.args.operations.now _ c.args.disk.now (ap length none);
       stays = at_rest _;
     }
 
@@ -75,5 +77,10 @@ loop-alloc-preserved g c =
         all_joined first.1 second.0.2
             (λ touched. touch_split (take (length given) ops) (take (length more) (take (length ops - c.len-in-loop-alloc.result) (drop c.len-in-loop-alloc.result ops))) (subst TouchSomeByte split touched)),
       ));
+      asked = asks_more g.D.BlockDevice.asked _ _ ops (length given) c.len-in-loop-alloc.result _ (length more) _ _ _ inv.stays.same_block_len here (ap length both ∙ length-append given more) inv.asked c.in_ok-more.ensures.asks;
       stays = stays_on inv.stays c.in_ok-more.ensures.call.stays;
     }
+
+pub returns-clause-asks : goal.returns-clause-asks
+returns-clause-asks g c =
+    asks_all g.D.BlockDevice.asked _ c.args.operations.now (length c.loop-alloc.given.items) c.args.disk.now c.loop-alloc.disk (omega (arith, c.loop-alloc-test.false, c.len.ensures)) c.loop-alloc.invariant.asked

@@ -15,7 +15,7 @@ use Rattle.oram_nbd.proofs.negotiation.take_option.Goals as goal
 pub returns-in_err-send-clause-err : goal.returns-in_err-send-clause-err
 returns-in_err-send-clause-err g c =
     let p = err_from_is_err_and c.from_residual-in_err-send.result c.from_residual-in_err-send.ensures.1 in
-    let e : ExportValue = export_value c.args.export.now.name.now c.args.export.now.size c.args.export.now.preferred in
+    let e : ExportValue = export_value c.args.export.now.name.now c.args.export.now.size c.args.export.now.minimum c.args.export.now.preferred in
     let skipped = c.in_ok-skip.ensures.ok in
     let text = c.deref.result.now in
     let x : AnsweredOption = record { option = c.args.head.option; content = skipped.0; answer = text } in
@@ -25,7 +25,7 @@ returns-in_err-send-clause-err g c =
 
 pub returns-then-head-gt-LONGEST_OPTION-clause-ok : goal.returns-then-head-gt-LONGEST_OPTION-clause-ok
 returns-then-head-gt-LONGEST_OPTION-clause-ok g c =
-    let e : ExportValue = export_value c.args.export.now.name.now c.args.export.now.size c.args.export.now.preferred in
+    let e : ExportValue = export_value c.args.export.now.name.now c.args.export.now.size c.args.export.now.minimum c.args.export.now.preferred in
     let skipped = c.in_ok-skip.ensures.ok in
     let text = c.deref.result.now in
     let x : AnsweredOption = record { option = c.args.head.option; content = skipped.0; answer = text } in
@@ -36,7 +36,7 @@ pub returns-then-eq-clause-err : goal.returns-then-eq-clause-err
 returns-then-eq-clause-err g c =
     let skipped = c.in_ok-skip.ensures.ok in
     let long = skipped.1 ∙ c.from.ensures in
-    let e : ExportValue = export_value c.args.export.now.name.now c.args.export.now.size c.args.export.now.preferred in
+    let e : ExportValue = export_value c.args.export.now.name.now c.args.export.now.size c.args.export.now.minimum c.args.export.now.preferred in
     (skipped.0, grind (arith, c.eq.ensures, c.if-eq.true), long, long_name e c.args.zeroes skipped.0 c.requires.name (subst (λ (n : ℕ). LONGEST_OPTION < n) (sym long) c.if-head-gt-LONGEST_OPTION.true), skipped.2, Appends-nil (g.W.Write.contents c.args.writer.now))
 
 -- one that is answered
@@ -44,7 +44,7 @@ returns-then-eq-clause-err g c =
 pub returns-in_err-send-2-clause-err : goal.returns-in_err-send-2-clause-err
 returns-in_err-send-2-clause-err g c =
     let p = err_from_is_err_and c.from_residual-in_err-send-2.result c.from_residual-in_err-send-2.ensures.1 in
-    let e : ExportValue = export_value c.args.export.now.name.now c.args.export.now.size c.args.export.now.preferred in
+    let e : ExportValue = export_value c.args.export.now.name.now c.args.export.now.size c.args.export.now.minimum c.args.export.now.preferred in
     let content = c.in_ok-content.content.items in
     let came = c.in_ok-content.ensures.ok in
     let answer = c.in-Some.answer in
@@ -57,7 +57,7 @@ returns-in_err-send-2-clause-err g c =
 
 pub returns-clause-ok : goal.returns-clause-ok
 returns-clause-ok g c =
-    let e : ExportValue = export_value c.args.export.now.name.now c.args.export.now.size c.args.export.now.preferred in
+    let e : ExportValue = export_value c.args.export.now.name.now c.args.export.now.size c.args.export.now.minimum c.args.export.now.preferred in
     let content = c.in_ok-content.content.items in
     let came = c.in_ok-content.ensures.ok in
     let answer = c.in-Some.answer in

@@ -1,11 +1,13 @@
-use Rattle.std.proofs.Common.{◌≡◌, ◌+◌, ◌-◌, ◌*◌, ◌≤◌, ℕ, [], take, drop, refl, sym, ap, ◌∙◌, subst, arith, rules}
+use Rattle.std.proofs.Common.{◌≡◌, ◌+◌, ◌-◌, ◌*◌, ◌≤◌, ℕ, [], take, drop, refl, sym, ap, ◌∙◌, subst, arith, rules, ◌<◌, IfOk}
 use Rattle.std.proofs.lemmas.Result.{err_from_is_err_and}
 use Rattle.oram_nbd.specs.Bytes.{bytes_at}
 use Rattle.oram_nbd.specs.declared.operations.Operation.TheVariants.{Read}
 use Rattle.oram_nbd.proofs.Beside.{weaker, at_rest as calls_none}
-use Rattle.oram_nbd.proofs.Edges.{after_at, after_none, back_whole, before_at, block_least, edge_either, front_whole, rest_of}
+use Rattle.oram_nbd.proofs.Edges.{after_at, after_none, back_whole, before_at, block_least, edge_either, front_whole, rest_of, mul-one}
 use Rattle.oram_nbd.proofs.Saving.{all_at_rest, part_after_all}
 use Rattle.oram_nbd.proofs.ranges.read_edges.Goals as goal
+use Rattle.oram_nbd.proofs.Accesses.{asks_one, edge_is, one_asked, two_edges}
+use Rattle.oram_nbd.specs.Accesses.{one_if}
 
 pub returns-then-ahead-behind-eq0-clause-goes : goal.returns-then-ahead-behind-eq0-clause-goes
 returns-then-ahead-behind-eq0-clause-goes g c =
@@ -92,3 +94,34 @@ returns-clause-goes g c =
       ),
       λ e. cc,
     ))
+
+pub returns-then-cover-eq1-clause-goes : goal.returns-then-cover-eq1-clause-goes
+returns-then-cover-eq1-clause-goes g c =
+    let b = g.D.BlockDevice.block_len c.args.disk.now in
+    let one : b ≡ b * c.args.cover.count = sym (mul-one b) ∙ ap (λ (n : ℕ). b * n) (sym c.if-cover-eq1.true) in
+    weaker c.read_one_edge.ensures.goes (λ may_lie world old new h step. (
+      step.0,
+      subst (λ (n : ℕ). IfOk c.read_one_edge.result (λ e. (e.before ≡ take c.args.cover.start (bytes_at old.held (b * c.args.cover.first) n)) × (e.after ≡ drop (c.args.cover.start + c.args.len) (bytes_at old.held (b * c.args.cover.first) n))))
+          one step.1,
+      step.2,
+    ))
+
+pub returns-clause-asks : goal.returns-clause-asks
+returns-clause-asks g c = λ some_rest.
+    let b = g.D.BlockDevice.block_len c.args.disk.now in
+    let k : ℕ = c.from-block.result in
+    let first : ℕ = c.args.cover.first in
+    let count : ℕ = c.args.cover.count in
+    let e : ℕ = c.args.cover.start + c.args.len in
+    let same : c.from-block.result ≡ b = c.from-block.ensures ∙ c.block_bytes.ensures.value in
+    let some : 0 < b = omega (arith, c.block_bytes.ensures.some, c.block_bytes.ensures.value) in
+    let two : 1 < count = omega (arith, c.requires.some, c.if-cover-eq1.false) in
+    let in_all : (k * first + k * count) - k * first - e ≡ k * count - e = omega arith in
+    let rest : (k * first + k * count) - k * first - e ≡ b * count - e = in_all ∙ ap (λ (n : ℕ). n * count - e) same in
+    let ahead : c.edge_len-ahead.result ≡ b * one_if c.args.cover.start =
+    edge_is b c.args.cover.start c.edge_len-ahead.result c.edge_len-ahead.ensures.none (λ more. c.edge_len-ahead.ensures.one more ∙ same) in
+    let behind : c.edge_len-behind.result ≡ b * one_if (b * count - e) =
+    edge_is b (b * count - e) c.edge_len-behind.result (λ none. c.edge_len-behind.ensures.none (rest ∙ none)) (λ more. c.edge_len-behind.ensures.one (subst (λ (n : ℕ). 0 < n) (sym rest) more) ∙ same) in
+    asks_one g.D.BlockDevice.asked c.args.disk.now c.read_two.new.disk _ _
+    (two_edges b first count c.args.cover.start (b * count - e) _ _ _ _ some two (ap (λ (n : ℕ). n * first) same) ahead
+    (ap (λ (n : ℕ). (n * first + n * count) - c.edge_len-behind.result) same ∙ ap (λ (n : ℕ). (b * first + b * count) - n) behind) behind) (one_asked g.D.BlockDevice.asked c.args.disk.now c.read_two.new.disk _ c.in_ok-given.ensures.asks)

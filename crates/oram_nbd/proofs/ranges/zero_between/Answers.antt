@@ -8,6 +8,9 @@ use Rattle.oram_nbd.proofs.Edges.{are_edges, zeroing, zeroing_begun, zeroing_don
 use Rattle.oram_nbd.proofs.Saving.{all_weaker, part_at_rest, part_weaker}
 use Rattle.oram_nbd.proofs.Splices.{begun_none}
 use Rattle.oram_nbd.proofs.ranges.zero_between.Goals as goal
+use Rattle.oram_nbd.proofs.Accesses.{asks_one, edge_is, edges_fit, filled_back, filled_front, zeroed_blocks}
+use Rattle.oram_nbd.specs.Accesses.{one_if}
+use Rattle.std.proofs.lemmas.List.{length-replicate}
 
 pub returns-in_err-front-clause-goes : goal.returns-in_err-front-clause-goes
 returns-in_err-front-clause-goes g c =
@@ -165,3 +168,33 @@ returns-clause-goes g c =
       λ e. cc,
       all_weaker step.2 (λ some. subst TouchSomeByte (sym ops) (zeroing_touches b first count before after c.args.len a z positive c.requires.some edges)),
     ))
+
+pub returns-clause-asks : goal.returns-clause-asks
+returns-clause-asks g c =
+    let b = g.D.BlockDevice.block_len c.args.disk.now in
+    let first : ℕ = c.args.cover.first in
+    let count : ℕ = c.args.cover.count in
+    let before : List ℕ = c.args.edges.now.before in
+    let after : List ℕ = c.args.edges.now.after in
+    let a : ℕ = c.edge_len-ahead.result in
+    let z : ℕ = c.edge_len-behind.result in
+    let same : c.from-block.result ≡ b = c.from-block.ensures ∙ c.block_bytes.ensures.value in
+    let positive : 0 < b = omega (arith, c.requires.before) in
+    let none : c.in_ok-front.front.items ≡ zeroes (a - length before) = search rules in
+    let none' : c.in_ok-back.back.items ≡ zeroes (z - length after) = search rules in
+    let is : c.from_vec.result ≡ before ++ zeroes (a - length before) ++ [] =
+    c.from_vec.ensures ∙ c.in_ok-first.ensures ∙ ap (λ (l : List ℕ). l ++ c.deref.result.now ++ []) c.as_slice.ensures ∙ ap (λ (l : List ℕ). before ++ l ++ []) (c.deref.ensures.value ∙ none) in
+    let is' : c.from_vec-2.result ≡ [] ++ zeroes (z - length after) ++ after =
+    c.from_vec-2.ensures ∙ c.in_ok-last.ensures ∙ ap (λ (l : List ℕ). [] ++ c.deref-2.result.now ++ l) c.as_slice-2.ensures ∙ ap (λ (l : List ℕ). [] ++ l ++ after) (c.deref-2.ensures.value ∙ none') in
+    let ahead : a ≡ b * one_if (length before) =
+    edge_is b (length before) a (λ e. c.edge_len-ahead.ensures.none (c.len.ensures ∙ e)) (λ more. c.edge_len-ahead.ensures.one (subst (λ (n : ℕ). 0 < n) (sym c.len.ensures) more) ∙ same) in
+    let behind : z ≡ b * one_if (length after) =
+    edge_is b (length after) z (λ e. c.edge_len-behind.ensures.none (c.len-2.ensures ∙ e)) (λ more. c.edge_len-behind.ensures.one (subst (λ (n : ℕ). 0 < n) (sym c.len-2.ensures) more) ∙ same) in
+    let front_len : length c.from_vec.result ≡ a = ap length is ∙ filled_front before (zeroes (a - length before)) a (length-replicate (a - length before) 0) (subst (λ (n : ℕ). n ≤ a) c.len.ensures c.edge_len-ahead.ensures.least) in
+    let back_len : length c.from_vec-2.result ≡ z = ap length is' ∙ filled_back after (zeroes (z - length after)) z (length-replicate (z - length after) 0) (subst (λ (n : ℕ). n ≤ z) c.len-2.ensures c.edge_len-behind.ensures.least) in
+    let fits : one_if (length before) + one_if (length after) ≤ count = edges_fit (length before) (length after) count c.requires.some c.requires.apart in
+    asks_one g.D.BlockDevice.asked c.args.disk.now c.carry_out.new.self _ _
+    (zeroed_blocks b first count (one_if (length before)) (one_if (length after)) _ _ _ _ _ _ positive fits
+    (ap (λ (n : ℕ). n * first) same) (front_len ∙ ahead) (ap (λ (n : ℕ). n * first + a) same ∙ ap (λ (n : ℕ). b * first + n) ahead)
+    (ap (λ (n : ℕ). ((n * first + n * count) - z) - (n * first + a)) same ∙ ap (λ (n : ℕ). ((b * first + b * count) - n) - (b * first + a)) behind ∙ ap (λ (n : ℕ). ((b * first + b * count) - b * one_if (length after)) - (b * first + n)) ahead)
+    (ap (λ (n : ℕ). (n * first + n * count) - z) same ∙ ap (λ (n : ℕ). (b * first + b * count) - n) behind) (back_len ∙ behind)) c.in_ok-carry_out.ensures.asks

@@ -18,7 +18,7 @@ returns-in_err-carry_out_batch-clause-err g c =
     let h = c.gather-batch.ensures.gathered in
     let f = c.in_err-carry_out_batch.field-0.0 in
     if_err _ _ _ _ p.1 p.2
-    (batch_broken _ _ _ _ _ _ _ _ _ _ _ _ c.loop-batch_number.invariant.served c.loop-batch_number.invariant.stays.same_size h _ _ f (c.in_err-carry_out_batch.ensures.err h.arrived h.collected))
+    (batch_broken _ _ _ _ _ _ _ _ _ _ _ c.loop-batch_number.invariant.served c.loop-batch_number.invariant.stays.same_size h _ _ f (c.in_err-carry_out_batch.ensures.err h.arrived h.collected))
 
 pub returns-in_err-without_memory-clause-err : goal.returns-in_err-without_memory-clause-err
 returns-in_err-without_memory-clause-err g c =
@@ -28,7 +28,7 @@ returns-in_err-without_memory-clause-err g c =
     let call = c.in_ok-carry_out_batch.ensures in
     let sized : (may_lie : Bool) (world : g.D.BlockDevice.World) (bytes : List ℕ) → g.D.BlockDevice.holds may_lie c.carry_out_batch.new.disk world bytes → length bytes ≡ g.D.BlockDevice.size c.args.disk.now =
     λ may_lie world bytes held. c.blocks-blocks.ensures.held may_lie world bytes held ∙ call.stays.same_size ∙ inv.stays.same_size in
-    let two = batch_served _ _ _ _ _ _ _ _ _ _ _ _ inv.served inv.stays.same_size h _ _ call.stays.still_failed (call.ok h.arrived h.collected) in
+    let two = batch_served _ _ _ _ _ _ _ _ _ _ _ inv.served inv.stays.same_size h _ _ call.stays.still_failed (call.ok h.arrived h.collected) in
     let wrong = c.in_err-without_memory.ensures.err in
     let k = wrong.1 h.part _ h.ends in
     if_err _ _ _ _ p.1 (p.2 ∙ wrong.0) (without_memory_broken _ _ _ _ _ _ _ two _ c.of-sizes.ensures.size sized _ k.0 k.1 k.2 _ k.3)
@@ -41,7 +41,7 @@ returns-in_err-flush-clause-err g c =
     let call = c.in_ok-carry_out_batch.ensures in
     let sized : (may_lie : Bool) (world : g.D.BlockDevice.World) (bytes : List ℕ) → g.D.BlockDevice.holds may_lie c.carry_out_batch.new.disk world bytes → length bytes ≡ g.D.BlockDevice.size c.args.disk.now =
     λ may_lie world bytes held. c.blocks-blocks.ensures.held may_lie world bytes held ∙ call.stays.same_size ∙ inv.stays.same_size in
-    let two = batch_served _ _ _ _ _ _ _ _ _ _ _ _ inv.served inv.stays.same_size h _ _ call.stays.still_failed (call.ok h.arrived h.collected) in
+    let two = batch_served _ _ _ _ _ _ _ _ _ _ _ inv.served inv.stays.same_size h _ _ call.stays.still_failed (call.ok h.arrived h.collected) in
     let k = c.in_ok-without_memory.ensures.ok h.part _ h.ends in
     let three = without_memory_served _ _ _ _ _ _ _ two _ c.of-sizes.ensures.size sized _ k.0 k.1 k.2 _ _ k.3 k.4 in
     let four = flushed _ _ _ _ _ _ _ three _ c.flush.ensures.keeps in
@@ -55,7 +55,7 @@ returns-in_err-more-clause-err g c =
     let call = c.in_ok-carry_out_batch.ensures in
     let sized : (may_lie : Bool) (world : g.D.BlockDevice.World) (bytes : List ℕ) → g.D.BlockDevice.holds may_lie c.carry_out_batch.new.disk world bytes → length bytes ≡ g.D.BlockDevice.size c.args.disk.now =
     λ may_lie world bytes held. c.blocks-blocks.ensures.held may_lie world bytes held ∙ call.stays.same_size ∙ inv.stays.same_size in
-    let two = batch_served _ _ _ _ _ _ _ _ _ _ _ _ inv.served inv.stays.same_size h _ _ call.stays.still_failed (call.ok h.arrived h.collected) in
+    let two = batch_served _ _ _ _ _ _ _ _ _ _ _ inv.served inv.stays.same_size h _ _ call.stays.still_failed (call.ok h.arrived h.collected) in
     let k = c.in_ok-without_memory.ensures.ok h.part _ h.ends in
     let three = without_memory_served _ _ _ _ _ _ _ two _ c.of-sizes.ensures.size sized _ k.0 k.1 k.2 _ _ k.3 k.4 in
     let four = flushed _ _ _ _ _ _ _ three _ c.flush.ensures.keeps in
@@ -75,7 +75,7 @@ returns-then-not-more-clause-ok g c =
     let call = c.in_ok-carry_out_batch.ensures in
     let sized : (may_lie : Bool) (world : g.D.BlockDevice.World) (bytes : List ℕ) → g.D.BlockDevice.holds may_lie c.carry_out_batch.new.disk world bytes → length bytes ≡ g.D.BlockDevice.size c.args.disk.now =
     λ may_lie world bytes held. c.blocks-blocks.ensures.held may_lie world bytes held ∙ call.stays.same_size ∙ inv.stays.same_size in
-    let two = batch_served _ _ _ _ _ _ _ _ _ _ _ _ inv.served inv.stays.same_size h _ _ call.stays.still_failed (call.ok h.arrived h.collected) in
+    let two = batch_served _ _ _ _ _ _ _ _ _ _ _ inv.served inv.stays.same_size h _ _ call.stays.still_failed (call.ok h.arrived h.collected) in
     let k = c.in_ok-without_memory.ensures.ok h.part _ h.ends in
     let three = without_memory_served _ _ _ _ _ _ _ two _ c.of-sizes.ensures.size sized _ k.0 k.1 k.2 _ _ k.3 k.4 in
     let four = flushed _ _ _ _ _ _ _ three _ c.flush.ensures.keeps in
@@ -92,7 +92,7 @@ loop-batch_number-preserved g c =
     let call = c.in_ok-carry_out_batch.ensures in
     let sized : (may_lie : Bool) (world : g.D.BlockDevice.World) (bytes : List ℕ) → g.D.BlockDevice.holds may_lie c.carry_out_batch.new.disk world bytes → length bytes ≡ g.D.BlockDevice.size c.args.disk.now =
     λ may_lie world bytes held. c.blocks-blocks.ensures.held may_lie world bytes held ∙ call.stays.same_size ∙ inv.stays.same_size in
-    let two = batch_served _ _ _ _ _ _ _ _ _ _ _ _ inv.served inv.stays.same_size h _ _ call.stays.still_failed (call.ok h.arrived h.collected) in
+    let two = batch_served _ _ _ _ _ _ _ _ _ _ _ inv.served inv.stays.same_size h _ _ call.stays.still_failed (call.ok h.arrived h.collected) in
     let k = c.in_ok-without_memory.ensures.ok h.part _ h.ends in
     let three = without_memory_served _ _ _ _ _ _ _ two _ c.of-sizes.ensures.size sized _ k.0 k.1 k.2 _ _ k.3 k.4 in
     let four = flushed _ _ _ _ _ _ _ three _ c.flush.ensures.keeps in

@@ -1,10 +1,12 @@
-use Rattle.std.proofs.Common.{◌<◌, ◌*◌, sym, ◌∙◌, subst, arith}
+use Rattle.std.proofs.Common.{ℕ, List, ◌<◌, ◌*◌, sym, ◌∙◌, subst, arith}
 use Rattle.std.proofs.lemmas.Result.{err_from_is_err_and}
 use Rattle.oram_nbd.specs.Operations.{AreBegun, all_done}
 use Rattle.oram_nbd.proofs.Beside.{at_rest as calls_none}
 use Rattle.oram_nbd.proofs.Saving.{part_after_all, part_at_rest}
 use Rattle.oram_nbd.proofs.ListSteps.{begun_nothing}
 use Rattle.oram_volume.specs.Blocks.{IsLaidOut}
+use Rattle.oram_volume.specs.CarriedOut.{AsksInRounds}
+use Rattle.oram_volume.proofs.Rounded.{all_at}
 use Rattle.oram_volume.specs.HeldArrays.{HoldsBytes, running}
 use Rattle.oram_volume.proofs.DiskCalls.{as_bytes, by_lies, laid_all, laid_part}
 use Rattle.oram_volume.proofs.LaidOperations.{begun_all_of, given_are, laid_data, laid_done, laid_front, touched_have_commands}
@@ -66,3 +68,9 @@ returns-clause-goes g c =
       ),
       k.2,
     ))
+
+pub returns-clause-asks : goal.returns-clause-asks
+returns-clause-asks g c =
+    let d = c.args.self.now.core.device in
+    subst (λ (blocks : List ℕ). AsksInRounds g.B.BatchLink.batches g.K.Keeper.reads_back (running g.S.Sealer.cipher g.T.Tape.words c.args.self.now) blocks (running g.S.Sealer.cipher g.T.Tape.words c.carry_out_rounds.new.self))
+    (all_at d.block_bytes c.args.operations.now) c.in_ok-found.ensures.asks

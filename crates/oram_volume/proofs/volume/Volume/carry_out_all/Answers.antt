@@ -1,4 +1,4 @@
-use Rattle.std.proofs.Common.{◌≡◌, ◌<◌, ◌≤◌, Bool, true, false, [], ◌∷◌, length, count_by, Option, Some, None, is_some, refl, sym, ap, ◌∙◌, subst, arith, rules, inl, inr}
+use Rattle.std.proofs.Common.{◌≡◌, ◌<◌, ◌≤◌, Bool, true, false, [], ◌∷◌, length, count_by, Result, Ok, Err, OnOk, Option, Some, None, is_some, refl, sym, ap, ◌∙◌, subst, arith, rules, inl, inr}
 use Rattle.std.proofs.lemmas.Result.{err_from_is_err_and}
 use Rattle.oram_semantics.specs.Run.{is_accepted}
 use Rattle.oram_semantics.specs.declared.events.Reason.{Reason}
@@ -9,9 +9,10 @@ use Rattle.oram_rounds.specs.Process.{process}
 use Rattle.oram_rounds.specs.Process.Act.{Keeps}
 use Rattle.oram_volume.specs.HeldArrays.{HoldsArray, running}
 use Rattle.oram_volume.proofs.Answered.{NoneFailed}
-use Rattle.oram_volume.proofs.Carried.{all_done, first_none, front_of, has_failed_by, lied, lies_if, none_begun, performed_done, performed_left, performed_stops, some_left, submitted_done}
+use Rattle.oram_volume.proofs.Carried.{all_done, asked_round, first_none, front_of, has_failed_by, lied, lies_if, none_begun, performed_done, performed_left, performed_stops, some_left, submitted_done}
 use Rattle.oram_volume.proofs.HeldArrays.{alive, kept_first}
 use Rattle.oram_volume.proofs.KeptWork.{broken_round_keeps}
+use Rattle.oram_volume.proofs.KeptFirst.{broken_round_sends, kept_then}
 use Rattle.oram_volume.proofs.volume.Volume.carry_out_all.Goals as goal
 
 none_by : (o : Option Reason) → is_some o ≡ false → o ≡ None
@@ -93,7 +94,7 @@ returns-in-Ok-2-clause-goes g c =
     c.perform-performed.new.core c.perform-performed.new.link c.perform-performed.new.keeper c.perform-performed.ensures.kept (Keeps true ∷ k.0) k.2
     (front_of g.S.Sealer.cipher g.T.Tape.words g.B.BatchLink.batches g.K.Keeper.reads_back g.met.B.BatchLink.are_batches c.args.self.now c.resume.new.self c.resume.ensures.kept c.resume.ensures.tape
     c.resume.ensures.goes c.args.commands.items c.requires c.submit_all.new.core c.submit_all.new.tape c.submit_all.ensures.kept c.submit_all.ensures.tape c.in_ok-begun.field-0.notes.items c.in_ok-begun.ensures.ok)
-    c.in_ok-resume.ensures.no_work lives (λ rests. inr (kept_first k.0)))
+    c.in_ok-resume.ensures.no_work lives (kept_then (Keeps true ∷ k.0) k.0 refl) (λ rests. inr (kept_first k.0)))
     (λ may_lie world old new h some. (some.0, λ e. cc, some.1))
 
 pub returns-in-Ok-2-clause-stopped : goal.returns-in-Ok-2-clause-stopped
@@ -128,7 +129,7 @@ returns-in-Err-clause-goes g c =
     c.perform-performed.new.core c.perform-performed.new.link c.perform-performed.new.keeper c.perform-performed.ensures.kept k.0 k.2
     (front_of g.S.Sealer.cipher g.T.Tape.words g.B.BatchLink.batches g.K.Keeper.reads_back g.met.B.BatchLink.are_batches c.args.self.now c.resume.new.self c.resume.ensures.kept c.resume.ensures.tape
     c.resume.ensures.goes c.args.commands.items c.requires c.submit_all.new.core c.submit_all.new.tape c.submit_all.ensures.kept c.submit_all.ensures.tape c.in_ok-begun.field-0.notes.items c.in_ok-begun.ensures.ok)
-    c.in_ok-resume.ensures.no_work lives
+    c.in_ok-resume.ensures.no_work lives (broken_round_sends k.0 k.1)
     (broken_round_keeps g.B.BatchLink.batches g.K.Keeper.reads_back (scheme_of g.S.Sealer.cipher c.submit_all.new.core) k.0
     (process c.submit_all.new.core.state c.resume.new.self.link c.resume.new.self.keeper)
     (process c.perform-performed.new.core.state c.perform-performed.new.link c.perform-performed.new.keeper) k.1 k.2))
@@ -152,3 +153,23 @@ returns-in-Err-clause-stopped g c = λ e.
           (front_of g.S.Sealer.cipher g.T.Tape.words g.B.BatchLink.batches g.K.Keeper.reads_back g.met.B.BatchLink.are_batches c.args.self.now c.resume.new.self c.resume.ensures.kept c.resume.ensures.tape
           c.resume.ensures.goes c.args.commands.items c.requires c.submit_all.new.core c.submit_all.new.tape c.submit_all.ensures.kept c.submit_all.ensures.tape c.in_ok-begun.field-0.notes.items c.in_ok-begun.ensures.ok) (inr ([], refl))
     ]
+
+-- a fact that holds whatever the result
+whatever : {X Y P : Type 0} (r : Result X Y) → P → OnOk r P
+whatever (Ok x) h = h
+whatever (Err e) h = tt
+
+pub returns-in_default-clause-asks : goal.returns-in_default-clause-asks
+returns-in_default-clause-asks g c =
+    let w = c.resume.ensures.takes_none in
+    whatever c.unanswered.result (asked_round g.S.Sealer.cipher g.T.Tape.words g.B.BatchLink.batches g.K.Keeper.reads_back g.met.B.BatchLink.are_batches c.args.self.now c.resume.new.self c.resume.ensures.kept c.resume.ensures.tape
+    c.resume.ensures.goes c.args.commands.items c.requires c.submit_all.new.core c.submit_all.new.tape c.submit_all.ensures.kept c.submit_all.ensures.tape
+    c.submit_all.new.core c.resume.new.self.link c.resume.new.self.keeper (refl, refl) [] refl w.0 w.1 c.in_ok-begun.field-0.notes.items c.in_ok-begun.ensures.ok)
+
+pub returns-in-Ok-3-clause-asks : goal.returns-in-Ok-3-clause-asks
+returns-in-Ok-3-clause-asks g c =
+    let k = c.in-Ok.ensures.ok in
+    let w = c.resume.ensures.takes_none in
+    asked_round g.S.Sealer.cipher g.T.Tape.words g.B.BatchLink.batches g.K.Keeper.reads_back g.met.B.BatchLink.are_batches c.args.self.now c.resume.new.self c.resume.ensures.kept c.resume.ensures.tape
+    c.resume.ensures.goes c.args.commands.items c.requires c.submit_all.new.core c.submit_all.new.tape c.submit_all.ensures.kept c.submit_all.ensures.tape
+    c.perform-performed.new.core c.perform-performed.new.link c.perform-performed.new.keeper c.perform-performed.ensures.kept (Keeps true ∷ k.0) k.2 w.0 w.1 c.in_ok-begun.field-0.notes.items c.in_ok-begun.ensures.ok

@@ -1,7 +1,7 @@
-use Rattle.std.proofs.Common.{inr, ◌≡◌, ◌+◌, ◌/◌, ◌^◌, ◌<◌, ◌≤◌, ◌++◌, [], All, List, ℕ, length, refl, sym, ap, ◌∙◌, subst, append_assoc, append-nil, arith, rules}
+use Rattle.std.proofs.Common.{inl, inr, ◌⊎◌, ◌∷◌, map, ◌≡◌, ◌+◌, ◌/◌, ◌^◌, ◌<◌, ◌≤◌, ◌++◌, [], All, List, ℕ, length, refl, sym, ap, ◌∙◌, subst, append_assoc, append-nil, arith, rules}
 use Rattle.std.proofs.lemmas.Bool.Decides.{nat_tests}
 use Rattle.std.proofs.lemmas.Grind.{common_steps}
-use Rattle.std.proofs.lemmas.List.{nil_from_length}
+use Rattle.std.proofs.lemmas.List.{length-map, map-append, nil_from_length}
 use Rattle.std.proofs.lemmas.Result.{err_from_is_err_and}
 use Rattle.std.specs.List.{flat_map}
 use Rattle.oram_geometry.specs.declared.Sizes.{Sizes}
@@ -11,7 +11,12 @@ use Rattle.oram_nbd.proofs.Saving.{all_at_rest, all_joined, all_weaker, part_aft
 use Rattle.oram_semantics.specs.declared.events.Command.{Command}
 use Rattle.oram_semantics.specs.declared.events.Reply.{Reply}
 use Rattle.oram_session.proofs.CoreSteps.{same_trans}
-use Rattle.oram_volume.specs.CarriedOut.{IsAfterFirst, after_commands, bodies_from}
+use Rattle.oram_core.specs.declared.machine.TheConstants.{MOST_WAITING}
+use Rattle.oram_semantics.specs.Events.{address_of}
+use Rattle.oram_link_laws.proofs.Exchanged.{folds_join}
+use Rattle.oram_volume.specs.HeldArrays.{running}
+use Rattle.oram_volume.proofs.Rounded.{cut_all, cut_next, cut_none}
+use Rattle.oram_volume.specs.CarriedOut.{AsksRound, IsAfterFirst, after_commands, bodies_from}
 use Rattle.oram_volume.specs.DiskCalls.{data_of}
 use Rattle.oram_volume.specs.RangeCommands.{FitsDevice, all_commands, rest_of}
 use Rattle.oram_volume.proofs.DiskCalls.{stops_after}
@@ -25,6 +30,9 @@ loop-round_number-init g c = record {
   still = λ h. h;
   done = [];
   split = sym (rest_all c.args.self.now.core.device.block_bytes c.args.operations.now);
+  rounds = [];
+  cut = cut_none MOST_WAITING _ _ (ap (λ (cs : List Command). map address_of cs) (rest_all c.args.self.now.core.device.block_bytes c.args.operations.now));
+  asked = refl;
   so_far = calls_none (λ may_lie world old h. (c.in_ok-found.ensures.items, refl, all_at_rest (λ some. some refl)));
 }
 
@@ -171,6 +179,7 @@ loop-round_number-preserved g c =
     subst (λ (n : ℕ). rest_of n ops c.loop-round_number.cursor.operation c.loop-round_number.cursor.block ≡ commands ++ rest_of n ops c.next_round.new.cursor.operation c.next_round.new.cursor.block) same
     c.in_ok-commands.ensures.next in
     let split : all_commands b ops ≡ inv.done ++ (commands ++ rest) = inv.split ∙ ap (λ (l : List Command). inv.done ++ l) next in
+    let full : (length commands ≡ MOST_WAITING) ⊎ (rest ≡ []) = subst (λ (n : ℕ). (length commands ≡ MOST_WAITING) ⊎ (rest_of n ops c.next_round.new.cursor.operation c.next_round.new.cursor.block ≡ [])) same c.in_ok-commands.ensures.full in
     let replies = c.in_ok-replies.replies.items in
     let some : 0 < length commands = first_of (grind (arith, nat_tests, c.is_empty.ensures), grind (arith, nat_tests, common_steps), search (rules, nat_tests)) in
     let added : c.append_data.new.out.items ≡ c.loop-round_number.found.items ++ flat_map (λ (r : Reply). data_of r.body) replies =
@@ -180,6 +189,11 @@ loop-round_number-preserved g c =
       still = λ h. c.in_ok-replies.ensures.still (inv.still h);
       done = inv.done ++ commands;
       split = split ∙ sym (append_assoc inv.done commands rest);
+      rounds = inv.rounds ++ map address_of commands ∷ [];
+      cut = cut_next MOST_WAITING _ inv.rounds _ (map address_of commands) (map address_of rest) inv.cut (ap (λ (cs : List Command). map address_of cs) next ∙ map-append address_of commands rest)
+          (omega (arith, some, length-map commands address_of)) (omega (arith, c.in_ok-commands.ensures.most, length-map commands address_of))
+          (elim full [ inl all ↦ inl (length-map commands address_of ∙ all) | inr none ↦ inr (ap (λ (cs : List Command). map address_of cs) none) ]);
+      asked = folds_join {A = List ℕ} (AsksRound g.B.BatchLink.batches g.K.Keeper.reads_back) _ _ _ inv.rounds (map address_of commands ∷ []) inv.asked (running g.S.Sealer.cipher g.T.Tape.words c.carry_out_all.new.self, c.in_ok-replies.ensures.asks, refl);
       so_far = joined_calls inv.so_far c.in_ok-replies.ensures.goes (λ may_lie world old mid new h first second. (
         added ∙ ap (λ (l : List ℕ). l ++ flat_map (λ (r : Reply). data_of r.body) replies) first.0
             ∙ ap (λ (l : List ℕ). flat_map data_of (bodies_from d inv.done old.held) ++ l)
@@ -195,3 +209,25 @@ returns-in_err-replies-clause-stopped g c =
     let p = err_from_is_err_and c.from_residual-in_err-replies.result c.from_residual-in_err-replies.ensures.1 in
     rw p.1 (λ e. stops_after g.S.Sealer.cipher g.T.Tape.words g.B.BatchLink.batches g.K.Keeper.reads_back c.args.self.now c.loop-round_number.self c.carry_out_all.new.self c.loop-round_number.invariant.so_far
     (c.in_err-replies.ensures.stopped cc))
+
+pub returns-then-is_empty-clause-asks : goal.returns-then-is_empty-clause-asks
+returns-then-is_empty-clause-asks g c =
+    let d = c.args.self.now.core.device in
+    let b = d.block_bytes in
+    let ops = c.args.operations.now in
+    let inv = c.loop-round_number.invariant in
+    let same : c.block_bytes-block.result ≡ b = search rules in
+    let rest = rest_of b ops c.next_round.new.cursor.operation c.next_round.new.cursor.block in
+    let commands = c.in_ok-commands.commands.items in
+    let next : rest_of b ops c.loop-round_number.cursor.operation c.loop-round_number.cursor.block ≡ commands ++ rest =
+    subst (λ (n : ℕ). rest_of n ops c.loop-round_number.cursor.operation c.loop-round_number.cursor.block ≡ commands ++ rest_of n ops c.next_round.new.cursor.operation c.next_round.new.cursor.block) same
+    c.in_ok-commands.ensures.next in
+    let zero : length commands ≡ 0 = first_of (grind (arith, nat_tests, c.is_empty.ensures), grind (arith, nat_tests, common_steps), search (rules, nat_tests)) in
+    let none : commands ≡ [] = nil_from_length commands zero in
+    let end : rest ≡ [] = subst (λ (n : ℕ). rest_of n ops c.next_round.new.cursor.operation c.next_round.new.cursor.block ≡ []) same (c.in_ok-commands.ensures.end none) in
+    let all : rest_of b ops c.loop-round_number.cursor.operation c.loop-round_number.cursor.block ≡ [] = next ∙ ap (λ (l : List Command). l ++ rest) none ∙ end in
+    record {
+      rounds = inv.rounds;
+      cut = cut_all MOST_WAITING _ inv.rounds _ inv.cut (ap (λ (cs : List Command). map address_of cs) all);
+      each = inv.asked;
+    }
