@@ -78,7 +78,7 @@ def format_and_read(trial, disk, number):
 
 def try_killed_formatting(trial):
     """A formatting that is killed leaves no state. With a new file of the host the disk is formatted anew."""
-    disk = Disk(trial, "killed-format", size="1MiB", table=16)
+    disk = Disk(trial, "killed-format", size="4MiB", table=16)
     disk.start_host()
     for number in range(5):
         process = disk.format()

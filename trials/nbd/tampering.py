@@ -92,7 +92,7 @@ def fail_disk(trial, disk, array):
 
 def try_each_level(trial):
     """A record that was changed at any level of a path is found at that level."""
-    disk = Disk(trial, "levels", table=16).formatted()
+    disk = Disk(trial, "levels", table=16, leaf_load=1).formatted()
     disk.host.stop()
     before, kept = disk.host_files(), disk.state_file.read_bytes()
     for level in range(7):

@@ -1,5 +1,5 @@
 -- The definitions on names, sizes, a formatting, a disk and settings that are written out.
-use Rattle.std.proofs.Common.{◌≡◌, ◌^◌, refl, Some, None, arith, codes}
+use Rattle.std.proofs.Common.{◌≡◌, ℕ, ◌^◌, refl, Some, None, arith, codes}
 use Rattle.std.specs.Prelude.{replicate, pos}
 use Rattle.std.specs.Fmt.{digits}
 use Rattle.std.specs.Path.{path_file_name, path_join, path_parent, path_with_file_name, rsplit_once, split_last_component, trim_trailing}
@@ -11,7 +11,11 @@ use Rattle.oram_semantics.specs.declared.events.Reason.TheVariants.{Tampered}
 use Rattle.oram_cli.specs.Tables.{HasNumber, HasText}
 use Rattle.oram_settings.specs.Amounts.{size_text}
 use Rattle.oram_settings.specs.Progress.{progress_text}
-use Rattle.oram_settings.specs.Settings.{HasSealing, OrDefault, first_text}
+use Rattle.oram_settings.specs.Settings.{HasSealing, OrDefault, default_leaf_load, first_text}
+use Rattle.oram_geometry.specs.declared.Sizes.{Sizes}
+use Rattle.oram_geometry.specs.Least.{least_from}
+use Rattle.oram_geometry.specs.Sizes.{blocks_in, level_for, record_len_of, trees_of}
+use Rattle.oram_settings.specs.Footprint.{nodes_below, stored_bytes}
 use Rattle.oram_settings.specs.declared.disk_file.Sealing.TheVariants.{ChaCha}
 use Rattle.oram_settings.specs.Sizes.{IsSizeIn}
 use Rattle.oram_settings.specs.Status.{failing, report}
@@ -81,6 +85,18 @@ no_sealer = refl
 
 nowhere_to_listen : OrDefault first_table (codes "listen") (codes "unix:disk.sock") (HasText first_table (codes "listen")) (codes "unix:disk.sock")
 nowhere_to_listen = refl
+
+-- five blocks to a leaf, and one where a bucket has fewer than four slots
+loads : (default_leaf_load 4 ≡ 5) × (default_leaf_load 8 ≡ 5) × (default_leaf_load 3 ≡ 1)
+loads = (refl, refl, refl)
+
+-- a disk of 1 GiB has two trees, of 262,144 blocks and of 256
+abbrev gibibyte : ℕ → Sizes
+gibibyte load = record { blocks = 2 ^ 18; block_bytes = 4096; slots = 4; top = 1024; lifetime = 2 ^ 40; leaf_load = load }
+
+its_bytes : (stored_bytes (gibibyte 5) ChaCha ≡ 2163192624) × (stored_bytes (gibibyte 1) ChaCha ≡ 8652869424)
+unfolding nodes_below trees_of blocks_in level_for least_from record_len_of
+its_bytes = (refl, refl)
 
 -- and the value, if they have it
 five_slots : let said = member (codes "slots") (integer (pos 5)) no_members in OrDefault said (codes "slots") 4 (HasNumber said (codes "slots")) 5

@@ -9,11 +9,11 @@ use Rattle.oram_geometry.specs.Sizes.{IsDevice, blocks_in, trees_of}
 use Rattle.oram_semantics.specs.declared.events.Command.TheVariants.{Read, Write}
 use Rattle.oram_semantics.specs.declared.events.Reason.TheVariants.{Malformed, Tampered, HostRefused}
 use Rattle.oram_core.specs.Parts.{Parts}
-use Rattle.oram_state.specs.declared.fault.StateFault.TheVariants.{Magic, Length}
+use Rattle.oram_state.specs.declared.fault.StateFault.TheVariants.{Magic, Length, Content}
 use Rattle.oram_state.specs.declared.mode.Mode.TheVariants.{Idle, Failed, Stalled}
 use Rattle.oram_state.specs.StateBytes.{half, short, long, body, device_text, command_text, fields_text, mode_of, reason_text, state_file}
 use Rattle.oram_state.specs.WellSized.{held_len, table_len, tree_count}
-use Rattle.oram_state.specs.Parser.{fields_in, reason_in}
+use Rattle.oram_state.specs.Parser.{fields_in, next_device, next_number, reason_in}
 
 abbrev device : Sizes
 device = record { blocks = 8; block_bytes = 16; slots = 4; top = 8; lifetime = 100; leaf_load = 1 }
@@ -118,6 +118,21 @@ one_leaf_each = refl
 four_a_leaf : device_text (record device { leaf_load = 4 }) ≡ short 8 ++ short 16 ++ (0 ∷ 3 ∷ 0 ∷ 4 ∷ []) ++ short 8 ++ long 100
 unfolding half short long
 four_a_leaf = refl
+
+-- and so they are read
+four_read : next_device (short 8 ++ short 16 ++ (0 ∷ 3 ∷ 0 ∷ 4 ∷ []) ++ short 8 ++ long 100) ≡ Ok (record device { leaf_load = 4 }, [])
+unfolding short long next_device next_number
+four_read = refl
+
+-- six to a leaf, for which four slots have no room
+six_refused : next_device (short 8 ++ short 16 ++ (0 ∷ 5 ∷ 0 ∷ 4 ∷ []) ++ short 8 ++ long 100) ≡ Err Content
+unfolding short long next_device next_number
+six_refused = refl
+
+-- with five blocks to a leaf the device has three nodes, and its fields are as long as with one
+packed_len : length (fields_text 0 (record idle { device = record device { leaf_load = 5 }; nonce = 3 })) ≡ 113
+unfolding half short long
+packed_len = refl
 
 -- the whole text of a failed core's file, of the first version: the fields between the length and the digest
 failed_text : body 1 (fields_text 0 failed) ≡ 0x50 ∷ 0x41 ∷ 0x54 ∷ 0x48 ∷ 0x4f ∷ 0x52 ∷ 0x41 ∷ 0x4d ∷ 0 ∷ 0 ∷ 0 ∷ 1 ∷ 0 ∷ 0 ∷ 0 ∷ 0 ∷ 0 ∷ 0 ∷ 0 ∷ 0x65
