@@ -54,7 +54,9 @@ impl<'a, R: Eprint + AllocGlobal> HostWatch for HostStatusPrinter<'a, R> {
             return self.print("is out of reach");
         };
         let time = time.as_str();
-        if let Ok(what) = format!(in alloc; "is out of reach: it is tried for {time}, while requests wait") {
+        if let Ok(what) = format!(in alloc;
+            "is out of reach: it is tried for {time}, while requests wait"
+        ) {
             self.print(what.as_str());
         }
     }
