@@ -159,14 +159,16 @@ unfolding state_in
 state_takes text h =
     then_ok _ _ (fields_in text) _ (fields_takes text h) (λ a pa.
     then_ok _ _ (saved_in a.0 a.1) _ (all_takes a.0 a.1 pa.2) (λ s ps.
-    then_ok _ _ (unless Content (s.parts.device.leaf_load == 1)) _ (unless_ok Content (s.parts.device.leaf_load == 1)) (λ _ one.
-    (a.0, record {
-      version_known = has_file a.0 s.parts pa.1 ps.1.0 ps.1.2;
-      load = eqb-true s.parts.device.leaf_load 1 one;
-      overhead_fits = ps.1.1;
-      sized = ps.1.2;
-      spelled = pa.0 ∙ ap (λ (x : List ℕ). with_digest (body a.0 x)) ps.0;
-    }))))
+    then_ok _ _ (unless Content (s.parts.device.leaf_load == 1)) _ (unless_ok Content (s.parts.device.leaf_load == 1)) (λ _ one. (
+      a.0,
+      record {
+        version_known = has_file a.0 s.parts pa.1 ps.1.0 ps.1.2;
+        load = eqb-true s.parts.device.leaf_load 1 one;
+        overhead_fits = ps.1.1;
+        sized = ps.1.2;
+        spelled = pa.0 ∙ ap (λ (x : List ℕ). with_digest (body a.0 x)) ps.0;
+      },
+    ))))
 
 -- and the file of parts is read as these parts
 pub state_again : (text : List ℕ) (version overhead : ℕ) (p : Parts) → length text < 2 ^ 64 → IsFileOf text version overhead p → state_in text ≡ Ok (record { overhead = overhead; parts = p })
