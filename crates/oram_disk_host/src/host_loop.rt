@@ -239,12 +239,7 @@ fn check_presence<R: Files + AllocGlobal>(rt: &R, file: &str, is_new: bool) -> R
 }
 
 /// Prints that a file was opened: whether it is a new one, and where it is served.
-fn print_opened(
-    rt: &HostRuntime,
-    place: &str,
-    file: &str,
-    is_new: bool,
-) -> Result<(), AllocError> {
+fn print_opened(rt: &HostRuntime, place: &str, file: &str, is_new: bool) -> Result<(), AllocError> {
     let alloc = rt.alloc();
     if is_new {
         let line = format!(in alloc; "oramdisk: made {file}\n")?;

@@ -1,7 +1,9 @@
 //! Sizes, names, command lines, and texts that are written.
 
 use oram_cli::{put_between, put_number};
-use oram_settings::{NoRequest, Subcommand, place_beside, read_command_line, read_size, relative_to};
+use oram_settings::{
+    NoRequest, Subcommand, place_beside, read_command_line, read_size, relative_to,
+};
 use rows::{Page, RowFault, RowWords};
 use std::alloc::Global;
 

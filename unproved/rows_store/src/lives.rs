@@ -211,7 +211,13 @@ impl Lives {
             "closed" => live(alloc, files, CLOSED, &words.bodies(alloc), page),
             "full" => {
                 let log_room = words.number();
-                live(alloc, files, Life { log_room, ..KILLED }, &words.bodies(alloc), page)
+                live(
+                    alloc,
+                    files,
+                    Life { log_room, ..KILLED },
+                    &words.bodies(alloc),
+                    page,
+                )
             }
             "file" => write_bytes(alloc, files, words, page),
             _ => Err(RowFault::NoRow),
