@@ -15,7 +15,7 @@ same_device r d a b = cc
 pub returns-clause-ok : goal.returns-clause-ok
 returns-clause-ok g c =
     let core = c.in_ok-core.core in
-    let sized : core.device ≡ loop_sizes = c.in_ok-core.ensures.device ∙ same_device _ c.in_ok-device.device refl c.in_ok-device.ensures in
+    let sized : core.device ≡ loop_sizes = c.in_ok-core.ensures.device ∙ same_device _ c.in_ok-device.device refl c.in_ok-device.ensures.made in
     let count : c.trees-trees.result ≡ trees_of core.device = c.trees-trees.ensures.count ∙ ap trees_of c.device.ensures.value in
     let formatted : IsFormatted (scheme_at core.device) g.L.Link.calls c.args.link.now core.state c.format_device.new.link =
     subst (λ (d : Sizes). IsFormatted (scheme_at d) g.L.Link.calls c.args.link.now core.state c.format_device.new.link) (sym c.in_ok-core.ensures.device) c.in_ok-core.ensures.made in
@@ -28,7 +28,7 @@ returns-clause-ok g c =
 pub returns-clause-hex : goal.returns-clause-hex
 returns-clause-hex g c hex =
     let core = c.in_ok-core.core in
-    let sized : core.device ≡ loop_sizes = c.in_ok-core.ensures.device ∙ same_device _ c.in_ok-device.device refl c.in_ok-device.ensures in
+    let sized : core.device ≡ loop_sizes = c.in_ok-core.ensures.device ∙ same_device _ c.in_ok-device.device refl c.in_ok-device.ensures.made in
     let count : c.trees-trees.result ≡ trees_of core.device = c.trees-trees.ensures.count ∙ ap trees_of c.device.ensures.value in
     let formatted : IsFormatted (scheme_at core.device) g.L.Link.calls c.args.link.now core.state c.format_device.new.link =
     subst (λ (d : Sizes). IsFormatted (scheme_at d) g.L.Link.calls c.args.link.now core.state c.format_device.new.link) (sym c.in_ok-core.ensures.device) c.in_ok-core.ensures.made in
