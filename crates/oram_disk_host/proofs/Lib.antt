@@ -1,3 +1,4 @@
+mod Hosts
 mod Lines
 mod Rows
 mod Served
