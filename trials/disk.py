@@ -3,6 +3,7 @@
 import re
 import signal
 import subprocess
+from contextlib import suppress
 
 from trials.bucket_host import Host
 from trials.connections import connect
@@ -15,6 +16,8 @@ from trials.statuses import DISK_FAILED
 
 # The blocks of a disk have this number of bytes.
 BLOCK = 4096
+# How often a client comes that is turned away.
+MOST_TURNS = 100
 # The bytes of a disk that is made with --size 256kB: 63 blocks.
 SMALL = 63 * BLOCK
 
@@ -104,11 +107,19 @@ class Disk:
         return stream and NbdClient(stream)
 
     def client(self):
-        """A connection to it, after its handshake."""
-        nbd = self.connect()
-        if nbd is None or not nbd.greet() or nbd.choose() is None:
-            return None
-        return nbd
+        """A connection to it, after its handshake. A process that doesn't know yet that the client before is gone turns this one away, so
+        it comes again some times."""
+        for _ in range(MOST_TURNS):
+            nbd = self.connect()
+            if nbd is None:
+                return None
+            if nbd.greet() and nbd.choose() is not None:
+                return nbd
+            nbd.stream.close()
+            # This ends at once if the process has ended.
+            with suppress(subprocess.TimeoutExpired):
+                self.process.wait(0.02)
+        return None
 
     def status(self):
         """What `status` prints, by the words before the colons. It ends as a disk that is sound, or as one that has failed."""
