@@ -7,7 +7,7 @@ from trials.bucket_messages import FETCH, PUT, is_a
 from trials.disk import Disk
 from trials.disk_array import DiskArray, check_and_end, check_disk, make_requests
 from trials.nbd.no_room import no_room, refuse_for_room
-from trials.processes import end_of
+from trials.processes import LONGEST_WAIT, end_of
 from trials.statuses import HAS_A_DISK, HOST_FULL
 
 
@@ -76,18 +76,31 @@ def format_and_read(trial, disk, number):
     return whole[8:40], whole[40:72], fetched
 
 
+def kill_formatting(trial, disk, number):
+    """Formats a disk, and kills that when this number of messages has come to the relay."""
+    reached, killed = threading.Event(), threading.Event()
+    left = iter(range(number))
+
+    def stop_there(_body):
+        if next(left, None) is None:
+            reached.set()
+            killed.wait(LONGEST_WAIT)
+
+    disk.relay.instead = stop_there
+    process = disk.format()
+    trial.check("a formatting comes as far as it is to be killed", reached.wait(LONGEST_WAIT), number)
+    process.kill()
+    process.communicate()
+    killed.set()
+    disk.relay.instead = lambda body: None
+
+
 def try_killed_formatting(trial):
     """A formatting that is killed leaves no state. With a new file of the host the disk is formatted anew."""
     disk = Disk(trial, "killed-format", size="4MiB", table=16)
     disk.start_host()
     for number in range(5):
-        process = disk.format()
-        disk.relay.messages = 0
-        wanted = trial.dice.randrange(1, 60)
-        while disk.relay.messages < wanted and process.poll() is None:
-            threading.Event().wait(0.001)
-        process.kill()
-        process.communicate()
+        kill_formatting(trial, disk, trial.dice.randrange(3, 60))
         trial.check(f"a killed formatting {number}: no state", not disk.state_file.exists())
         if number == 0:
             check_that_host_has_a_disk(trial, "a formatting after a killed one", disk)

@@ -42,7 +42,7 @@ def try_wrong_settings(trial):
 
 def try_older_disk(trial, line):
     """A disk with one block to a leaf, as older versions made all, whose settings have no leaf load: the line names the way out."""
-    disk = Disk(trial, "older", table=16, leaf_load=1).formatted()
+    disk = Disk(trial, "one-to-a-leaf", table=16, leaf_load=1).formatted()
     right = disk.settings_file.read_text()
     disk.settings_file.write_text(re.sub(r"^leaf_load = 1\n", "", right, flags=re.MULTILINE))
     trial.ends("serve of an older disk", disk.start("serve"), CHANGED_SETTING, line.replace("settings/", "older/"))
