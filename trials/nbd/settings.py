@@ -45,6 +45,6 @@ def try_older_disk(trial, line):
     disk = Disk(trial, "one-to-a-leaf", table=16, leaf_load=1).formatted()
     right = disk.settings_file.read_text()
     disk.settings_file.write_text(re.sub(r"^leaf_load = 1\n", "", right, flags=re.MULTILINE))
-    trial.ends("serve of an older disk", disk.start("serve"), CHANGED_SETTING, line.replace("settings/", "older/"))
+    trial.ends("serve of an older disk", disk.start("serve"), CHANGED_SETTING, line.replace("settings/", "one-to-a-leaf/"))
     disk.settings_file.write_text(right)
     check_and_end(trial, "an older disk with leaf_load = 1: what it holds", disk, DiskArray())
