@@ -61,7 +61,7 @@ def try_formattings(trial, disk):
     trial.ends("numbers of no disk", disk.format(), BAD_WORDS, f"oramdisk: {line}")
     trial.ends("a folder in place of settings", trial.start("serve", "faults"), BAD_FILE, "oramdisk: faults is a folder: name a file in it")
     disk.set(size=1 << 20, sealer="none")
-    trial.ends("bad settings", disk.format(), BAD_WORDS, 'oramdisk: faults/disk.toml, line 17: sealer has to be "chacha" or "plain"')
+    trial.ends("bad settings", disk.format(), BAD_WORDS, 'oramdisk: faults/disk.toml, line 18: sealer has to be "chacha" or "plain"')
     nobody = f"127.0.0.1:{free_port()}"
     disk.set(sealer="chacha", host=nobody)
     trial.ends("no host", disk.format(), OUT_OF_REACH, unreachable(nobody))
