@@ -70,7 +70,7 @@ def try_elsewhere(trial, folder):
 
 MADE = """\
 oramdisk: made mydisk for a disk of 1 GiB: disk.toml with its key, which stays here, and host.toml for the rented machine
-oramdisk: formatting will send about 8.7 GB to the host, which stores all of it
+oramdisk: formatting will send about 2.2 GB to the host, which stores all of it
 Next, once host.toml is at the rented machine, and a tunnel leads there (ssh -N -o StreamLocalBindUnlink=yes -L mydisk/buckets.sock:/home/you/buckets.sock you@rented):
   there:  oramdisk host --new host.toml
   here:   oramdisk format mydisk/disk.toml
