@@ -1,5 +1,6 @@
 """A disk, whose folder `oramdisk new` made, with its host."""
 
+import json
 import re
 import signal
 import subprocess
@@ -20,6 +21,11 @@ BLOCK = 4096
 MOST_TURNS = 100
 # The bytes of a disk that is made with --size 256kB: 63 blocks.
 SMALL = 63 * BLOCK
+
+
+def counted(count, name):
+    """A number of things, as `status` prints it."""
+    return f"{count} {name}" if count == 1 else f"{count} {name}s"
 
 
 class Disk:
@@ -49,9 +55,9 @@ class Disk:
         self.host.start()
         self.relay.lead_to(self.host.process, self.host.port)
 
-    def start(self, command):
+    def start(self, command, *flags):
         """Starts a command of oramdisk for this disk."""
-        return self.trial.start(command, f"{self.name}/disk.toml")
+        return self.trial.start(command, *flags, f"{self.name}/disk.toml")
 
     def format(self):
         return self.start("format")
@@ -127,7 +133,24 @@ class Disk:
         said = dict(line.split(": ", 1) for line in end.out.decode().splitlines())
         wanted = (0, 0) if said.get("state") == "it is sound" else (DISK_FAILED, 1)
         self.trial.check(f"{self.name}: status", (end.status, end.err.count(b"\n")) == wanted, end)
+        self.check_json(said, wanted[0])
         return said
+
+    def check_json(self, said, wanted):
+        """What `status --json` prints tells the same as the lines of `status`, and it ends in the same way."""
+        end = end_of(self.start("status", "--json"))
+        told = json.loads(end.out)
+        lines = {
+            "used": "by another process" if told["used"] else "by nobody",
+            "size": f"{told['size']} bytes, {counted(told['blocks'], 'block')} of {told['block']}",
+            "trees": str(told["trees"]),
+            "stash": counted(told["stash"], "block"),
+            "accesses": f"{told['accesses']} made, {told['accesses_left']} left",
+            "waiting": str(told["waiting"]),
+            "state": told["failure"] or "it is sound",
+        }
+        same = (lines, told["failed"]) == (said, told["failure"] is not None)
+        self.trial.check(f"{self.name}: status in JSON", end.status == wanted and same, (end, said))
 
     def address(self):
         """The address by which programs of others reach it."""

@@ -91,6 +91,9 @@ def prove(name):
 def given_or_built(usage, *names):
     """The files of these programs: those that the command line of the script gives, or those of the repository if it gives none."""
     given = sys.argv[1:]
+    if {"-h", "--help"} & set(given):
+        print(usage.strip())
+        sys.exit()
     if given and len(given) != len(names):
         sys.exit(usage)
     return [Path(word).resolve() for word in given] or [built(name) for name in names]

@@ -3,7 +3,7 @@
 import subprocess
 
 from trials import strace
-from trials.disk import Disk
+from trials.disk import BLOCK, Disk
 from trials.nbd.formatting import check_that_host_has_a_disk
 from trials.nbd.lost_host import unreachable
 from trials.ports import free_port
@@ -38,8 +38,14 @@ def try_words(trial):
     for words in (["--help"], ["-h"], ["help"], ["help", "serve"], ["retry", "-h"], ["--version"], ["serve", "--version"]):
         helped = end_of(trial.start(*words))
         trial.check(f"words {words}", (helped.status, helped.err) == (0, b"") and helped.out.endswith(b"\n"), helped)
-    for size in ("257GiB", "big", "0", "-1"):
-        line = "oramdisk: no disk has this size: name one up to 256GiB, as 1GiB or 512MiB"
+    for size, why in (
+        ("257GiB", "no disk has the size 257GiB: name one up to 256GiB"),
+        ("big", "big isn't a size: name a number and its unit, such as 512MiB or 1GiB"),
+        ("0", "0 isn't a size: name a number and its unit, such as 512MiB or 1GiB"),
+        ("1G", "the size 1G has half a unit: write 1GiB, or 1GB for powers of ten"),
+        ("64", "a disk of 64 bytes would be smaller than one block, which has 4096: name a size and its unit, such as 64MiB"),
+    ):
+        line = f"oramdisk: {why}"
         trial.ends(f"the size {size}", trial.start("new", "x", f"--size={size}"), BAD_WORDS, line)
     line = "oramdisk: none/x: no such file or folder: see that its name is right"
     trial.ends("no folder is made", trial.start("new", "none/x", "--size", "1MiB"), BAD_FILE, line)
@@ -59,6 +65,11 @@ def try_formattings(trial, disk):
     disk.set(size=1000)
     line = "faults/disk.toml, line 2: size has to be a whole number of blocks, from 1 to 67108864 of them"
     trial.ends("numbers of no disk", disk.format(), BAD_WORDS, f"oramdisk: {line}")
+    # A disk that clients of 512 bytes can't see whole.
+    disk.set(size=4000, block=1000)
+    line = "faults/disk.toml: size has to be a multiple of 512, since clients count the bytes of a disk by so many"
+    trial.ends("no whole sectors", disk.format(), BAD_WORDS, f"oramdisk: {line}")
+    disk.set(block=BLOCK)
     trial.ends("a folder in place of settings", trial.start("serve", "faults"), BAD_FILE, "oramdisk: faults is a folder: name a file in it")
     disk.set(size=1 << 20, sealer="none")
     trial.ends("bad settings", disk.format(), BAD_WORDS, 'oramdisk: faults/disk.toml, line 18: sealer has to be "chacha" or "plain"')
@@ -74,7 +85,7 @@ def try_formattings(trial, disk):
 def try_damaged_state(trial, disk):
     """The last byte of the state is missing."""
     disk.state_file.write_bytes((disk.folder / "kept").read_bytes()[:-1])
-    line = "oramdisk: faults/disk.state isn't the state of a disk, and is left as it is: see that the settings name the right file"
+    line = "oramdisk: faults/disk.state is damaged, and is left as it is: put back the newest copy of it, if there is one; oramdisk refuses an older one"
     for command in ("serve", "status"):
         trial.ends(f"{command}: a damaged state", disk.start(command), NO_STATE, line)
     disk.host.stop()

@@ -12,18 +12,17 @@ def try_wrong_settings(trial):
     disk = Disk(trial, "settings", table=16).formatted()
     file, state = disk.settings_file, disk.state_file
     right, kept = file.read_text(), state.read_bytes()
-    changed = "oramdisk: {} in settings/disk.toml isn't what it was when the disk was formatted: put it back"
-    older = ", or set leaf_load = 1 if an older version, which had no such setting, formatted the disk"
+    changed = "oramdisk: {} in settings/disk.toml was {} when the disk was formatted: put that back"
     other_key = "oramdisk: the key in settings/disk.toml isn't this disk's: put the one back that it was formatted with"
     key = re.search(r'^key = "(.*)"', right, re.MULTILINE)[1]
     for status, line, values in (
         (WRONG_KEY, other_key, {"key": key[:-1] + ("0" if key[-1] != "0" else "1")}),
-        (CHANGED_SETTING, changed.format("size"), {"size": SMALL + BLOCK}),
-        (CHANGED_SETTING, changed.format("block"), {"block": 2048}),
-        (CHANGED_SETTING, changed.format("slots"), {"slots": 3}),
-        (CHANGED_SETTING, changed.format("leaf_load") + older, {"leaf_load": 1}),
-        (CHANGED_SETTING, changed.format("table"), {"table": 8}),
-        (CHANGED_SETTING, changed.format("sealer"), {"sealer": "plain"}),
+        (CHANGED_SETTING, changed.format("size", SMALL), {"size": SMALL + BLOCK}),
+        (CHANGED_SETTING, changed.format("block", BLOCK), {"block": 2048}),
+        (CHANGED_SETTING, changed.format("slots", 4), {"slots": 3}),
+        (CHANGED_SETTING, changed.format("leaf_load", 5), {"leaf_load": 1}),
+        (CHANGED_SETTING, changed.format("table", 16), {"table": 8}),
+        (CHANGED_SETTING, changed.format("sealer", '"chacha"'), {"sealer": "plain"}),
     ):
         disk.set(**values)
         for command in ("serve", "status"):
@@ -35,13 +34,20 @@ def try_wrong_settings(trial):
     for letters in (b"VIDLAQE1", b"VIDLAQE2", b"VIDLAQE3"):
         state.write_bytes(letters + kept[8:])
         trial.ends("a state of an older form", disk.start("serve"), NO_STATE, line)
+    # One that was cut short, or in which a bit was flipped, is reported as damaged.
+    line = "oramdisk: settings/disk.state is damaged, and is left as it is: put back the newest copy of it, if there is one; oramdisk refuses an older one"
+    middle = len(kept) // 2
+    for torn in (kept[:-1], kept[:middle], kept[:middle] + bytes([kept[middle] ^ 1]) + kept[middle + 1 :]):
+        state.write_bytes(torn)
+        trial.ends("a damaged state", disk.start("serve"), NO_STATE, line)
+        trial.check("a damaged state stays", state.read_bytes() == torn)
     state.write_bytes(kept)
     check_and_end(trial, "with its own settings: what it holds", disk, DiskArray())
-    try_older_disk(trial, changed.format("leaf_load") + older)
+    try_older_disk(trial, changed.format("leaf_load", 1))
 
 
 def try_older_disk(trial, line):
-    """A disk with one block to a leaf, as older versions made all, whose settings have no leaf load: the line names the way out."""
+    """A disk with one block to a leaf, as older versions made all, whose settings have no leaf load: the line names the value."""
     disk = Disk(trial, "one-to-a-leaf", table=16, leaf_load=1).formatted()
     right = disk.settings_file.read_text()
     disk.settings_file.write_text(re.sub(r"^leaf_load = 1\n", "", right, flags=re.MULTILINE))

@@ -1,12 +1,13 @@
 """How much room a disk takes at its host."""
 
-from trials.disk import Disk
+from trials.disk import BLOCK, Disk
 from trials.nbd_client import READ, WRITE
 
-# The disk's bytes, a power of two: 4,096 blocks, for which there are 1,024 leaves.
-SIZE = 16 << 20
-# What a request covers: sixteen blocks.
-STEP = 1 << 16
+# The disk's bytes, a power of two: 16,384 blocks, for which there are 4,096 leaves.
+SIZE = 64 << 20
+BLOCKS = SIZE // BLOCK
+# What a request covers: 64 blocks, which are carried out in one round.
+STEP = 1 << 18
 # The most bytes that the host's file may have for each byte of the disk.
 MOST = 2.1
 # The most blocks that the stash may have. After far more accesses than these no greater one was ever seen.
@@ -15,7 +16,7 @@ MOST_STASH = 30
 
 def try_space(trial):
     """A disk takes at most 2.1 times its size at its host, also once all of it was written and read at random; its stash stays small."""
-    disk = Disk(trial, "space", size="16MiB", sync=False, table=4096).formatted()
+    disk = Disk(trial, "space", size=f"{SIZE}", sync=False, table=BLOCKS).formatted()
     fresh = disk.host.path().stat().st_size
     client = disk.serve().client()
     steps = [at * STEP for at in range(SIZE // STEP)]
@@ -33,7 +34,7 @@ def try_space(trial):
     trial.check("space: the host's file", fresh <= bytes_kept <= MOST * SIZE, (fresh, bytes_kept))
     status = disk.status()
     made, stash = int(status["accesses"].split()[0]), int(status["stash"].split()[0])
-    trial.check("space: its accesses", made >= 2 * SIZE // 4096, status)
+    trial.check("space: its accesses", made >= 2 * BLOCKS, status)
     trial.check("space: its stash", stash <= MOST_STASH, status)
     disk.host.stop()
     print(f"space: {SIZE} bytes take {bytes_kept} at the host; after {made} accesses the stash has {status['stash']}", flush=True)

@@ -64,7 +64,7 @@ def try_in_the_way(trial, disk, array):
     disk.state_file.mkdir()
     lose_write(trial, "in the way: no reply", client, array)
     status = disk.wait()
-    line = "oramdisk: can't keep the state in disk.state: see that its folder may be written and has room, and start again"
+    line = "oramdisk: can't keep the state in disk.state (the new file can't take the old one's place: it is a folder): see that its folder may be written and has room, and start again"
     trial.check("in the way: how it ends", (status, disk.lines()[-1]) == (CANNOT_KEEP, line), (status, disk.lines()[-1]))
     disk.state_file.rmdir()
     held.rename(disk.state_file)

@@ -1,6 +1,6 @@
 -- The faults with which the client's commands end.
 use Rattle.std.specs.Global.{Global}
-use Rattle.std.specs.Prelude.{◌≡◌, ◌≢◌, ◌⊎◌, ℕ, List, String, ⊤, string_bytes}
+use Rattle.std.specs.Prelude.{◌≡◌, ◌≢◌, ◌⊎◌, ◌++◌, ℕ, List, String, ⊤, codes, string_bytes}
 use Rattle.oram_cli.specs.declared.file_faults.FileFault.{FileFault}
 use Rattle.oram_cli.specs.declared.file_faults.FileFault.TheVariants as file
 use Rattle.oram_cli.specs.declared.file_faults.FileReason.TheVariants as reason
@@ -12,6 +12,7 @@ use Rattle.oram_disk_host.specs.declared.faults.Fault.{Fault}
 use Rattle.oram_disk_host.specs.declared.faults.Fault.TheVariants.{About, OutOfMemory}
 use Rattle.oram_disk_host.specs.declared.kinds.FaultKind.{FaultKind}
 use Rattle.oram_disk_host.specs.declared.kinds.FaultKind.TheVariants as kind
+use Rattle.oram_rounds.specs.Files.{IsWhole}
 
 -- a fault of this kind about the name with these bytes, or there was no memory for the name
 abbrev pub IsAbout : FaultKind → List ℕ → Fault → Type 0
@@ -34,3 +35,14 @@ abbrev pub IsNotKeptFor : List ℕ → List ℕ → Fault → Type 0
 IsNotKeptFor file name fault =
     (IsOlder file × IsAbout kind.OlderState name fault)
     ⊎ ((¬ IsOlder file) × ((head : Head) (process : List ℕ) → IsHead head → file ≢ kept_file head process) × IsAbout kind.NotADisk name fault)
+
+-- The fault for bytes that are no process, in the file `name`: they aren't whole, or they hold no core that can be read with the
+-- disk's sealer.
+abbrev pub IsNoProcessFor : List ℕ → List ℕ → Fault → Type 0
+IsNoProcessFor process name fault =
+    ((¬ IsWhole process) × IsAbout kind.DamagedState name fault)
+    ⊎ ((IsWhole process × IsAbout kind.NotADisk name fault) ⊎ (fault ≡ OutOfMemory))
+
+-- the name of the settings, and what a value in them was when the disk was formatted
+abbrev pub was_text : List ℕ → List ℕ → List ℕ
+was_text name value = name ++ codes " was " ++ value

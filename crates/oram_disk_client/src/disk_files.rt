@@ -5,29 +5,29 @@ ghost use Rattle.oram_cli.specs.declared.file_faults.FileFault.{FileFault};
 ghost use Rattle.oram_client.specs.KeptFile.{kept_file};
 ghost use Rattle.oram_client.specs.Keys as derived;
 ghost use Rattle.oram_core.specs.Core.{scheme_of};
-ghost use Rattle.oram_disk_client.specs.Faults.{IsAbout, IsMissing, IsNotKeptFor, IsUnreadFor};
+ghost use Rattle.oram_disk_client.specs.Faults.{IsAbout, IsMissing, IsNoProcessFor, IsNotKeptFor, IsUnreadFor, was_text};
 ghost use Rattle.oram_disk_client.specs.Sealers as spec;
 ghost use Rattle.oram_geometry.specs.declared.Sizes.{Sizes};
 ghost use Rattle.oram_rounds.specs.Batches.{texts};
 ghost use Rattle.oram_rounds.specs.Files.{IsFile, IsFileOf};
 ghost use Rattle.oram_semantics.specs.State.{State};
 ghost use Rattle.oram_settings.specs.Differences.{AgreeAt, IsFirstDifference, fixed_keys};
-ghost use Rattle.oram_settings.specs.declared.differences.FixedKey.{FixedKey};
+ghost use Rattle.oram_settings.specs.Differences as formatted;
 
 use oram_bucket::Sealer;
 use oram_cli::{FileFault, FileReason, InputFault, LockFault, StateLock, linked_name, lock_state};
 use oram_client::{
-    DiskKey, Head, KeptFault, KeptFile, Keys, SealerKind, WrongKey, kept_name, keys_for,
+    DiskKey, FileFailure, Head, KeptFault, KeptFile, Keys, SealerKind, WrongKey, kept_name, keys_for,
     read_kept_file,
 };
 use oram_disk_host::{Fault, FaultKind, settings_text};
 use oram_geometry::Device;
 use oram_rounds::{KeptCore, KeptCoreFault, decode_kept};
 use oram_settings::{
-    DiskSettings, Sealing, device_of, disk_complaint, first_difference, numbers_complaint,
-    place_beside, read_disk_settings, relative_to,
+    DiskSettings, FixedKey, Sealing, device_of, disk_complaint, first_difference,
+    numbers_complaint, place_beside, read_disk_settings, relative_to, value_text,
 };
-use std::alloc::Global;
+use std::alloc::{AllocError, Global};
 use std::rt::Files;
 
 /// Reads a disk's settings from the text of the file `name`.
@@ -119,8 +119,8 @@ pub fn named(alloc: Global, kind: FaultKind, name: &str) -> Fault
     }
 }
 
-/// Decodes the core and the STOREs that wait in `process`, which the file `name` holds. Fails with [`FaultKind::NotADisk`] if
-/// `process` isn't the file of a process with this sealer.
+/// Decodes the core and the STOREs that wait in `process`, which the file `name` holds. Fails with
+/// [`FaultKind::DamagedState`] if `process` isn't whole, and with [`FaultKind::NotADisk`] if it holds no core with this sealer.
 fn process_in<S: Sealer>(
     alloc: Global,
     sealer: S,
@@ -134,14 +134,13 @@ fn process_in<S: Sealer>(
         → IfOk result (λ kept. (texts kept.stores.items ≡ stores) × (kept.core.device ≡ d) × (kept.core.state ≡ core)) }
     ensures only { (d : Sizes) (stores : List (List ℕ)) (core : State) → IsFileOf (S.cipher sealer).overhead d process.now stores core
         → IfErr result (λ fault. fault ≡ Fault.OutOfMemory) }
-    ensures fault { IfErr result (λ fault. IsAbout FaultKind.NotADisk name.now fault) }
+    ensures fault { IfErr result (IsNoProcessFor process.now name.now) }
 {
     match decode_kept(alloc, sealer, process) {
         Ok(kept) => Ok(kept),
         Err(KeptCoreFault::OutOfMemory) => Err(Fault::OutOfMemory),
-        Err(KeptCoreFault::Torn | KeptCoreFault::Core(_)) => {
-            Err(named(alloc, FaultKind::NotADisk, name))
-        }
+        Err(KeptCoreFault::Torn) => Err(named(alloc, FaultKind::DamagedState, name)),
+        Err(KeptCoreFault::Core(_)) => Err(named(alloc, FaultKind::NotADisk, name)),
     }
 }
 
@@ -199,49 +198,88 @@ pub(crate) fn sealer_of(sealing: Sealing) -> SealerKind
     }
 }
 
-/// Fails if the settings in the file `name` aren't those that the disk was formatted with.
-fn check_settings(
-    settings: &DiskSettings,
+/// Returns the name of the settings, and what a key in them was when the disk was formatted.
+fn was(
+    alloc: Global,
+    name: &str,
+    key: FixedKey,
     device: &Device,
-    sealer: SealerKind,
-    name: String,
-) -> Result<(), Fault>
-    ensures ok { OnOk result (IsFirstDifference (AgreeAt settings.now device.now (spec.sealing_of sealer)) fixed_keys None) }
-    // The fault names the first key at which they differ.
-    ensures changed { IfErr result (λ fault. (key : FixedKey) × (fault ≡ Fault.About (FaultKind.Changed key) name)
-        × IsFirstDifference (AgreeAt settings.now device.now (spec.sealing_of sealer)) fixed_keys (Some key)) }
+    sealing: Sealing,
+) -> Result<String, AllocError>
+    ensures { IfOk result (λ text. string_bytes text ≡ was_text name.now (formatted.value_text device.now sealing key)) }
 {
-    match first_difference(settings, device, sealing_of(sealer)) {
-        None => Ok(()),
-        Some(key) => Err(Fault::About(FaultKind::Changed(key), name)),
+    let value = value_text(alloc, key, device, sealing)?;
+    let value = value.as_str();
+    format!(in alloc; "{name} was {value}")
+}
+
+/// Returns the fault that a key of the settings in the file `name` isn't what it was when the disk was formatted.
+fn changed(alloc: Global, name: &str, key: FixedKey, device: &Device, sealing: Sealing) -> Fault
+    ensures { IsAbout (FaultKind.Changed key) (was_text name.now (formatted.value_text device.now sealing key)) result }
+{
+    match was(alloc, name, key, device, sealing) {
+        Ok(text) => Fault::About(FaultKind::Changed(key), text),
+        Err(_) => Fault::OutOfMemory,
     }
 }
 
-/// Decodes the process of the kept file of a disk, which `sealer` seals. Fails with [`FaultKind::NotADisk`] if it is no such
-/// process, and with [`FaultKind::Changed`] if the settings in the file `name` aren't those that the disk was formatted with.
+/// Fails if the settings in the file `name` aren't those that the disk was formatted with.
+fn check_settings(
+    alloc: Global,
+    settings: &DiskSettings,
+    device: &Device,
+    sealing: Sealing,
+    name: &str,
+) -> Result<(), Fault>
+    ensures ok { OnOk result (IsFirstDifference (AgreeAt settings.now device.now sealing) fixed_keys None) }
+    // The fault names the first key at which they differ, and what it was.
+    ensures changed { IfErr result (λ fault. (key : FixedKey)
+        × IsAbout (FaultKind.Changed key) (was_text name.now (formatted.value_text device.now sealing key)) fault
+        × IsFirstDifference (AgreeAt settings.now device.now sealing) fixed_keys (Some key)) }
+{
+    match first_difference(settings, device, sealing) {
+        None => Ok(()),
+        Some(key) => Err(changed(alloc, name, key, device, sealing)),
+    }
+}
+
+/// Decodes the process of the kept file of a disk, which `sealer` seals. Fails with [`FaultKind::DamagedState`] or
+/// [`FaultKind::NotADisk`] if it is no such process, and with [`FaultKind::Changed`] if the settings in the file `name` aren't
+/// those that the disk was formatted with.
 pub fn process_for<S: Sealer>(
     alloc: Global,
     settings: &DiskSettings,
-    name: String,
+    name: &str,
     kept: &KeptFile<'_>,
     sealer: S,
 ) -> Result<KeptCore<S>, Fault>
     ensures sealer { IfOk result (λ process. process.core.sealer ≡ sealer) }
     ensures ok { IfOk result (λ process. IsFile (scheme_of S.cipher process.core) kept.now.process.now (texts process.stores.items) process.core.state) }
     ensures agrees { IfOk result (λ process. IsFirstDifference (AgreeAt settings.now process.core.device (spec.sealing_of kept.now.head.sealer)) fixed_keys None) }
-    // Only the settings of a process can have changed. The fault names the first key at which they differ.
-    ensures fault { IfErr result (λ fault. IsAbout FaultKind.NotADisk (string_bytes settings.now.state) fault
-        ⊎ ((process : KeptCore S) × (key : FixedKey) × (fault ≡ Fault.About (FaultKind.Changed key) name)
+    // Only the settings of a process can have changed. The fault names the first key at which they differ, and what it was.
+    ensures fault { IfErr result (λ fault. IsNoProcessFor kept.now.process.now (string_bytes settings.now.state) fault
+        ⊎ ((process : KeptCore S) × (key : FixedKey)
+        × IsAbout (FaultKind.Changed key) (was_text name.now (formatted.value_text process.core.device (spec.sealing_of kept.now.head.sealer) key)) fault
         × IsFile (scheme_of S.cipher process.core) kept.now.process.now (texts process.stores.items) process.core.state
         × IsFirstDifference (AgreeAt settings.now process.core.device (spec.sealing_of kept.now.head.sealer)) fixed_keys (Some key))) }
     // It returns all of a process that was kept, unless memory runs out or the settings differ.
     ensures same { (d : Sizes) (stores : List (List ℕ)) (core : State) → IsFileOf (S.cipher sealer).overhead d kept.now.process.now stores core
         → IfOk result (λ process. (texts process.stores.items ≡ stores) × (process.core.device ≡ d) × (process.core.state ≡ core)) }
     ensures changed { (d : Sizes) (stores : List (List ℕ)) (core : State) → IsFileOf (S.cipher sealer).overhead d kept.now.process.now stores core
-        → IfErr result (λ fault. (fault ≡ Fault.OutOfMemory) ⊎ ((key : FixedKey) × (fault ≡ Fault.About (FaultKind.Changed key) name)
+        → IfErr result (λ fault. (fault ≡ Fault.OutOfMemory) ⊎ ((key : FixedKey)
+        × IsAbout (FaultKind.Changed key) (was_text name.now (formatted.value_text d (spec.sealing_of kept.now.head.sealer) key)) fault
         × IsFirstDifference (AgreeAt settings.now d (spec.sealing_of kept.now.head.sealer)) fixed_keys (Some key))) }
 {
     let process = process_in(alloc, sealer, kept.process, settings.state.as_str())?;
-    check_settings(settings, process.core.device(), kept.head.sealer, name)?;
+    let sealing = sealing_of(kept.head.sealer);
+    check_settings(alloc, settings, process.core.device(), sealing, name)?;
     Ok(process)
+}
+
+/// Returns the fault that a state can't be kept in the file `state`, with the step that failed and the system's reason.
+pub fn unkept(alloc: Global, kind: FaultKind, state: &str, failure: FileFailure) -> Fault {
+    match format!(in alloc; "{state} ({failure})") {
+        Ok(text) => Fault::About(kind, text),
+        Err(_) => Fault::OutOfMemory,
+    }
 }

@@ -1,9 +1,9 @@
 //! Formats a disk on its host.
 
-ghost use Rattle.std.specs.Prelude.{None, IfOk};
+ghost use Rattle.std.specs.Prelude.{◌≡◌, ◌≢◌, ◌%◌, None, IfOk, OnErr, OnOk};
 ghost use Rattle.oram_client.specs.FilePlace.{FilePlaceState, NotesFound};
 
-use crate::disk_files::{disk_in, keys_in, named, sealer_of, take_lock};
+use crate::disk_files::{disk_in, keys_in, named, sealer_of, take_lock, unkept};
 use crate::failures::forget_failure;
 use oram_bucket::{ChaChaSeal, PlainSeal, Sealer};
 use oram_cli::{HostFault, SocketFault, buffered, limit_silence};
@@ -15,7 +15,10 @@ use oram_core::Core;
 use oram_disk_host::{Fault, FaultKind};
 use oram_geometry::Device;
 use oram_rounds::{Keeper, encode_kept};
-use oram_settings::{DiskSettings, Meter, begun_text, percent, progress_text, stored_bytes};
+use oram_settings::{
+    DiskSettings, Meter, SECTOR, begun_text, percent, progress_text, sectors_complaint,
+    stored_bytes,
+};
 use oram_sockets::{Connection, connect_to};
 use std::alloc::{AllocError, Global};
 use std::io;
@@ -163,9 +166,11 @@ fn format_with<S: Sealer>(
     let alloc = rt.alloc();
     let core = formatted(rt, device, sealer, identity, settings)?;
     let file = encode_kept(alloc, &[], &core)?;
-    match keeper.keep(file.as_slice()) {
-        Ok(()) => Ok(()),
-        Err(_) => Err(named(alloc, FaultKind::StateNotMade, settings.state.as_str())),
+    let state = settings.state.as_str();
+    match (keeper.keep(file.as_slice()), keeper.failure()) {
+        (Ok(()), _) => Ok(()),
+        (Err(_), Some(failure)) => Err(unkept(alloc, FaultKind::StateNotMade, state, failure)),
+        (Err(_), None) => Err(named(alloc, FaultKind::StateNotMade, state)),
     }
 }
 
@@ -189,11 +194,24 @@ fn free_place<R: Files + AllocGlobal + Drop>(mut place: FilePlace<R>) -> Result<
     }
 }
 
-/// Formats the disk whose settings are in the file `name`. Refuses a disk that already has a kept file, and leaves that as it
+/// Fails if the size in the settings of the file `name` isn't a whole number of sectors.
+fn check_sectors(alloc: Global, settings: &DiskSettings, name: &str) -> Result<(), Fault>
+    ensures ok { OnOk result (settings.now.size % SECTOR ≡ 0) }
+    ensures fault { OnErr result (settings.now.size % SECTOR ≢ 0) }
+{
+    if settings.size % SECTOR == 0 {
+        return Ok(());
+    }
+    let complaint = sectors_complaint(alloc, name)?;
+    Err(Fault::About(FaultKind::Settings, complaint))
+}
+
+/// Formats the disk whose settings are in the file `name`. Refuses a size that isn't a whole number of sectors. Refuses a disk that already has a kept file, and leaves that as it
 /// is. Also refuses a disk whose kept file can't be looked up.
 pub fn format_disk(rt: &HostRuntime, name: String) -> Result<(), Fault> {
     let alloc = rt.alloc();
     let (settings, device) = disk_in(rt, name.as_str())?;
+    check_sectors(alloc, &settings, name.as_str())?;
     let _lock = take_lock(rt, settings.state.as_str())?;
     let place = free_place(FilePlace::new(rt, alloc, settings.state.as_str())?)?;
     // A failure that an earlier disk left, which has been removed since, says nothing about this one.

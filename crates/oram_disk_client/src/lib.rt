@@ -13,7 +13,9 @@ mod new_disk;
 mod newest;
 mod status_command;
 
-pub use disk_files::{disk_in, kept_in, keys_in, named, process_for, state_bytes, take_lock};
+pub use disk_files::{
+    disk_in, kept_in, keys_in, named, process_for, state_bytes, take_lock, unkept,
+};
 pub use failures::{keep_failure, kept_failure};
 pub use format_command::format_disk;
 pub use new_disk::make_folder;

@@ -1,13 +1,16 @@
 //! Makes a new folder with the first settings of a disk.
 
 ghost use Rattle.std.specs.Fs.{asks_create_new, asks_write};
-ghost use Rattle.std.specs.Prelude.{◌≡◌, ◌≤◌, ◌<◌, ◌+◌, ◌*◌, ◌^◌, ℕ, true};
+ghost use Rattle.std.specs.Prelude.{◌≡◌, ◌≤◌, ◌<◌, ◌+◌, ◌*◌, ◌^◌, ℕ, true, IfSome};
+ghost use Rattle.oram_settings.specs.Settings.{IsDeviceOf};
+ghost use Rattle.oram_settings.specs.Sizes.{IsSize};
 
 use oram_cli::{FileFault, call_fault, file_fault, folder_of, sync_folder};
 use oram_disk_host::{FIRST_SETTINGS, Fault, FaultKind};
+use oram_geometry::Device;
 use oram_settings::{
     DEFAULT_BLOCK, DEFAULT_LEAF_LOAD, DEFAULT_SLOTS, DEFAULT_TABLE, Sealing, device_of, disk_text,
-    made_text, read_size, stored_bytes,
+    made_text, read_size, size_mistake, stored_bytes,
 };
 use std::alloc::AllocError;
 use std::fs::{DirBuilder, OpenFile, OpenOptions};
@@ -98,22 +101,35 @@ struct FirstDisk {
     text: String,
 }
 
-/// Makes a new disk with a random key. It has the size that `size` says, rounded up to whole blocks. Fails with
-/// [`Fault::Size`] if `size` isn't a size or no device has it, and with [`Fault::Random`] if the system gives no random
-/// bytes.
-fn first_disk<R: RandomSource + AllocGlobal>(rt: &R, size: &str) -> Result<FirstDisk, Fault> {
-    let Some(size) = read_size(size) else {
-        return Err(Fault::Size);
-    };
+/// Returns the size of a new disk and its device: the size that `word` says, rounded up to whole blocks. Returns `None` if it
+/// isn't a size, is less than one block, which is taken for a mistake, or is the size of no device.
+fn sized(word: &str) -> Option<(u64, Device)>
+    ensures least { IfSome result (λ x. DEFAULT_BLOCK ≤ x.0) }
+    ensures whole { IfSome result (λ x. (blocks : ℕ) × (x.0 ≡ blocks * DEFAULT_BLOCK)) }
+    ensures said { IfSome result (λ x. (size : ℕ) × IsSize word.now size × (size ≤ x.0) × (x.0 < size + DEFAULT_BLOCK)) }
+    ensures device { IfSome result (λ x. IsDeviceOf x.0 DEFAULT_BLOCK DEFAULT_SLOTS DEFAULT_LEAF_LOAD DEFAULT_TABLE x.1) }
+{
+    let size = read_size(word)?;
+    if size < DEFAULT_BLOCK {
+        return None;
+    }
     let size = whole_size(size);
-    let Some(device) = device_of(
+    let device = device_of(
         size,
         DEFAULT_BLOCK,
         DEFAULT_SLOTS,
         DEFAULT_LEAF_LOAD,
         DEFAULT_TABLE,
-    ) else {
-        return Err(Fault::Size);
+    )?;
+    Some((size, device))
+}
+
+/// Makes a new disk with a random key. It has the size that `word` says, rounded up to whole blocks. Fails with
+/// [`FaultKind::CommandLine`] if no disk is made with that size, and with [`Fault::Random`] if the system gives no random bytes.
+fn first_disk<R: RandomSource + AllocGlobal>(rt: &R, word: &str) -> Result<FirstDisk, Fault> {
+    let Some((size, device)) = sized(word) else {
+        let mistake = size_mistake(rt.alloc(), word)?;
+        return Err(Fault::About(FaultKind::CommandLine, mistake));
     };
     let mut key = [0; 32];
     if rt.fill_bytes(&mut key).is_err() {

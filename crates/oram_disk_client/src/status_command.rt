@@ -6,7 +6,7 @@ use oram_bucket::{ChaChaSeal, PlainSeal};
 use oram_cli::{call_fault, is_locked};
 use oram_client::{SealerKind, kept_bytes, kept_name};
 use oram_disk_host::{Fault, FaultKind};
-use oram_settings::{Status, report, status_of};
+use oram_settings::{Status, failure_text, report, report_json, status_of};
 use std::alloc::{AllocError, Global};
 use std::str;
 
@@ -46,12 +46,37 @@ fn report_of(
     format!(in alloc; "used: {using}\n{text}")
 }
 
+/// Returns the report of a disk in JSON. `failure` has what is kept of why it failed, if anything is.
+fn json_of(
+    alloc: Global,
+    status: &Status,
+    is_used: bool,
+    failure: Option<&[u8]>,
+) -> Result<String, AllocError> {
+    let found = failure_text(alloc, status.failure)?;
+    let why = match failure {
+        Some(why) => Some(str::from_utf8(why).unwrap_or(UNREADABLE).trim_end()),
+        None => status.failure.map(|_| found.as_str()),
+    };
+    report_json(alloc, status, is_used, why)
+}
+
 /// Prints the report of a disk whose core has this status and whose state is in the file `state`. Fails with
 /// [`FaultKind::Failed`] after that if the disk has failed.
-fn print_report(rt: &HostRuntime, state: &str, status: &Status) -> Result<(), Fault> {
+fn print_report(
+    rt: &HostRuntime,
+    state: &str,
+    status: &Status,
+    is_json: bool,
+) -> Result<(), Fault> {
     let alloc = rt.alloc();
     let failure = kept_failure(rt, state)?;
-    let text = report_of(alloc, status, is_locked(rt, state)?, failure.as_deref())?;
+    let is_used = is_locked(rt, state)?;
+    let text = if is_json {
+        json_of(alloc, status, is_used, failure.as_deref())?
+    } else {
+        report_of(alloc, status, is_used, failure.as_deref())?
+    };
     if let Err(error) = rt.print(text.as_str()) {
         return Err(call_fault(alloc, "standard output", &error).into());
     }
@@ -61,10 +86,10 @@ fn print_report(rt: &HostRuntime, state: &str, status: &Status) -> Result<(), Fa
     Ok(())
 }
 
-/// Prints the report of the disk whose settings are in the file `name`, from its kept state, and whether a process uses it now.
-/// It doesn't ask the host. Fails with the same faults as a process that serves the disk, if the settings or the key aren't
+/// Prints the report of the disk whose settings are in the file `name`, from its kept state, and whether a process uses it now:
+/// in lines for people, or in one line of JSON. It doesn't ask the host. Fails with the same faults as a process that serves the disk, if the settings or the key aren't
 /// those of the disk or if the disk has failed.
-pub fn print_status(rt: &HostRuntime, name: String) -> Result<(), Fault> {
+pub fn print_status(rt: &HostRuntime, name: String, is_json: bool) -> Result<(), Fault> {
     let alloc = rt.alloc();
     let (settings, _) = disk_in(rt, name.as_str())?;
     let state = settings.state.as_str();
@@ -73,16 +98,16 @@ pub fn print_status(rt: &HostRuntime, name: String) -> Result<(), Fault> {
     let keys = keys_in(alloc, &settings, &kept.head, name.as_str())?;
     let status = match kept.head.sealer {
         SealerKind::Plain => {
-            let process = process_for(alloc, &settings, name, &kept, PlainSeal)?;
+            let process = process_for(alloc, &settings, name.as_str(), &kept, PlainSeal)?;
             status_of(&process.core)
         }
         SealerKind::ChaCha20 => {
             let key = keys.sealer.0;
-            let process = process_for(alloc, &settings, name, &kept, ChaChaSeal { key })?;
+            let process = process_for(alloc, &settings, name.as_str(), &kept, ChaChaSeal { key })?;
             status_of(&process.core)
         }
     };
-    print_report(rt, state, &status)
+    print_report(rt, state, &status, is_json)
 }
 
 /// Lets the failed disk whose settings are in the file `name` be tried again: the next process that serves it goes on

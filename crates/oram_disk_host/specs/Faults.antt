@@ -9,20 +9,18 @@ use Rattle.oram_store.specs.declared.faults.StoreFault.TheVariants as store
 use Rattle.oram_disk_host.specs.Kinds as of_kind
 use Rattle.oram_disk_host.specs.declared.kinds.FaultKind.TheVariants as kind
 use Rattle.oram_disk_host.specs.declared.faults.Fault.{Fault}
-use Rattle.oram_disk_host.specs.declared.faults.Fault.TheVariants.{About, Size, OutOfMemory, Accept, Random}
+use Rattle.oram_disk_host.specs.declared.faults.Fault.TheVariants.{About, OutOfMemory, Accept, Random}
 
 -- what happened and to what, and what to do
 abbrev pub line_of : Fault → List ℕ
 line_of (About kind name) = of_kind.front kind ++ string_bytes name ++ of_kind.rest kind
-line_of Size = codes "oramdisk: " ++ codes "no disk has this size" ++ codes ": name one up to 256GiB, as 1GiB or 512MiB\n"
 line_of OutOfMemory = codes "oramdisk: " ++ codes "out of memory" ++ codes "\n"
 line_of Accept = codes "oramdisk: " ++ codes "can't accept connections" ++ codes ": start it again\n"
 line_of Random = codes "oramdisk: " ++ codes "the system gives no random bytes" ++ codes ": start it again\n"
 
--- 2: a size that no disk has; 3: memory; 5: a socket; 15: no random bytes
+-- 3: memory; 5: a socket; 15: no random bytes
 abbrev pub status_of : Fault → ℕ
 status_of (About kind name) = of_kind.status kind
-status_of Size = 2
 status_of OutOfMemory = 3
 status_of Accept = 5
 status_of Random = 15

@@ -7,7 +7,7 @@ use Rattle.oram_cli.specs.declared.hosts.HostFault.TheVariants as host
 use Rattle.oram_settings.specs.declared.differences.FixedKey.{FixedKey}
 use Rattle.oram_settings.specs.declared.differences.FixedKey.TheVariants as fixed
 use Rattle.oram_disk_host.specs.declared.kinds.FaultKind.{FaultKind}
-use Rattle.oram_disk_host.specs.declared.kinds.FaultKind.TheVariants.{CommandLine, Settings, File, Unformatted, Address, NotABucketFile, OlderFile, NewerFile, WithoutLog, LogOfAnotherFile, LogWithoutFile, Damaged, Busy, NoFile, FileExists, Exists, Formatted, NotADisk, OlderState, ReplacedState, WrongKey, Changed, Host, StateNotKept, StateNotMade, UsedUp, InUse, Failed, NotFailed}
+use Rattle.oram_disk_host.specs.declared.kinds.FaultKind.TheVariants.{CommandLine, Settings, File, Unformatted, Address, NotABucketFile, OlderFile, NewerFile, WithoutLog, LogOfAnotherFile, LogWithoutFile, Damaged, Busy, NoFile, FileExists, Exists, Formatted, NotADisk, DamagedState, OlderState, ReplacedState, WrongKey, Changed, Host, StateNotKept, StateNotMade, UsedUp, InUse, Failed, NotFailed}
 
 -- the text before the name of the settings with a changed value
 abbrev pub changed : FixedKey → List ℕ
@@ -81,12 +81,11 @@ rest FileExists = codes " is there already, and is left as it is: leave --new ou
 rest Exists = codes " is there already, and is left as it is: name another folder\n"
 rest Formatted = codes " is there already, and is left as it is: to format anew, take it away, and name a new file at the host\n"
 rest NotADisk = codes " isn't the state of a disk, and is left as it is: see that the settings name the right file\n"
+rest DamagedState = codes " is damaged, and is left as it is: put back the newest copy of it, if there is one; oramdisk refuses an older one\n"
 rest OlderState = codes " is the state of a disk of an older version, and is left as it is: serve it with that version, and copy what is in it to a new disk\n"
 rest ReplacedState = codes " is an older state of its disk, and nothing was stored by it: put the newest one back; if a loss of power with sync = false took that one, the disk is lost\n"
 rest WrongKey = codes " isn't this disk's: put the one back that it was formatted with\n"
-rest (Changed fixed.LeafLoad) =
-    codes " isn't what it was when the disk was formatted: put it back, or set leaf_load = 1 if an older version, which had no such setting, formatted the disk\n"
-rest (Changed key) = codes " isn't what it was when the disk was formatted: put it back\n"
+rest (Changed key) = codes " when the disk was formatted: put that back\n"
 rest (Host why) = host_rest why
 rest StateNotKept = codes ": see that its folder may be written and has room, and start again\n"
 rest StateNotMade = codes ": see that its folder may be written and has room, name a new file at the host, and format again\n"
@@ -96,7 +95,7 @@ rest Failed = codes " has failed, and oramdisk status says why: see that its own
 rest NotFailed = codes " has not failed, and is left as it is: oramdisk serve serves it\n"
 
 -- 2: words or settings; 4: a file; 5: a socket; 6 to 8: a host's file that isn't one, is damaged, or is held; 9: something that
--- exists already; 10: a state that isn't one, or is of an older version; 11, 12: a host that is out of reach, or that refuses;
+-- exists already; 10: a state that isn't one, is damaged, or is of an older version; 11, 12: a host that is out of reach, or that refuses;
 -- 13: a state that can't be kept; 14: no access left; 16: a disk in use; 17: a disk that has failed; 18: a disk that hasn't
 -- failed; 19: a host's file that is missing; 20 to 22: a host with another disk, with none, or without room; 23, 24: a key or
 -- another value that isn't the one of the formatting; 25: a host's file of another version; 26: a file without its log, or a
@@ -114,6 +113,7 @@ status FileExists = 9
 status Exists = 9
 status Formatted = 9
 status NotADisk = 10
+status DamagedState = 10
 status OlderState = 10
 status (Host host.OutOfReach) = 11
 status (Host host.Taken) = 12

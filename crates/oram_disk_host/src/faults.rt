@@ -16,8 +16,6 @@ use std::io::Write;
 pub enum Fault {
     /// A fault of a kind, with the name or the address that it is about.
     About(FaultKind, String),
-    /// No disk has the size that is asked for.
-    Size,
     OutOfMemory,
     /// No more connections can be accepted.
     Accept,
@@ -75,11 +73,6 @@ impl Fault {
     {
         match self {
             Fault::About(kind, name) => (kind.front(), name.as_str(), kind.rest()),
-            Fault::Size => (
-                "oramdisk: ",
-                "no disk has this size",
-                ": name one up to 256GiB, as 1GiB or 512MiB\n",
-            ),
             Fault::OutOfMemory => ("oramdisk: ", "out of memory", "\n"),
             Fault::Accept => (
                 "oramdisk: ",
@@ -100,7 +93,6 @@ impl Fault {
     {
         match self {
             Fault::About(kind, _) => kind.status(),
-            Fault::Size => 2,
             Fault::OutOfMemory => 3,
             Fault::Accept => 5,
             Fault::Random => 15,

@@ -10,7 +10,7 @@ use oram_settings::FixedKey;
 #[derive(Clone, Copy, Debug)]
 pub enum FaultKind {
     /// The command line asks for nothing that the program can do. Instead of a name, it comes with what is wrong with the
-    /// words, and how the program is used.
+    /// words, and perhaps how the program is used.
     CommandLine,
     /// A file doesn't have the settings that it must have. Instead of a name, it comes with which file it is, and what
     /// is wrong with it.
@@ -45,6 +45,8 @@ pub enum FaultKind {
     Formatted,
     /// The file of this name isn't a disk's state.
     NotADisk,
+    /// The file of this name is a disk's state, but it was cut short or changed since it was written.
+    DamagedState,
     /// The file of this name is the state of a disk, in an older format.
     OlderState,
     /// The file of this name is an old state of its disk. A newer one has replaced it, and the host's records belong to that
@@ -52,13 +54,15 @@ pub enum FaultKind {
     ReplacedState,
     /// The key in the settings of this name isn't the one that the disk was formatted with.
     WrongKey,
-    /// The value of a key in the settings of this name isn't the one that the disk was formatted with.
+    /// The value of a key in the settings isn't the one that the disk was formatted with. After the name of the settings comes
+    /// what it was then.
     Changed(FixedKey),
     /// The disk can't use the host at this address.
     Host(HostFault),
-    /// The state can't be kept in the file of this name.
+    /// The state can't be kept in a file. After the file's name comes the step that failed, and why.
     StateNotKept,
-    /// The state of a new disk can't be kept in the file of this name. Its host has the disk's buckets already.
+    /// The state of a new disk can't be kept in a file. After the file's name comes the step that failed, and why. The disk's
+    /// host has its buckets already.
     StateNotMade,
     /// The disk whose state is in the file of this name has made all its accesses.
     UsedUp,
@@ -178,16 +182,15 @@ impl FaultKind {
                 " is there already, and is left as it is: to format anew, take it away, and name a new file at the host\n",
             FaultKind::NotADisk =>
                 " isn't the state of a disk, and is left as it is: see that the settings name the right file\n",
+            FaultKind::DamagedState =>
+                " is damaged, and is left as it is: put back the newest copy of it, if there is one; oramdisk refuses an older one\n",
             FaultKind::OlderState =>
                 " is the state of a disk of an older version, and is left as it is: serve it with that version, and copy what is in it to a new disk\n",
             FaultKind::ReplacedState =>
                 " is an older state of its disk, and nothing was stored by it: put the newest one back; if a loss of power with sync = false took that one, the disk is lost\n",
             FaultKind::WrongKey =>
                 " isn't this disk's: put the one back that it was formatted with\n",
-            FaultKind::Changed(FixedKey::LeafLoad) =>
-                " isn't what it was when the disk was formatted: put it back, or set leaf_load = 1 if an older version, which had no such setting, formatted the disk\n",
-            FaultKind::Changed(_) =>
-                " isn't what it was when the disk was formatted: put it back\n",
+            FaultKind::Changed(_) => " when the disk was formatted: put that back\n",
             FaultKind::Host(why) => host_rest(why),
             FaultKind::StateNotKept =>
                 ": see that its folder may be written and has room, and start again\n",
@@ -215,7 +218,7 @@ impl FaultKind {
             FaultKind::Damaged => 7,
             FaultKind::Busy => 8,
             FaultKind::FileExists | FaultKind::Exists | FaultKind::Formatted => 9,
-            FaultKind::NotADisk | FaultKind::OlderState => 10,
+            FaultKind::NotADisk | FaultKind::DamagedState | FaultKind::OlderState => 10,
             FaultKind::Host(HostFault::OutOfReach) => 11,
             FaultKind::Host(HostFault::Taken) | FaultKind::Host(HostFault::Refused) => 12,
             FaultKind::StateNotKept | FaultKind::StateNotMade => 13,

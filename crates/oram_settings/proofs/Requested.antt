@@ -88,10 +88,10 @@ module _ (a : App) (same : a ≡ program) (words : List Text) where
         sym (ap (λ (b : App). unless_faulty (fault_of b words) (option_and_then request_by (subcommand_of b words))) same)
         ∙ ap₂ (λ kinds t. unless_faulty kinds (option_and_then request_by t)) (sound free) entered
 
-    pub request_is : (name : Text) (rows : List Row) (word size : Option Text) (is_new : Bool) → Some name ≡ subcommand_name_of m
-        → Some rows ≡ option_map (λ (p : Text × List Row). p.1) (subcommand_rows_of m) → word ≡ first_of (codes "word") rows → is_new ≡ is_given (first_of (codes "new") rows) → size ≡ first_of (codes "size") rows
-        → request_in words ≡ option_and_then (λ (w : Text). request_of name w is_new size) word
-    request_is name rows word size is_new named found read said sized =
+    pub request_is : (name : Text) (rows : List Row) (word size : Option Text) (is_new is_json : Bool) → Some name ≡ subcommand_name_of m
+        → Some rows ≡ option_map (λ (p : Text × List Row). p.1) (subcommand_rows_of m) → word ≡ first_of (codes "word") rows → is_new ≡ is_given (first_of (codes "new") rows) → is_json ≡ is_given (first_of (codes "json") rows) → size ≡ first_of (codes "size") rows
+        → request_in words ≡ option_and_then (λ (w : Text). request_of name w is_new is_json size) word
+    request_is name rows word size is_new is_json named found read said asked sized =
         by_entered (Some (name, rows)) (sym (matches simple).1 ∙ entered_is _ name rows (sym named) (sym found))
-        ∙ ap (λ (n : Bool). option_and_then (λ (x : Text). request_of name x n (first_of (codes "size") rows)) (first_of (codes "word") rows)) (sym said)
-        ∙ ap₂ (λ (s : Option Text) (w : Option Text). option_and_then (λ (x : Text). request_of name x is_new s) w) (sym sized) (sym read)
+        ∙ ap₂ (λ (n : Bool) (j : Bool). option_and_then (λ (x : Text). request_of name x n j (first_of (codes "size") rows)) (first_of (codes "word") rows)) (sym said) (sym asked)
+        ∙ ap₂ (λ (s : Option Text) (w : Option Text). option_and_then (λ (x : Text). request_of name x is_new is_json s) w) (sym sized) (sym read)

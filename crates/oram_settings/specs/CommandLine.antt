@@ -1,5 +1,5 @@
 -- The command line of oramdisk, by clap's own definitions.
-use Rattle.std.specs.Prelude.{◌≡◌, ◌≢◌, ◌⊎◌, ⊤, ℕ, Bool, List, [], ◌∷◌, map, true, false, Option, Some, None, codes, if◌then◌else◌, option_and_then, string_bytes}
+use Rattle.std.specs.Prelude.{◌≡◌, ◌≢◌, ◌⊎◌, ⊤, ℕ, Bool, List, [], ◌∷◌, true, false, Option, Some, None, codes, if◌then◌else◌, option_and_then, string_bytes}
 use Rattle.std.specs.Str.{bytes_eq}
 use Rattle.clap.specs.Walk.{Row, Rule, Text, first_of}
 use Rattle.clap.specs.Simple.{App, Shape, new_rule, new_shape, on_top, subcommand_of}
@@ -21,7 +21,7 @@ pub data Request : Type 0 where
   folder : List ℕ → List ℕ → Request
   format : List ℕ → Request
   serve : List ℕ → Request
-  status : List ℕ → Request
+  status : List ℕ → Bool → Request
   retry : List ℕ → Request
 
 -- a request by value, without the places of texts in memory
@@ -30,7 +30,7 @@ request_for (Host name is_new) = host (string_bytes name) is_new
 request_for (New name size) = folder (string_bytes name) (string_bytes size)
 request_for (Format name) = format (string_bytes name)
 request_for (Serve name) = serve (string_bytes name)
-request_for (Status name) = status (string_bytes name)
+request_for (Status name is_json) = status (string_bytes name) is_json
 request_for (Retry name) = retry (string_bytes name)
 
 -- the word that each subcommand takes, which help shows by a name
@@ -51,6 +51,13 @@ host_runner = record (new_shape (codes "host")) {
   has_version = true;
 }
 
+-- the subcommand that takes a word, and another flag
+abbrev pub status_printer : Shape
+status_printer = record (new_shape (codes "status")) {
+  rules = word_rule ∷ record (new_rule (codes "json")) { long = Some (codes "json"); action = Some SetTrue } ∷ [];
+  has_version = true;
+}
+
 -- a subcommand that takes a word
 abbrev pub disk_command : Text → Shape
 disk_command name = record (new_shape name) { rules = word_rule ∷ []; has_version = true }
@@ -63,7 +70,7 @@ bare = on_top (λ s. record s { has_version = true; subcommand_required = true }
 abbrev pub program : App
 program = record {
   top = record (new_shape (codes "oramdisk")) { is_leaf = false; has_version = true; subcommand_required = true };
-  subs = folder_maker ∷ host_runner ∷ map disk_command (codes "format" ∷ codes "serve" ∷ codes "status" ∷ codes "retry" ∷ []);
+  subs = folder_maker ∷ host_runner ∷ disk_command (codes "format") ∷ disk_command (codes "serve") ∷ status_printer ∷ disk_command (codes "retry") ∷ [];
 }
 
 -- clap has this text for a flag that is given, and another one for a flag that isn't
@@ -71,20 +78,20 @@ abbrev pub is_given : Option Text → Bool
 is_given (Some text) = bytes_eq text (codes "true")
 is_given None = false
 
--- what a subcommand asks for, by its word, whether the flag for a new file was given, and perhaps a size
-abbrev pub request_of : Text → Text → Bool → Option Text → Option Request
-request_of name word is_new None =
+-- what a subcommand asks for, by its word, whether the flags for a new file and for JSON were given, and perhaps a size
+abbrev pub request_of : Text → Text → Bool → Bool → Option Text → Option Request
+request_of name word is_new is_json None =
     if bytes_eq name (codes "host") then Some (host word is_new)
     else if bytes_eq name (codes "format") then Some (format word)
     else if bytes_eq name (codes "serve") then Some (serve word)
-    else if bytes_eq name (codes "status") then Some (status word)
+    else if bytes_eq name (codes "status") then Some (status word is_json)
     else if bytes_eq name (codes "retry") then Some (retry word)
     else None
-request_of name word is_new (Some size) = if bytes_eq name (codes "new") then Some (folder word size) else None
+request_of name word is_new is_json (Some size) = if bytes_eq name (codes "new") then Some (folder word size) else None
 
 -- what the matches of a subcommand ask for
 abbrev pub request_by : Text × List Row → Option Request
-request_by matches = option_and_then (λ word. request_of matches.0 word (is_given (first_of (codes "new") matches.1)) (first_of (codes "size") matches.1)) (first_of (codes "word") matches.1)
+request_by matches = option_and_then (λ word. request_of matches.0 word (is_given (first_of (codes "new") matches.1)) (is_given (first_of (codes "json") matches.1)) (first_of (codes "size") matches.1)) (first_of (codes "word") matches.1)
 
 -- nothing if clap finds a fault
 abbrev pub unless_faulty : Kinds → Option Request → Option Request

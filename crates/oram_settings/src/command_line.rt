@@ -24,8 +24,8 @@ pub enum Subcommand {
     Format(String),
     /// To serve the disk whose settings are in the file of this name.
     Serve(String),
-    /// To print the status of the disk whose settings are in the file of this name.
-    Status(String),
+    /// To print the status of the disk whose settings are in the file of this name, in JSON if `is_json`.
+    Status { settings: String, is_json: bool },
     /// To try the disk whose settings are in the file of this name again after it has failed.
     Retry(String),
 }
@@ -110,6 +110,22 @@ fn host_runner<'a>(alloc: Global) -> Result<Command<'a>, AllocError>
     with_args(host, word(alloc, "SETTINGS", help::HOST_SETTINGS), new)
 }
 
+/// Returns the subcommand that prints the status of a disk.
+fn status_printer<'a>(alloc: Global) -> Result<Command<'a>, AllocError>
+    ensures local { IfOk result (λ c. (fields_of c).has_globals ≡ false) }
+    ensures shape { IfOk result (λ c. shape_of c ≡ spec.status_printer) }
+{
+    let json = Arg::new(alloc, "json")
+        .long("json")
+        .help(help::JSON)
+        .action(ArgAction::SetTrue);
+    let status = Command::new(alloc, "status")
+        .version(help::VERSION)
+        .about(help::STATUS)
+        .after_help(help::STATUS_MORE);
+    with_args(status, word(alloc, "SETTINGS", help::DISK_SETTINGS), json)
+}
+
 /// Returns a subcommand that takes the name of a disk's settings file.
 fn disk_command<'a>(
     alloc: Global,
@@ -160,8 +176,7 @@ fn command<'a>(alloc: Global) -> Result<Command<'a>, AllocError>
     let made = with_subcommand(made, format)?;
     let serve = disk_command(alloc, "serve", help::SERVE, help::SERVE_MORE);
     let made = with_subcommand(made, serve)?;
-    let status = disk_command(alloc, "status", help::STATUS, help::STATUS_MORE);
-    let made = with_subcommand(made, status)?;
+    let made = with_subcommand(made, status_printer(alloc))?;
     let retry = disk_command(alloc, "retry", help::RETRY, help::RETRY_MORE);
     with_subcommand(made, retry)
 }
@@ -176,16 +191,17 @@ fn is_given(flag: Option<&str>) -> bool
     }
 }
 
-/// Returns what a subcommand asks for, by its word, whether the flag for a new file was given, and perhaps a size.
-/// Returns `None` if there is no such subcommand.
+/// Returns what a subcommand asks for, by its word, whether the flags for a new file and for JSON were given, and perhaps a
+/// size. Returns `None` if there is no such subcommand.
 fn subcommand_of(
     alloc: Global,
     name: &str,
     word: &str,
     is_new: bool,
+    is_json: bool,
     size: Option<&str>,
 ) -> Result<Option<Subcommand>, AllocError>
-    ensures { IfOk result (λ w. request_of name.now word.now is_new (option_map (λ s. s.now) size.entry) ≡ option_map request_for w) }
+    ensures { IfOk result (λ w. request_of name.now word.now is_new is_json (option_map (λ s. s.now) size.entry) ≡ option_map request_for w) }
 {
     let word = String::from_str(alloc, word)?;
     match size {
@@ -196,7 +212,10 @@ fn subcommand_of(
             })),
             "format" => Ok(Some(Subcommand::Format(word))),
             "serve" => Ok(Some(Subcommand::Serve(word))),
-            "status" => Ok(Some(Subcommand::Status(word))),
+            "status" => Ok(Some(Subcommand::Status {
+                settings: word,
+                is_json,
+            })),
             "retry" => Ok(Some(Subcommand::Retry(word))),
             _ => Ok(None),
         },
@@ -264,7 +283,8 @@ pub fn read_command_line(alloc: Global, words: &[&str]) -> Result<Subcommand, No
         return Err(no_request(alloc));
     };
     let is_new = is_given(inner.get_str("new"));
-    match subcommand_of(alloc, name, word, is_new, inner.get_str("size"))? {
+    let is_json = is_given(inner.get_str("json"));
+    match subcommand_of(alloc, name, word, is_new, is_json, inner.get_str("size"))? {
         Some(words) => Ok(words),
         None => Err(no_request(alloc)),
     }

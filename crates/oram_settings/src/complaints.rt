@@ -1,15 +1,20 @@
 //! Complaints about a settings file, for whoever wrote it.
 
 use crate::disk_file::{DiskSettings, flag_at, place_at, sealing_at};
+use crate::sizes::read_size;
 use oram_cli::{count_at, key_at, name_at, number_at};
 use std::alloc::{AllocError, Global};
 use std::fmt;
 use strsim::levenshtein;
 use toml::Table;
 
+/// The bytes of a sector. Some clients, such as the kernel's, round the size of a disk down to whole sectors.
+pub const SECTOR: u64 = 512;
+
 /// The kind of value that a setting must have.
 #[derive(Clone, Copy, Debug, PartialEq, Eq)]
 enum Kind {
+    Bytes,
     Number,
     Seconds,
     Sealer,
@@ -23,6 +28,7 @@ enum Kind {
 impl fmt::Display for Kind {
     fn fmt<W: fmt::Write>(&self, f: &mut fmt::Formatter<W>) -> fmt::Result {
         f.write_str(match self {
+            Kind::Bytes => "a whole number of bytes, without quotation marks and without a unit",
             Kind::Number => "a whole number, without quotation marks",
             Kind::Seconds => "a number of seconds from 1 to 1000000, without quotation marks",
             Kind::Sealer => "\"chacha\" or \"plain\"",
@@ -49,7 +55,7 @@ struct Setting {
 const DISK: [Setting; 12] = [
     Setting {
         key: "size",
-        kind: Kind::Number,
+        kind: Kind::Bytes,
         is_required: true,
     },
     Setting {
@@ -123,13 +129,35 @@ const HOST: [Setting; 2] = [
     },
 ];
 
+/// A settings file of one kind, and what tells it from one of the other kind.
+#[derive(Clone, Copy, Debug)]
+struct Form {
+    settings: &'static [Setting],
+    /// The settings of a file of the other kind.
+    others: &'static [Setting],
+    /// What a file of the other kind is, and which file to name in its place.
+    other: &'static str,
+}
+
+const DISK_FORM: Form = Form {
+    settings: &DISK,
+    others: &HOST,
+    other: "is a host's settings file: name the disk's, such as mydisk/disk.toml",
+};
+
+const HOST_FORM: Form = Form {
+    settings: &HOST,
+    others: &DISK,
+    other: "is a disk's settings file, which the host doesn't need: name the host's, such as host.toml",
+};
+
 /// The greatest number of wrong letters in a key at which a complaint still says which key was meant.
 const FEW_LETTERS: usize = 2;
 
 /// Returns whether the value at a key is of its kind.
 fn is_right(table: &Table, setting: Setting) -> bool {
     match setting.kind {
-        Kind::Number => number_at(table, setting.key).is_ok(),
+        Kind::Bytes | Kind::Number => number_at(table, setting.key).is_ok(),
         Kind::Seconds => count_at(table, setting.key).is_ok(),
         Kind::Sealer => sealing_at(table, setting.key).is_ok(),
         Kind::Key => key_at(table, setting.key).is_ok(),
@@ -157,6 +185,42 @@ fn place_of(alloc: Global, name: &str, text: &str, key: &str) -> Result<String, 
         }
     }
     String::from_str(alloc, name)
+}
+
+/// Returns what a line has after its `=`, without a comment, spaces and quotation marks.
+fn value_in(line: &str) -> Option<&str> {
+    let (_key, after) = line.split_once('=')?;
+    let value = match after.split_once('#') {
+        Some((value, _comment)) => value,
+        None => after,
+    };
+    Some(value.trim().trim_matches('"'))
+}
+
+/// Returns what a line sets `size` to as people write sizes, such as `64MiB`, and how many bytes that is.
+fn size_in(line: &str) -> Option<(&str, u64)> {
+    if !sets(line, "size") {
+        return None;
+    }
+    let value = value_in(line)?;
+    Some((value, read_size(value)?))
+}
+
+/// Returns the complaint about the line with this number, which sets `size` to an amount with a unit; `None` if it doesn't.
+fn size_complaint(
+    alloc: Global,
+    name: &str,
+    text: &str,
+    number: usize,
+) -> Result<Option<String>, AllocError> {
+    let line = text.lines().nth(number.saturating_sub(1));
+    let Some((value, size)) = line.and_then(size_in) else {
+        return Ok(None);
+    };
+    let kind = Kind::Bytes;
+    Ok(Some(format!(in alloc;
+        "{name}, line {number}: size has to be {kind}: {size} for {value}"
+    )?))
 }
 
 /// Returns how many letters of a word are wrong if it was meant for a key. What a key was called before has none.
@@ -252,7 +316,12 @@ fn wrong_at(
     }
     let place = place_of(alloc, name, text, key)?;
     let place = place.as_str();
-    Ok(Some(format!(in alloc; "{place}: {key} has to be {kind}")?))
+    match text.lines().find_map(size_in) {
+        Some((value, size)) if key == "size" => Ok(Some(format!(in alloc;
+            "{place}: {key} has to be {kind}: {size} for {value}"
+        )?)),
+        _ => Ok(Some(format!(in alloc; "{place}: {key} has to be {kind}")?)),
+    }
 }
 
 /// Returns what is wrong with a table in which each key belongs to one of these settings.
@@ -271,7 +340,8 @@ fn wrong_value(
     String::from_str(alloc, name)
 }
 
-/// Returns the complaint that a text isn't a TOML document, with the line where it goes wrong.
+/// Returns the complaint that a text isn't a TOML document, with the line where it goes wrong. A size with a unit is no value of
+/// TOML: then the complaint says how many bytes it is.
 fn no_document(
     alloc: Global,
     name: &str,
@@ -287,31 +357,33 @@ fn no_document(
         .filter(|byte| **byte == b'\n')
         .count()
         .saturating_add(1);
+    if let Some(complaint) = size_complaint(alloc, name, text, line)? {
+        return Ok(complaint);
+    }
     let why = error.message();
     format!(in alloc; "{name}, line {line}: {why}")
 }
 
 /// Returns what is wrong with the settings in the file `name`.
-fn complaint(
-    alloc: Global,
-    name: &str,
-    text: &str,
-    settings: &[Setting],
-) -> Result<String, AllocError> {
+fn complaint(alloc: Global, name: &str, text: &str, form: Form) -> Result<String, AllocError> {
     let table = match toml::table_from_str(alloc, text) {
         Ok(table) => table,
         Err(error) => return no_document(alloc, name, text, &error),
     };
-    match unknown_key(&table, settings) {
-        Some(key) => unknown_key_complaint(alloc, name, text, key, settings),
-        None => wrong_value(alloc, name, text, &table, settings),
+    match unknown_key(&table, form.settings) {
+        Some(key) if is_known(key, form.others) => {
+            let other = form.other;
+            format!(in alloc; "{name} {other}")
+        }
+        Some(key) => unknown_key_complaint(alloc, name, text, key, form.settings),
+        None => wrong_value(alloc, name, text, &table, form.settings),
     }
 }
 
 /// Returns what is wrong with the text of the file `name`, which isn't a disk's settings: the file, the line if it is
 /// known, the key, and what its value has to be.
 pub fn disk_complaint(alloc: Global, name: &str, text: &str) -> Result<String, AllocError> {
-    complaint(alloc, name, text, &DISK)
+    complaint(alloc, name, text, DISK_FORM)
 }
 
 /// The settings whose numbers make the disk.
@@ -410,7 +482,14 @@ pub fn numbers_complaint(
     format!(in alloc; "{place}: {key} has to be {range}")
 }
 
+/// Returns the complaint that the size in the file `name` isn't a whole number of sectors.
+pub fn sectors_complaint(alloc: Global, name: &str) -> Result<String, AllocError> {
+    format!(in alloc;
+        "{name}: size has to be a multiple of {SECTOR}, since clients count the bytes of a disk by so many"
+    )
+}
+
 /// Returns what is wrong with the text of the file `name`, which isn't a host's settings.
 pub fn host_complaint(alloc: Global, name: &str, text: &str) -> Result<String, AllocError> {
-    complaint(alloc, name, text, &HOST)
+    complaint(alloc, name, text, HOST_FORM)
 }

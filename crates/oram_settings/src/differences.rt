@@ -1,11 +1,13 @@
 //! Settings that differ from those that a disk was formatted with.
 
-ghost use Rattle.std.specs.Prelude.{◌≡◌, None};
+ghost use Rattle.std.specs.Prelude.{◌≡◌, IfOk, None, string_bytes};
+ghost use Rattle.oram_settings.specs.Differences as spec;
 ghost use Rattle.oram_settings.specs.Differences.{AgreeAt, IsFirstDifference, fixed_keys};
 ghost use Rattle.oram_settings.specs.Settings.{IsDeviceOf};
 
 use crate::disk_file::{DiskSettings, Sealing};
 use oram_geometry::Device;
+use std::alloc::{AllocError, Global};
 use std::fmt;
 
 /// A key of the settings that is fixed once the disk is formatted.
@@ -63,4 +65,33 @@ pub fn first_difference(
     } else {
         None
     }
+}
+
+/// Returns the value that a key had when a disk was formatted, as the settings file spells it.
+pub fn value_text(
+    alloc: Global,
+    key: FixedKey,
+    device: &Device,
+    sealing: Sealing,
+) -> Result<String, AllocError>
+    ensures { IfOk result (λ text. string_bytes text ≡ spec.value_text device.now sealing key) }
+{
+    prove!(0 < device.trees());
+    let number = match key {
+        FixedKey::Size => u64::from(device.blocks_in(0)) * device.block_bytes() as u64,
+        FixedKey::Block => device.block_bytes() as u64,
+        FixedKey::Slots => device.slots() as u64,
+        FixedKey::LeafLoad => device.leaf_load(),
+        FixedKey::Table => device.top(),
+        FixedKey::Sealer => {
+            return String::from_str(
+                alloc,
+                match sealing {
+                    Sealing::Plain => "\"plain\"",
+                    Sealing::ChaCha => "\"chacha\"",
+                },
+            );
+        }
+    };
+    format!(in alloc; "{number}")
 }

@@ -78,7 +78,9 @@ pub(crate) const STATUS_MORE: &str =
 'oramdisk new' writes.
 
 Example:
-  oramdisk status mydisk/disk.toml";
+  oramdisk status mydisk/disk.toml
+  oramdisk status --json mydisk/disk.toml    for a program that watches over it: it ends with 17 if the disk has failed, and with
+                                             28 if it isn't formatted yet or its state is missing";
 
 pub(crate) const RETRY: &str =
     "Lets a failed disk be served again, from the state that was kept last";
@@ -96,6 +98,8 @@ pub(crate) const DISK_SETTINGS: &str = "The disk's settings file, such as mydisk
 pub(crate) const HOST_SETTINGS: &str = "The host's settings file, such as host.toml";
 
 pub(crate) const NEW_FILE: &str = "Makes the file of buckets, and refuses if it is there";
+
+pub(crate) const JSON: &str = "Prints one line of JSON";
 
 pub(crate) const FOLDER: &str = "The folder to make";
 

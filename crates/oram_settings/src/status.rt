@@ -6,6 +6,7 @@ ghost use Rattle.oram_settings.specs.Status as spec;
 use crate::amounts::counted;
 use oram_bucket::Sealer;
 use oram_core::{Core, Reason};
+use serde::Serialize;
 use std::alloc::{AllocError, Global};
 
 /// The status of a disk, according to its kept state.
@@ -94,4 +95,49 @@ pub fn report(alloc: Global, status: &Status) -> Result<String, AllocError>
     format!(in alloc;
         "size: {size} bytes, {blocks} of {block_bytes}\ntrees: {trees}\nstash: {stash}\naccesses: {accesses} made, {left} left\nwaiting: {waiting}\nstate: {failing}\n"
     )
+}
+
+/// The status of a disk as `status --json` shows it. The names of its members are part of what users rely on.
+#[derive(Drop, Serialize)]
+struct JsonReport<'a> {
+    used: bool,
+    size: u64,
+    blocks: u64,
+    block: u64,
+    trees: u8,
+    stash: u64,
+    accesses: u64,
+    accesses_left: u64,
+    waiting: u64,
+    failed: bool,
+    /// Why the disk has failed, if it has.
+    failure: Option<&'a str>,
+}
+
+/// Returns the status of a disk as one line of JSON (RFC 8259): whether another process uses the disk, what [`report`] tells,
+/// and why it has failed, if it has.
+pub fn report_json(
+    alloc: Global,
+    status: &Status,
+    is_used: bool,
+    failure: Option<&str>,
+) -> Result<String, AllocError> {
+    let report = JsonReport {
+        used: is_used,
+        size: status.blocks.saturating_mul(status.block_bytes),
+        blocks: status.blocks,
+        block: status.block_bytes,
+        trees: status.trees,
+        stash: status.stash,
+        accesses: status.accesses,
+        accesses_left: status.lifetime.saturating_sub(status.accesses),
+        waiting: status.waiting,
+        failed: failure.is_some(),
+        failure,
+    };
+    let Ok(line) = serde_json::to_string(alloc, &report) else {
+        return Err(AllocError);
+    };
+    let line = line.as_str();
+    format!(in alloc; "{line}\n")
 }

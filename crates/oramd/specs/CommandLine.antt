@@ -1,5 +1,5 @@
 -- What clap reads from the command line.
-use Rattle.std.specs.Prelude.{ℕ, List, [], ◌∷◌, map, true, false, Option, Some, None, codes, if◌then◌else◌, option_and_then, string_bytes}
+use Rattle.std.specs.Prelude.{◌≡◌, ◌⊎◌, ℕ, List, [], ◌∷◌, map, true, false, Option, Some, None, codes, if◌then◌else◌, option_and_then, string_bytes}
 use Rattle.std.specs.Str.{bytes_eq}
 use Rattle.clap.specs.Walk.{Text}
 use Rattle.clap.specs.Simple.{App, new_shape}
@@ -19,6 +19,10 @@ pub data Request : Type 0 where
 abbrev pub request_for : Subcommand → Request
 request_for (words.Run role file) = run role (string_bytes file)
 request_for (words.Loop digits) = loop (string_bytes digits)
+
+-- the words of a command line ask for help, after the program's name
+abbrev pub AsksForHelp : List Text → Type 0
+AsksForHelp words = (name : Text) × ((words ≡ name ∷ codes "-h" ∷ []) ⊎ (words ≡ name ∷ codes "--help" ∷ []))
 
 -- the program's description for clap: one of four subcommands, with its word
 abbrev pub program : App

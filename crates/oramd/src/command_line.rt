@@ -1,13 +1,25 @@
 //! The command line.
 
-ghost use Rattle.std.specs.Prelude.{◌≡◌, None, Some, IfOk, IsErrOf};
+ghost use Rattle.std.specs.Prelude.{◌≡◌, ◌↔◌, None, Some, IfOk, IsErrOf, IsTrue};
 ghost use Rattle.clap.specs.Walk.{texts};
 ghost use Rattle.clap.specs.Words.{app_of};
-ghost use Rattle.oramd.specs.CommandLine.{program, request_in, request_of, request_for};
+ghost use Rattle.oramd.specs.CommandLine.{AsksForHelp, program, request_in, request_of, request_for};
 
 use clap::Command;
 use oram_cli::{InputFault, read_named, word_taker};
 use std::alloc::{AllocError, Global};
+
+/// What the program prints if it is asked for help.
+pub const HELP: &str = "oramd: an oblivious block store
+
+  oramd host HOST.toml        keeps buckets for others
+  oramd format FORMAT.toml    makes a device on a host, and its state file
+  oramd proxy PROXY.toml      answers the device's sessions
+  oramd loop HEX              answers session frames on a device of its own, over a socket to itself
+  oramd -h                    shows this
+
+docs/oramd.md describes the settings, and docs/formats.md the frames. For a disk that a system mounts, use oramdisk.
+";
 
 /// What the program does with its settings.
 #[derive(Clone, Copy, Debug, PartialEq, Eq)]
@@ -27,6 +39,16 @@ pub enum Subcommand {
     Run(Role, String),
     /// To answer the session frames in these hexadecimal digits.
     Loop(String),
+}
+
+/// Returns whether the words of a command line ask for help. The first word is the program's name.
+pub fn asks_for_help(words: &[&str]) -> bool
+    ensures { IsTrue result ↔ AsksForHelp (texts words.now) }
+{
+    match words {
+        [_, word] => *word == "-h" || *word == "--help",
+        _ => false,
+    }
 }
 
 /// Describes the command line to clap.
@@ -57,7 +79,7 @@ fn subcommand_of(alloc: Global, name: &str, word: &str) -> Result<Subcommand, In
 }
 
 /// Reads the words of a command line, beginning with the program's name. Fails with `Bad` if they ask for nothing that
-/// the program can do. A request for help fails with `Bad` too.
+/// the program can do. A request for help does so too ([`asks_for_help`]).
 pub fn read_command_line(alloc: Global, words: &[&str]) -> Result<Subcommand, InputFault>
     // It is what clap's matches of the words ask for.
     ensures ok { IfOk result (λ w. request_in (texts words.now) ≡ Some (request_for w)) }

@@ -13,7 +13,7 @@ mod roles;
 mod room;
 mod settings_file;
 
-pub use command_line::{Role, Subcommand, read_command_line};
+pub use command_line::{HELP, Role, Subcommand, asks_for_help, read_command_line};
 pub use endings::{after_serving, ending};
 pub use faults::{Fault, report};
 pub use formatted_state::{format_state, made_device};
@@ -25,18 +25,25 @@ pub use settings_file::{Settings, read_settings};
 use std::process::ExitCode;
 use std::rt::Env;
 
-/// Reads what the command line asks for.
-fn read_arguments<R: Env + AllocGlobal>(rt: &R) -> Result<Subcommand, InputFault> {
+/// Reads what the command line asks for. Returns `None` if that is help.
+fn read_arguments<R: Env + AllocGlobal>(rt: &R) -> Result<Option<Subcommand>, InputFault> {
     let words = arguments(rt)?;
     let texts = texts_of(rt.alloc(), &words)?;
-    read_command_line(rt.alloc(), &texts)
+    if asks_for_help(&texts) {
+        return Ok(None);
+    }
+    Ok(Some(read_command_line(rt.alloc(), &texts)?))
 }
 
 /// Does what the command line asks for.
 fn run(rt: &HostRuntime) -> Result<(), Fault> {
     match read_arguments(rt) {
-        Ok(Subcommand::Run(role, name)) => roles::run(rt, role, name.as_str()),
-        Ok(Subcommand::Loop(digits)) => roles::loop_frames(rt, digits.as_str()),
+        Ok(Some(Subcommand::Run(role, name))) => roles::run(rt, role, name.as_str()),
+        Ok(Some(Subcommand::Loop(digits))) => roles::loop_frames(rt, digits.as_str()),
+        Ok(None) => {
+            let _passed_over = rt.print(HELP);
+            Ok(())
+        }
         Err(InputFault::Bad) => Err(Fault::CommandLine),
         Err(InputFault::OutOfMemory) => Err(Fault::OutOfMemory),
     }

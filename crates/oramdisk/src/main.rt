@@ -34,7 +34,7 @@ fn run(rt: &HostRuntime) -> Result<(), Fault> {
         Ok(Subcommand::New { folder, size }) => make_folder(rt, folder, size.as_str()),
         Ok(Subcommand::Format(name)) => format_disk(rt, name),
         Ok(Subcommand::Serve(name)) => serve_command::serve_disk(rt, name),
-        Ok(Subcommand::Status(name)) => print_status(rt, name),
+        Ok(Subcommand::Status { settings, is_json }) => print_status(rt, settings, is_json),
         Ok(Subcommand::Retry(name)) => retry(rt, name),
         Err(NoRequest::Help(text)) => {
             let _passed_over = rt.print(text.as_str());

@@ -9,7 +9,7 @@ use oram_client::{
 use oram_core::{Core, Reason};
 use oram_disk_client::{
     disk_in, is_replaced, keep_failure, kept_failure, kept_in, keys_in, named, process_for,
-    state_bytes, take_lock,
+    state_bytes, take_lock, unkept,
 };
 use oram_disk_host::{Fault, FaultKind, listen_at, not_accepted, time};
 use oram_nbd::{BlockDevice, DiskFault, NbdFault, is_stop, serve};
@@ -250,9 +250,13 @@ type DiskKeeper<'a> = FileKeeper<FilePlace<&'a HostRuntime>>;
 type DiskVolume<'a, S> = Volume<S, HostLink<'a>, DiskKeeper<'a>, ChaChaTape>;
 
 /// Returns why a disk stopped.
-fn stopped<S: Sealer>(volume: &DiskVolume<'_, S>, settings: DiskSettings) -> Fault {
-    if volume.keeper.failure().is_some() {
-        Fault::About(FaultKind::StateNotKept, settings.state)
+fn stopped<S: Sealer>(
+    alloc: Global,
+    volume: &DiskVolume<'_, S>,
+    settings: DiskSettings,
+) -> Fault {
+    if let Some(failure) = volume.keeper.failure() {
+        unkept(alloc, FaultKind::StateNotKept, settings.state.as_str(), failure)
     } else if volume.core.next_ticket() >= volume.core.device().lifetime() {
         Fault::About(FaultKind::UsedUp, settings.state)
     } else {
@@ -285,7 +289,7 @@ fn serve_volume<S: Sealer>(
         Err(DiskFault::Failed | DiskFault::Stopped) => {}
         Err(DiskFault::OutOfMemory) => return Err(Fault::OutOfMemory),
     }
-    Err(stopped(&disk.disk, settings))
+    Err(stopped(alloc, &disk.disk, settings))
 }
 
 /// Makes the link to the host that the settings name. The link works only if that host keeps the disk with these keys.
@@ -462,12 +466,12 @@ fn serve_kept(
     let keeper = FileKeeper::new(place, kept.head, settings.sync);
     match kept.head.sealer {
         SealerKind::Plain => {
-            let process = process_for(alloc, &settings, name, &kept, PlainSeal)?;
+            let process = process_for(alloc, &settings, name.as_str(), &kept, PlainSeal)?;
             serve_process(rt, settings, clients, keeper, &keys, process)
         }
         SealerKind::ChaCha20 => {
             let sealer = ChaChaSeal { key: keys.sealer.0 };
-            let process = process_for(alloc, &settings, name, &kept, sealer)?;
+            let process = process_for(alloc, &settings, name.as_str(), &kept, sealer)?;
             serve_process(rt, settings, clients, keeper, &keys, process)
         }
     }

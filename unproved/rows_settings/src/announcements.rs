@@ -4,12 +4,13 @@ use crate::disks::device_in;
 use oram_cli::InputFault;
 use oram_settings::{
     Sealing, amount_text, begun_text, counted, disk_complaint, host_complaint, hosting_text,
-    made_text, numbers_complaint, read_disk_settings, serving_text, size_text, stored_bytes,
+    made_text, numbers_complaint, read_disk_settings, serving_text, size_mistake, size_text,
+    stored_bytes,
 };
 use rows::{Page, RowFault, RowWords};
 use std::alloc::Global;
 
-/// `says amount BYTES`, `says size BYTES`, `says counted COUNT NAME`, `says stored SIZE BLOCK SLOTS LEAF-LOAD
+/// `says amount BYTES`, `says size BYTES`, `says no-size TEXT`, `says counted COUNT NAME`, `says stored SIZE BLOCK SLOTS LEAF-LOAD
 /// TABLE SEALER`, `says made FOLDER SIZE STORED`, `says begun STORED HOST`, `says hosting FILE LISTEN`, `says serving SIZE URI`, and,
 /// about the text of a file, `says bad-disk NAME TEXT`, `says bad-host NAME TEXT` and `says bad-numbers NAME TEXT`: writes
 /// what `oramdisk` prints.
@@ -20,6 +21,7 @@ pub fn says(alloc: Global, words: &mut RowWords, page: &mut Page) -> Result<(), 
         "size" => size_text(alloc, words.number())?,
         "counted" => counted(alloc, words.number(), words.text())?,
         "stored" => amount_text(alloc, stored(words)?)?,
+        "no-size" => size_mistake(alloc, words.all())?,
         "made" => made_text(alloc, words.text(), words.number(), words.number())?,
         "begun" => begun_text(alloc, words.number(), words.text())?,
         "hosting" => hosting_text(alloc, words.text(), words.text())?,

@@ -46,6 +46,7 @@ impl Table for Calls {
             "meter" => reports::meter(&mut self.meter, words, page),
             "due" => reports::due(self.meter.as_mut(), words, page),
             "report" => reports::disk_report(alloc, words, page),
+            "json" => reports::json(alloc, words, page),
             _ => Err(RowFault::NoRow),
         }
     }

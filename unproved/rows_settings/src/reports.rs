@@ -1,7 +1,7 @@
 //! Reports about a formatting and about a disk.
 
 use oram_core::Reason;
-use oram_settings::{Meter, Status, progress_text, report};
+use oram_settings::{Meter, Status, failure_text, progress_text, report, report_json};
 use rows::{Page, RowFault, RowWords};
 use std::alloc::Global;
 
@@ -39,10 +39,10 @@ pub fn due(
     Ok(())
 }
 
-/// `report BLOCKS BLOCK_BYTES TREES STASH ACCESSES LIFETIME WAITING FAILURE ..`: writes the report of a disk. The disk is
-/// `sound`, or has failed with `malformed`, `tampered TREE LEVEL` or `refused CODE`.
-pub fn disk_report(alloc: Global, words: &mut RowWords, page: &mut Page) -> Result<(), RowFault> {
-    let status = Status {
+/// Reads BLOCKS BLOCK_BYTES TREES STASH ACCESSES LIFETIME WAITING FAILURE .., where the failure is `sound`, `malformed`,
+/// `tampered TREE LEVEL` or `refused CODE`.
+fn status(words: &mut RowWords) -> Result<Status, RowFault> {
+    Ok(Status {
         blocks: words.number(),
         block_bytes: words.number(),
         trees: words.byte(),
@@ -51,8 +51,24 @@ pub fn disk_report(alloc: Global, words: &mut RowWords, page: &mut Page) -> Resu
         lifetime: words.number(),
         waiting: words.number(),
         failure: failure(words)?,
-    };
+    })
+}
+
+/// `report STATUS`: writes the report of a disk.
+pub fn disk_report(alloc: Global, words: &mut RowWords, page: &mut Page) -> Result<(), RowFault> {
+    let status = status(words)?;
     let text = report(alloc, &status)?;
+    page.lines(text.as_str());
+    Ok(())
+}
+
+/// `json USED STATUS`: writes the report of a disk in JSON. `USED` is `used` or `unused`.
+pub fn json(alloc: Global, words: &mut RowWords, page: &mut Page) -> Result<(), RowFault> {
+    let is_used = words.text() == "used";
+    let status = status(words)?;
+    let why = failure_text(alloc, status.failure)?;
+    let failure = status.failure.map(|_| why.as_str());
+    let text = report_json(alloc, &status, is_used, failure)?;
     page.lines(text.as_str());
     Ok(())
 }

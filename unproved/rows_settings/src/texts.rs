@@ -57,7 +57,10 @@ fn put_subcommand(subcommand: &Subcommand, page: &mut Page) {
         }
         Subcommand::Format(name) => put_both(page, "format", name),
         Subcommand::Serve(name) => put_both(page, "serve", name),
-        Subcommand::Status(name) => put_both(page, "status", name),
+        Subcommand::Status { settings, is_json } => {
+            put_both(page, "status", settings);
+            page.word(if *is_json { "json" } else { "lines" });
+        }
         Subcommand::Retry(name) => put_both(page, "retry", name),
         Subcommand::New { folder, size } => {
             put_both(page, "new", folder);
