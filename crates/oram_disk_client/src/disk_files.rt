@@ -17,8 +17,8 @@ ghost use Rattle.oram_settings.specs.Differences as formatted;
 use oram_bucket::Sealer;
 use oram_cli::{FileFault, FileReason, InputFault, LockFault, StateLock, linked_name, lock_state};
 use oram_client::{
-    DiskKey, FileFailure, Head, KeptFault, KeptFile, Keys, SealerKind, WrongKey, kept_name, keys_for,
-    read_kept_file,
+    DiskKey, FileFailure, Head, KeptFault, KeptFile, Keys, SealerKind, WrongKey, kept_name,
+    keys_for, read_kept_file,
 };
 use oram_disk_host::{Fault, FaultKind, settings_text};
 use oram_geometry::Device;

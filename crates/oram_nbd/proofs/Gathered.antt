@@ -26,7 +26,7 @@ use Rattle.oram_nbd.specs.Messages.SimpleReply.{Done, Refused}
 use Rattle.oram_nbd.specs.Operations.{all_done, all_given, done_by, given_by, read_len, AreBegun, IsPartOf, IsPlaced, IsWithin, TouchSomeByte}
 use Rattle.oram_nbd.specs.Service.{after, array_after_requests, whole_request_of, given, given_len, refusal_of, touched_len, whole_requests_text, replies_text, AreRequestsBegun, RequestsTouchSomeByte, WholeRequest, FailsForGood, IsAnswer, IsWholeRequest, IsLeftIf, IsPartly, IsRefusal, IsReplied, IsReply, IsService, IsAnsweredBy, NeverFails, SaysFailed, SaysFault, AnsweredRequest}
 use Rattle.oram_nbd.specs.declared.faults.NbdError.{NbdError}
-use Rattle.oram_nbd.specs.declared.faults.NbdError.TheVariants.{Io, NoMemory}
+use Rattle.oram_nbd.specs.declared.faults.NbdError.TheVariants.{Io, NoMemory, Shutdown}
 use Rattle.oram_nbd.specs.declared.operations.Operation.{Operation}
 use Rattle.oram_nbd.specs.declared.operations.Operation.TheVariants.{Read}
 use Rattle.oram_nbd.specs.declared.requests.Request.{Request}
@@ -78,7 +78,7 @@ answer_done size a op (Some e) bytes is nothing long =
 answer_done size a op None bytes is s long = (ap (λ (n : ℕ). refusal_of n a.request) long ∙ is, s.gives bytes, s.does bytes)
 
 -- it is refused, and was done in part
-answer_part : (size : ℕ) (a : WholeRequest) (op : Operation) (o : Option NbdError) (e : NbdError) (bytes later : List ℕ) → (e ≡ Io) ⊎ (e ≡ NoMemory) → refusal_of size a.request ≡ o → DoesIfAccepted o size a op
+answer_part : (size : ℕ) (a : WholeRequest) (op : Operation) (o : Option NbdError) (e : NbdError) (bytes later : List ℕ) → (e ≡ Io) ⊎ ((e ≡ NoMemory) ⊎ (e ≡ Shutdown)) → refusal_of size a.request ≡ o → DoesIfAccepted o size a op
     → length bytes ≡ size → IsPartOf op bytes later → IsAnswer bytes a.request a.payload (reply_if o (Refused e)) later
 answer_part size a op (Some f) e bytes later why is nothing long part =
     inl (ap (λ (n : ℕ). refusal_of n a.request) long ∙ is, subst (λ (x : Operation). IsPartOf x bytes later) nothing part)
@@ -86,7 +86,7 @@ answer_part size a op None e bytes later why is s long part =
     inr (ap (λ (n : ℕ). refusal_of n a.request) long ∙ is, why, s.in_part bytes later part)
 
 -- it is refused, and nothing of it was done
-answer_none : (size : ℕ) (a : WholeRequest) (o : Option NbdError) (e : NbdError) (bytes : List ℕ) → (e ≡ Io) ⊎ (e ≡ NoMemory) → refusal_of size a.request ≡ o → length bytes ≡ size
+answer_none : (size : ℕ) (a : WholeRequest) (o : Option NbdError) (e : NbdError) (bytes : List ℕ) → (e ≡ Io) ⊎ ((e ≡ NoMemory) ⊎ (e ≡ Shutdown)) → refusal_of size a.request ≡ o → length bytes ≡ size
     → IsAnswer bytes a.request a.payload (reply_if o (Refused e)) bytes
 answer_none size a (Some f) e bytes why is long = inl (ap (λ (n : ℕ). refusal_of n a.request) long ∙ is, refl)
 answer_none size a None e bytes why is long =
@@ -195,11 +195,11 @@ pub refused_text : (size : ℕ) (arrived : List WholeRequest) (e : NbdError) →
 refused_text size [] e = refl
 refused_text size (a ∷ arrived) e = ap (λ (l : List ℕ). reply_text a.request.cookie (reply_if (refusal_of size a.request) (Refused e)) ++ l) (refused_text size arrived e)
 
-reply_refused : (size : ℕ) (r : Request) (o : Option NbdError) (e : NbdError) → (e ≡ Io) ⊎ (e ≡ NoMemory) → refusal_of size r ≡ o → IsReply size r (reply_if o (Refused e))
+reply_refused : (size : ℕ) (r : Request) (o : Option NbdError) (e : NbdError) → (e ≡ Io) ⊎ ((e ≡ NoMemory) ⊎ (e ≡ Shutdown)) → refusal_of size r ≡ o → IsReply size r (reply_if o (Refused e))
 reply_refused size r (Some f) e why is = inl is
 reply_refused size r None e why is = inr (is, why)
 
-pub refused_fit : (size : ℕ) (arrived : List WholeRequest) (e : NbdError) → (e ≡ Io) ⊎ (e ≡ NoMemory) → All IsWholeRequest arrived → All (λ (t : AnsweredRequest). IsReplied size t) (refused_requests size arrived e)
+pub refused_fit : (size : ℕ) (arrived : List WholeRequest) (e : NbdError) → (e ≡ Io) ⊎ ((e ≡ NoMemory) ⊎ (e ≡ Shutdown)) → All IsWholeRequest arrived → All (λ (t : AnsweredRequest). IsReplied size t) (refused_requests size arrived e)
 refused_fit size [] e why are = All-nil (λ (t : AnsweredRequest). IsReplied size t)
 refused_fit size (a ∷ arrived) e why are =
     let is = All-head IsWholeRequest a arrived are in
@@ -230,7 +230,7 @@ refused_never_fail size [] e other = tt
 refused_never_fail size (a ∷ arrived) e other = (λ says. other (io_by size a.request (refusal_of size a.request) e refl says), refused_never_fail size arrived e other)
 
 -- nothing was done
-pub refused_idle : (size : ℕ) (arrived : List WholeRequest) (e : NbdError) (bytes : List ℕ) → (e ≡ Io) ⊎ (e ≡ NoMemory) → All IsWholeRequest arrived → length bytes ≡ size
+pub refused_idle : (size : ℕ) (arrived : List WholeRequest) (e : NbdError) (bytes : List ℕ) → (e ≡ Io) ⊎ ((e ≡ NoMemory) ⊎ (e ≡ Shutdown)) → All IsWholeRequest arrived → length bytes ≡ size
     → IsService bytes (refused_requests size arrived e) bytes
 refused_idle size [] e bytes why are long = refl
 refused_idle size (a ∷ arrived) e bytes why are long = (
@@ -240,7 +240,7 @@ refused_idle size (a ∷ arrived) e bytes why are long = (
 )
 
 -- the operations were begun
-pub refused_service : (size : ℕ) (arrived : List WholeRequest) (ops : List Operation) (e : NbdError) (bytes later : List ℕ) → (e ≡ Io) ⊎ (e ≡ NoMemory) → All IsWholeRequest arrived → AreServedBy size arrived ops
+pub refused_service : (size : ℕ) (arrived : List WholeRequest) (ops : List Operation) (e : NbdError) (bytes later : List ℕ) → (e ≡ Io) ⊎ ((e ≡ NoMemory) ⊎ (e ≡ Shutdown)) → All IsWholeRequest arrived → AreServedBy size arrived ops
     → length bytes ≡ size → AreBegun ops bytes later → IsService bytes (refused_requests size arrived e) later
 refused_service size [] [] e bytes later why are served long same = same
 refused_service size [] (op ∷ ops) e bytes later why are served long begun = absurd served
@@ -293,7 +293,7 @@ accepted_in size (a ∷ arrived) (b ∷ before) after r is none =
     (a ∷ k.0, k.1, k.2, ap (λ (l : List WholeRequest). a ∷ l) k.3, k.4)
 
 -- where a request isn't refused for its own sake, the reply to it says why the batch was refused
-refused_says_fault : (size : ℕ) (arrived : List WholeRequest) (e : NbdError) → (e ≡ Io) ⊎ (e ≡ NoMemory)
+refused_says_fault : (size : ℕ) (arrived : List WholeRequest) (e : NbdError) → (e ≡ Io) ⊎ ((e ≡ NoMemory) ⊎ (e ≡ Shutdown))
     → ((xs ys : List WholeRequest) × (a : WholeRequest) × (arrived ≡ xs ++ a ∷ ys) × (refusal_of size a.request ≡ None)) → SaysFault (refused_requests size arrived e)
 refused_says_fault size arrived e why (xs, ys, a, split, none) = subst (λ (l : List WholeRequest). SaysFault (refused_requests size l e)) (sym split) (among xs)
   where
@@ -301,7 +301,7 @@ refused_says_fault size arrived e why (xs, ys, a, split, none) = subst (λ (l : 
     says = ap (λ (o : Option NbdError). reply_if o (Refused e)) none
 
     among : (front : List WholeRequest) → SaysFault (refused_requests size (front ++ a ∷ ys) e)
-    among [] = inl (elim why [ inl io ↦ inl (says ∙ ap (λ (f : NbdError). Refused f) io) | inr memory ↦ inr (says ∙ ap (λ (f : NbdError). Refused f) memory) ])
+    among [] = inl (elim why [ inl io ↦ inl (says ∙ ap (λ (f : NbdError). Refused f) io) | inr (inl memory) ↦ inr (inl (says ∙ ap (λ (f : NbdError). Refused f) memory)) | inr (inr gone) ↦ inr (inr (says ∙ ap (λ (f : NbdError). Refused f) gone)) ])
     among (x ∷ front) = inr (among front)
 
 -- ---- Requests that are collected, one after the other
@@ -382,7 +382,7 @@ module _ {D W E : Type 0} {kind : DeviceKind D W E} (size : ℕ) (old new : D) (
       }
 
   -- the operations were begun, and all requests are refused
-  pub all_refused : (requests : List Request) (ops : List Operation) (e : NbdError) → AreCollected size arrived requests ops → (e ≡ Io) ⊎ (e ≡ NoMemory) → (e ≡ Io → kind.failed new)
+  pub all_refused : (requests : List Request) (ops : List Operation) (e : NbdError) → AreCollected size arrived requests ops → (e ≡ Io) ⊎ ((e ≡ NoMemory) ⊎ (e ≡ Shutdown)) → (e ≡ Io → kind.failed new)
       → (before after : List Request) (r : Request) → requests ≡ before ++ r ∷ after → refusal_of size r ≡ None
       → GoesOn kind.had kind.hears (HasArrays kind.holds kind.kept) old (λ may_lie before later. Begun ops before later × (e ≡ Io → may_lie ≡ true)) new
       → HasRepliedToAll kind size old new arrived (refused_requests size arrived e)
@@ -426,11 +426,11 @@ pub refused_at_rest : {D W E : Type 0} {kind : DeviceKind D W E} (size : ℕ) (d
     → HasRepliedToAll kind size d d arrived (refused_requests size arrived NoMemory)
 refused_at_rest {kind = kind} size d arrived sized are = record {
   same = refused_same size arrived NoMemory;
-  served = one_batch (refused_fit size arrived NoMemory (inr refl) are) (refused_refuse size (kind.failed d) arrived NoMemory)
+  served = one_batch (refused_fit size arrived NoMemory (inr (inl refl)) are) (refused_refuse size (kind.failed d) arrived NoMemory)
       (record {
         asks = inr (all_refusals size arrived NoMemory);
         leads = (at_rest (λ may_lie world before h. (
-          refused_idle size arrived NoMemory before.held (inr refl) are (sized may_lie world before.held h.0),
+          refused_idle size arrived NoMemory before.held (inr (inl refl)) are (sized may_lie world before.held h.0),
           λ honest. refused_never_fail size arrived NoMemory (λ io. cc),
           inr (all_refusals size arrived NoMemory, inl (refl, refl)),
         )));

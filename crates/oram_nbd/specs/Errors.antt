@@ -3,7 +3,7 @@ use Rattle.std.specs.Prelude.{ℕ}
 use Rattle.oram_wire.specs.declared.frame_io.FrameFault.{FrameFault}
 use Rattle.oram_wire.specs.declared.frame_io.FrameFault.TheVariants as frames
 use Rattle.oram_nbd.specs.declared.faults.NbdError.{NbdError}
-use Rattle.oram_nbd.specs.declared.faults.NbdError.TheVariants.{Io, NoMemory, Invalid, NoSpace}
+use Rattle.oram_nbd.specs.declared.faults.NbdError.TheVariants.{Io, NoMemory, Invalid, NoSpace, Shutdown}
 use Rattle.oram_nbd.specs.declared.faults.NbdFault.{NbdFault}
 use Rattle.oram_nbd.specs.declared.faults.NbdFault.TheVariants as fault
 
@@ -13,6 +13,7 @@ error_number Io = 5
 error_number NoMemory = 12
 error_number Invalid = 22
 error_number NoSpace = 28
+error_number Shutdown = 108
 
 -- the fault of a connection, by why its next message can't be read
 abbrev pub reading_fault : FrameFault → NbdFault

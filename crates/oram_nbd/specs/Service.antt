@@ -6,7 +6,7 @@ use Rattle.oram_nbd.specs.Messages.{payload_len, request_text, reply_text, IsReq
 use Rattle.oram_nbd.specs.Messages.SimpleReply.{Done, Refused}
 use Rattle.oram_nbd.specs.declared.TheConstants.{LONGEST_PAYLOAD}
 use Rattle.oram_nbd.specs.declared.faults.NbdError.{NbdError}
-use Rattle.oram_nbd.specs.declared.faults.NbdError.TheVariants.{Io, NoMemory, Invalid, NoSpace}
+use Rattle.oram_nbd.specs.declared.faults.NbdError.TheVariants.{Io, NoMemory, Invalid, NoSpace, Shutdown}
 use Rattle.oram_nbd.specs.declared.requests.Command.{Command}
 use Rattle.oram_nbd.specs.declared.requests.Command.TheVariants.{Read, Write, Disconnect, Flush, Trim, WriteZeroes, Other}
 use Rattle.oram_nbd.specs.declared.requests.Request.{Request}
@@ -73,12 +73,12 @@ IsAnswer old r payload (Done bytes) new =
     (refusal_of (length old) r ≡ None) × (bytes ≡ given r.command old r.offset r.length) × (new ≡ after r.command old r.offset r.length payload)
 IsAnswer old r payload (Refused e) new =
     ((refusal_of (length old) r ≡ Some e) × (new ≡ old))
-    ⊎ ((refusal_of (length old) r ≡ None) × ((e ≡ Io) ⊎ (e ≡ NoMemory)) × IsPartly r.command old r.offset r.length payload new)
+    ⊎ ((refusal_of (length old) r ≡ None) × ((e ≡ Io) ⊎ ((e ≡ NoMemory) ⊎ (e ≡ Shutdown))) × IsPartly r.command old r.offset r.length payload new)
 
 -- a reply that fits the request, whatever a device of `size` bytes holds
 abbrev pub IsReply : ℕ → Request → SimpleReply → Type 0
 IsReply size r (Done bytes) = (refusal_of size r ≡ None) × (length bytes ≡ given_len r.command r.length)
-IsReply size r (Refused e) = (refusal_of size r ≡ Some e) ⊎ ((refusal_of size r ≡ None) × ((e ≡ Io) ⊎ (e ≡ NoMemory)))
+IsReply size r (Refused e) = (refusal_of size r ≡ Some e) ⊎ ((refusal_of size r ≡ None) × ((e ≡ Io) ⊎ ((e ≡ NoMemory) ⊎ (e ≡ Shutdown))))
 
 -- a request, and the bytes after it
 pub record WholeRequest : Type 0 where
@@ -193,10 +193,10 @@ abbrev pub SaysFailed : List AnsweredRequest → Type 0
 SaysFailed [] = ⊥
 SaysFailed (a ∷ answered) = (a.reply ≡ Refused Io) ⊎ SaysFailed answered
 
--- some reply says that the device has failed, or that memory ran out
+-- some reply says that the device has failed, that memory ran out, or that the request was given up
 abbrev pub SaysFault : List AnsweredRequest → Type 0
 SaysFault [] = ⊥
-SaysFault (a ∷ answered) = ((a.reply ≡ Refused Io) ⊎ (a.reply ≡ Refused NoMemory)) ⊎ SaysFault answered
+SaysFault (a ∷ answered) = ((a.reply ≡ Refused Io) ⊎ ((a.reply ≡ Refused NoMemory) ⊎ (a.reply ≡ Refused Shutdown))) ⊎ SaysFault answered
 
 -- Once the device has failed, before these requests or at one of them whose reply says so, no reply acknowledges anything.
 abbrev pub FailsForGood : Type 0 → List AnsweredRequest → Type 0

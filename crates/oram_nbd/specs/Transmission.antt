@@ -53,7 +53,7 @@ pub record HasExchanged (answered : List AnsweredRequest) (part more : List ℕ)
 -- For a device of this kind and of `size` bytes, which goes from one state to another beside a world.
 module _ {D W E : Type 0} (kind : DeviceKind D W E) (size : ℕ) where
   -- What is kept of a batch, by what is known of the device before it and after it. What its requests did is kept. Or all of
-  -- them are refused: the device wasn't called, or a reply says that it has failed or that memory ran out. Then the next
+  -- them are refused: the device wasn't called, or a reply says that it has failed, that memory ran out, or that the requests were given up. Then the next
   -- process would hold what it would have held before, or what some beginning of these requests leaves.
   abbrev pub SavesBatch : D → List AnsweredRequest → D → Arrays (List ℕ) → Arrays (List ℕ) → Type 0
   SavesBatch old batch new before later =

@@ -10,6 +10,7 @@ ghost use Rattle.oram_nbd.specs.declared.TheConstants.{LONGEST_NAME};
 
 use crate::LONGEST_PAYLOAD;
 use crate::arrivals::Arrived;
+use crate::client_watch::ClientWatch;
 use crate::disk::BlockDevice;
 use crate::faults::NbdFault;
 use crate::handshake::{Agreement, Export};
@@ -53,24 +54,18 @@ fn minimum(block_bytes: u32) -> u32
     }
 }
 
-/// A watcher of a connection's handshake, for example one that limits a client's time for it.
-pub trait HandshakeWatch {
-    /// Is called when the client has agreed with the server, before its requests.
-    fn agreed(&self);
-}
-
 /// Serves one connection, from its greeting until its client leaves, and returns the number of requests that were
 /// answered.
 ///
 /// The device is the only export, under the name `name` and under the empty one. `watch` is notified when the handshake
-/// is done.
-pub fn serve<R: Read + Arrived, W: Write, D: BlockDevice, H: HandshakeWatch>(
+/// is done, and asked between the rounds of a long call whether it shall go on.
+pub fn serve<R: Read + Arrived, W: Write, D: BlockDevice, H: ClientWatch>(
     alloc: Global,
     reader: &mut R,
     writer: &mut W,
     disk: &mut D,
     name: &[u8],
-    watch: &H,
+    watch: &mut H,
 ) -> Result<u64, NbdFault>
     requires { length name.now ≤ LONGEST_NAME }
     ensures ok { IfOk result (λ count. HasConnected (device_kind D.block_len D.size D.failed D.asked D.had D.hears D.holds D.kept) disk.old disk.new name.now count
@@ -91,7 +86,7 @@ pub fn serve<R: Read + Arrived, W: Write, D: BlockDevice, H: HandshakeWatch>(
         Agreement::Gone => Ok(0),
         Agreement::Transmission => {
             watch.agreed();
-            transmit(alloc, reader, writer, disk)
+            transmit(alloc, reader, writer, disk, watch)
         }
     }
 }

@@ -6,6 +6,7 @@ ghost use Rattle.oram_nbd.specs.Beside.{GoesOn, HasArrays};
 ghost use Rattle.oram_nbd.specs.Calls.{FailsByLies, IsCall, Saves};
 ghost use Rattle.oram_nbd.specs.Operations.{AreBegun, IsWhole, IsWithin, TouchSomeByte, all_done, all_given, read_len};
 
+use crate::client_watch::ClientWatch;
 use crate::faults::DiskFault;
 use crate::operations::Operation;
 use oram_bytes::Bytes;
@@ -72,10 +73,14 @@ pub trait BlockDevice {
     /// An `Ok` says that what was done is kept: the next process would hold it too. A list that touches no byte asks for
     /// nothing; then what was kept before still is. After an `Err` the next process would hold what it would have held before,
     /// or what some beginning of the operations leaves, perhaps not the one that the device itself holds.
-    fn carry_out(
+    ///
+    /// A device that carries out operations in rounds asks the watch between them whether it shall go on, and else returns
+    /// [`DiskFault::Interrupted`].
+    fn carry_out<H: ClientWatch>(
         &mut self,
         alloc: Global,
         operations: &[Operation],
+        watch: &mut H,
     ) -> Result<Vec<Bytes>, DiskFault>
         requires whole { All (IsWhole (block_len self.old)) operations.now }
         requires within { All (IsWithin (size self.old)) operations.now }

@@ -16,6 +16,9 @@ pub enum DiskFault {
     /// The device can't go on, so the connection ends. Of the operations in progress the first ones are done, one perhaps in
     /// part, and the others aren't begun.
     Stopped,
+    /// The client's watch wanted the call to end. Of the operations in progress the first ones are done, and the others aren't
+    /// begun. The device can go on.
+    Interrupted,
 }
 
 impl From<AllocError> for DiskFault {
@@ -39,6 +42,8 @@ pub enum NbdError {
     Invalid,
     /// A write lies outside the device.
     NoSpace,
+    /// The request was given up while it was carried out.
+    Shutdown,
 }
 
 impl NbdError {
@@ -53,6 +58,7 @@ impl NbdError {
             NbdError::NoMemory => 12,
             NbdError::Invalid => 22,
             NbdError::NoSpace => 28,
+            NbdError::Shutdown => 108,
         }
     }
 }

@@ -8,6 +8,7 @@
 
 mod arrivals;
 mod batches;
+mod client_watch;
 mod connection;
 mod disk;
 mod disk_sizes;
@@ -29,7 +30,8 @@ mod streams;
 mod transmission;
 
 pub use arrivals::Arrived;
-pub use connection::{HandshakeWatch, is_stop, serve};
+pub use client_watch::ClientWatch;
+pub use connection::{is_stop, serve};
 pub use disk::BlockDevice;
 pub use faults::{DiskFault, NbdError, NbdFault};
 pub use handshake::{Agreement, Export};

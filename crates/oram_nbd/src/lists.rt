@@ -6,6 +6,7 @@ ghost use Rattle.oram_nbd.specs.Beside.{GoesOn, HasArrays, IsStopped};
 ghost use Rattle.oram_nbd.specs.Calls.{FailsByLies, IsCall, Saves, SavesAll, SavesPart};
 ghost use Rattle.oram_nbd.specs.Operations.{AreBegun, IsPartOf, IsPlaced, IsWhole, IsWithin, TouchSomeByte, all_done, all_given, done_by, given_by, len_of, read_len};
 
+use crate::client_watch::ClientWatch;
 use crate::disk::BlockDevice;
 use crate::faults::DiskFault;
 use crate::operations::Operation;
@@ -41,10 +42,11 @@ fn whole_front(block: u64, operations: &[Operation]) -> usize
 
 /// Carries out one operation alone, whose range isn't one of whole blocks, in two calls of the device. Both calls are on the
 /// same blocks whether the operation reads, writes or zeroes.
-fn carry_out_alone<D: BlockDevice>(
+fn carry_out_alone<D: BlockDevice, H: ClientWatch>(
     alloc: Global,
     disk: &mut D,
     operation: &Operation,
+    watch: &mut H,
 ) -> Result<Bytes, DiskFault>
     requires within { IsWithin (D.size disk.old) operation.now }
     requires part { is_part (D.block_len disk.old) (range_of operation.now) ≡ true }
@@ -59,15 +61,15 @@ fn carry_out_alone<D: BlockDevice>(
 {
     match operation {
         Operation::Read { at, count } => {
-            let bytes = read_range(alloc, disk, *at, *count)?;
+            let bytes = read_range(alloc, disk, *at, *count, watch)?;
             Ok(bytes)
         }
         Operation::Write { at, payload } => {
-            write_range(alloc, disk, *at, payload.as_slice())?;
+            write_range(alloc, disk, *at, payload.as_slice(), watch)?;
             Ok(Bytes::from_vec(Vec::new(alloc)))
         }
         Operation::Zero { at, count } => {
-            zero_range(alloc, disk, *at, *count)?;
+            zero_range(alloc, disk, *at, *count, watch)?;
             Ok(Bytes::from_vec(Vec::new(alloc)))
         }
     }
@@ -75,10 +77,11 @@ fn carry_out_alone<D: BlockDevice>(
 
 /// Carries out the first operations: those at the front that are on whole blocks, in one call of the device, or else the first
 /// one alone. Returns what each of them read.
-fn carry_out_front<D: BlockDevice>(
+fn carry_out_front<D: BlockDevice, H: ClientWatch>(
     alloc: Global,
     disk: &mut D,
     operations: &[Operation],
+    watch: &mut H,
 ) -> Result<Vec<Bytes>, DiskFault>
     requires some { 0 < length operations.now }
     requires within { All (IsWithin (D.size disk.old)) operations.now }
@@ -95,10 +98,10 @@ fn carry_out_front<D: BlockDevice>(
 {
     let count = whole_front(u64::from(disk.block_bytes()), operations);
     if count > 0 {
-        return disk.carry_out(alloc, &operations[..count]);
+        return disk.carry_out(alloc, &operations[..count], watch);
     }
     let mut given = Vec::with_capacity(alloc, 1)?;
-    let bytes = carry_out_alone(alloc, disk, &operations[0])?;
+    let bytes = carry_out_alone(alloc, disk, &operations[0], watch)?;
     if given.push(bytes).is_err() {
         return Err(DiskFault::OutOfMemory);
     }
@@ -108,10 +111,11 @@ fn carry_out_front<D: BlockDevice>(
 /// Carries out operations, one after the other, and returns what each of them read. Those that are on whole blocks are
 /// carried out together, by one call, up to the next one that isn't. After an `Err` the first ones are done, one may be done
 /// in part, and the others aren't begun. An `Ok` says that what was done is kept.
-pub(crate) fn carry_out_all<D: BlockDevice>(
+pub(crate) fn carry_out_all<D: BlockDevice, H: ClientWatch>(
     alloc: Global,
     disk: &mut D,
     operations: &[Operation],
+    watch: &mut H,
 ) -> Result<Vec<Bytes>, DiskFault>
     requires within { All (IsWithin (D.size disk.old)) operations.now }
     requires placed { All IsPlaced operations.now }
@@ -130,7 +134,7 @@ pub(crate) fn carry_out_all<D: BlockDevice>(
     }
     let mut given = Vec::with_capacity(alloc, operations.len())?;
     while given.len() < operations.len() {
-        let mut more = carry_out_front(alloc, disk, &operations[given.len()..])?;
+        let mut more = carry_out_front(alloc, disk, &operations[given.len()..], watch)?;
         given.append(&mut more)?;
     }
     Ok(given)

@@ -2,6 +2,7 @@
 
 ghost use Rattle.std.specs.Prelude.{◌≡◌, ◌+◌, ◌*◌, ◌<◌, ◌≤◌, ◌^◌, [], length, IfOk, OnErr};
 
+use crate::client_watch::ClientWatch;
 use crate::disk::BlockDevice;
 use crate::faults::DiskFault;
 use crate::operations::Operation;
@@ -116,10 +117,11 @@ impl BlockDevice for MemDisk {
         self.blocks
     }
 
-    fn carry_out(
+    fn carry_out<H: ClientWatch>(
         &mut self,
         alloc: Global,
         operations: &[Operation],
+        _watch: &mut H,
     ) -> Result<Vec<Bytes>, DiskFault> {
         let mut given = Vec::with_capacity(alloc, operations.len())?;
         for operation in operations {

@@ -7,6 +7,7 @@ ghost use Rattle.oram_nbd.specs.Bytes.{bytes_at, written, zeroes};
 ghost use Rattle.oram_nbd.specs.Calls.{FailsByLies, IsCall, Reads, Writes};
 ghost use Rattle.oram_nbd.specs.Operations.{IsWhole};
 
+use crate::client_watch::ClientWatch;
 use crate::disk::BlockDevice;
 use crate::faults::DiskFault;
 use crate::operations::Operation;
@@ -80,11 +81,12 @@ pub(crate) fn touched_blocks(block: u64, operation: &Operation) -> u64
 }
 
 /// Reads `count` blocks, from the block `first` on.
-pub(crate) fn read_blocks<D: BlockDevice>(
+pub(crate) fn read_blocks<D: BlockDevice, H: ClientWatch>(
     alloc: Global,
     disk: &mut D,
     first: u64,
     count: u64,
+    watch: &mut H,
 ) -> Result<Vec<u8>, DiskFault>
     requires { D.block_len disk.old * first + D.block_len disk.old * count ≤ D.size disk.old }
     ensures len { IfOk result (λ v. length v.items ≡ D.block_len disk.old * count) }
@@ -100,7 +102,7 @@ pub(crate) fn read_blocks<D: BlockDevice>(
         at: block * first,
         count: block * count,
     };
-    let mut given = disk.carry_out(alloc, &[operation])?;
+    let mut given = disk.carry_out(alloc, &[operation], watch)?;
     match given.pop() {
         Some(bytes) => Ok(bytes.into_vec()),
         None => unreachable!(),
@@ -108,11 +110,12 @@ pub(crate) fn read_blocks<D: BlockDevice>(
 }
 
 /// Replaces as many blocks as the payload has, from the block `first` on.
-fn write_blocks<D: BlockDevice>(
+fn write_blocks<D: BlockDevice, H: ClientWatch>(
     alloc: Global,
     disk: &mut D,
     first: u64,
     payload: Bytes,
+    watch: &mut H,
 ) -> Result<(), DiskFault>
     requires within { D.block_len disk.old * first + length payload ≤ D.size disk.old }
     requires whole { (count : ℕ) × (length payload ≡ D.block_len disk.old * count) }
@@ -126,7 +129,7 @@ fn write_blocks<D: BlockDevice>(
         at: u64::from(disk.block_bytes()) * first,
         payload,
     };
-    disk.carry_out(alloc, &[operation])?;
+    disk.carry_out(alloc, &[operation], watch)?;
     Ok(())
 }
 
@@ -155,13 +158,14 @@ fn joined(alloc: Global, first: &[u8], middle: &[u8], last: &[u8]) -> Result<Vec
 }
 
 /// Reads two ranges of whole blocks, of `count` and of `more` bytes, in one call.
-fn read_two<D: BlockDevice>(
+fn read_two<D: BlockDevice, H: ClientWatch>(
     alloc: Global,
     disk: &mut D,
     at: u64,
     count: u64,
     last: u64,
     more: u64,
+    watch: &mut H,
 ) -> Result<Vec<Bytes>, DiskFault>
     requires whole { IsWhole (D.block_len disk.old) (Operation.Read at count) }
     requires within { at + count ≤ D.size disk.old }
@@ -180,7 +184,7 @@ fn read_two<D: BlockDevice>(
             count: more,
         },
     ];
-    disk.carry_out(alloc, &reads)
+    disk.carry_out(alloc, &reads, watch)
 }
 
 /// Returns `block` if `len` isn't 0, and 0 if it is.
@@ -198,11 +202,12 @@ fn edge_len(block: u64, len: u64) -> u64
 }
 
 /// Reads what lies around a range of `len` bytes in the only block of its cover.
-fn read_one_edge<D: BlockDevice>(
+fn read_one_edge<D: BlockDevice, H: ClientWatch>(
     alloc: Global,
     disk: &mut D,
     cover: Cover,
     len: u64,
+    watch: &mut H,
 ) -> Result<Edges, DiskFault>
     requires within { D.block_len disk.old * cover.first + D.block_len disk.old ≤ D.size disk.old }
     requires covers { cover.start + len ≤ D.block_len disk.old }
@@ -214,7 +219,7 @@ fn read_one_edge<D: BlockDevice>(
     ensures asks { OnOk result (AsksFor D.asked disk.old ((cover.first ∷ []) ∷ []) disk.new) }
     ensures call { IsCall D.block_len D.size D.failed (IsStopped D.stops disk.new) disk.old result disk.new }
 {
-    let bytes = read_blocks(alloc, disk, cover.first, 1)?;
+    let bytes = read_blocks(alloc, disk, cover.first, 1, watch)?;
     let before = Bytes::copy(alloc, &bytes[..cover.start])?;
     let after = Bytes::copy(alloc, &bytes[cover.start + len as usize..])?;
     Ok(Edges { before, after })
@@ -222,11 +227,12 @@ fn read_one_edge<D: BlockDevice>(
 
 /// Reads what lies around a range of `len` bytes in the blocks of its cover, in one call. Only blocks that lie partly outside of
 /// the range are read.
-fn read_edges<D: BlockDevice>(
+fn read_edges<D: BlockDevice, H: ClientWatch>(
     alloc: Global,
     disk: &mut D,
     cover: Cover,
     len: u64,
+    watch: &mut H,
 ) -> Result<Edges, DiskFault>
     requires within { D.block_len disk.old * cover.first + D.block_len disk.old * cover.count ≤ D.size disk.old }
     requires some { 0 < cover.count }
@@ -256,9 +262,9 @@ fn read_edges<D: BlockDevice>(
         });
     }
     if cover.count == 1 {
-        return read_one_edge(alloc, disk, cover, len);
+        return read_one_edge(alloc, disk, cover, len, watch);
     }
-    let given = read_two(alloc, disk, at, ahead, end - behind, behind)?;
+    let given = read_two(alloc, disk, at, ahead, end - behind, behind, watch)?;
     let before = Bytes::copy(alloc, &given[0].as_slice()[..cover.start])?;
     let back = given[1].as_slice();
     let after = Bytes::copy(alloc, &back[(behind - rest) as usize..])?;
@@ -269,11 +275,12 @@ fn read_edges<D: BlockDevice>(
 ///
 /// The device is called twice, as it is for a write of the same range: the blocks that lie partly outside of the range are read,
 /// and then all its blocks are read. So a host that counts accesses can't tell a read of parts of blocks from a write of them.
-pub(crate) fn read_range<D: BlockDevice>(
+pub(crate) fn read_range<D: BlockDevice, H: ClientWatch>(
     alloc: Global,
     disk: &mut D,
     offset: u64,
     count: u64,
+    watch: &mut H,
 ) -> Result<Bytes, DiskFault>
     requires within { offset + count ≤ D.size disk.old }
     requires some { 0 < count }
@@ -286,8 +293,8 @@ pub(crate) fn read_range<D: BlockDevice>(
     // For the proof alone: the call's contract says what is known of the device's size.
     let _blocks = disk.blocks();
     let cover = Cover::of(disk, offset, count);
-    let _edges = read_edges(alloc, disk, cover, count)?;
-    let bytes = read_blocks(alloc, disk, cover.first, cover.count)?;
+    let _edges = read_edges(alloc, disk, cover, count, watch)?;
+    let bytes = read_blocks(alloc, disk, cover.first, cover.count, watch)?;
     let end = cover.start + count as usize;
     let asked = Bytes::copy(alloc, &bytes[cover.start..end])?;
     Ok(asked)
@@ -297,11 +304,12 @@ pub(crate) fn read_range<D: BlockDevice>(
 ///
 /// The device is called at most twice: the blocks that lie partly outside of the range are read, and then all its blocks are
 /// written. They are written even if they have these bytes already: which accesses are made doesn't depend on any bytes.
-pub(crate) fn write_range<D: BlockDevice>(
+pub(crate) fn write_range<D: BlockDevice, H: ClientWatch>(
     alloc: Global,
     disk: &mut D,
     offset: u64,
     payload: &[u8],
+    watch: &mut H,
 ) -> Result<(), DiskFault>
     requires { offset + length payload.now ≤ D.size disk.old }
     ensures goes { GoesOn D.had D.hears (HasArrays D.holds D.kept) disk.old (Writes offset payload.now result) disk.new }
@@ -315,24 +323,25 @@ pub(crate) fn write_range<D: BlockDevice>(
         return Ok(());
     }
     let cover = Cover::of(disk, offset, len);
-    let edges = read_edges(alloc, disk, cover, len)?;
+    let edges = read_edges(alloc, disk, cover, len, watch)?;
     let whole = joined(
         alloc,
         edges.before.as_slice(),
         payload,
         edges.after.as_slice(),
     )?;
-    write_blocks(alloc, disk, cover.first, Bytes::from_vec(whole))
+    write_blocks(alloc, disk, cover.first, Bytes::from_vec(whole), watch)
 }
 
 /// Makes a range of `len` bytes zeroes in one call. It has the whole blocks between the edges zeroed, and writes the blocks at
 /// the edges.
-fn zero_between<D: BlockDevice>(
+fn zero_between<D: BlockDevice, H: ClientWatch>(
     alloc: Global,
     disk: &mut D,
     cover: Cover,
     len: u64,
     edges: &Edges,
+    watch: &mut H,
 ) -> Result<(), DiskFault>
     requires within { D.block_len disk.old * cover.first + D.block_len disk.old * cover.count ≤ D.size disk.old }
     requires some { 0 < cover.count }
@@ -370,7 +379,7 @@ fn zero_between<D: BlockDevice>(
             payload: Bytes::from_vec(last),
         },
     ];
-    disk.carry_out(alloc, &operations)?;
+    disk.carry_out(alloc, &operations, watch)?;
     Ok(())
 }
 
@@ -378,11 +387,12 @@ fn zero_between<D: BlockDevice>(
 ///
 /// The device is called at most twice: the blocks at the edges are read if they lie partly outside of the range, and then they
 /// are written, and the whole blocks between them zeroed.
-pub(crate) fn zero_range<D: BlockDevice>(
+pub(crate) fn zero_range<D: BlockDevice, H: ClientWatch>(
     alloc: Global,
     disk: &mut D,
     offset: u64,
     count: u64,
+    watch: &mut H,
 ) -> Result<(), DiskFault>
     requires { offset + count ≤ D.size disk.old }
     ensures goes { GoesOn D.had D.hears (HasArrays D.holds D.kept) disk.old (Writes offset (zeroes count) result) disk.new }
@@ -397,8 +407,8 @@ pub(crate) fn zero_range<D: BlockDevice>(
     let cover = Cover::of(disk, offset, count);
     if cover.count == 1 && count < u64::from(disk.block_bytes()) {
         let none = vec![in alloc; 0u8; count as usize]?;
-        return write_range(alloc, disk, offset, &none);
+        return write_range(alloc, disk, offset, &none, watch);
     }
-    let edges = read_edges(alloc, disk, cover, count)?;
-    zero_between(alloc, disk, cover, count, &edges)
+    let edges = read_edges(alloc, disk, cover, count, watch)?;
+    zero_between(alloc, disk, cover, count, &edges, watch)
 }

@@ -13,6 +13,7 @@ ghost use Rattle.oram_nbd.specs.Transmission.{HasTransmitted, IsCutOff, IsLast, 
 
 use crate::arrivals::Arrived;
 use crate::batches::{Batch, Close, gather};
+use crate::client_watch::ClientWatch;
 use crate::disk::BlockDevice;
 use crate::disk_sizes::DiskSizes;
 use crate::faults::{DiskFault, NbdError, NbdFault};
@@ -26,14 +27,15 @@ use std::io::{Read, Write};
 /// The most batches of a connection.
 const MOST_BATCHES: u64 = 1 << 56;
 
-/// Carries out a batch, and writes the replies. If memory runs out or the device fails, all requests of the batch are refused;
-/// some of them may be done all the same. A reply that acknowledges its request says that what the batch did is kept.
-fn carry_out_batch<W: Write, D: BlockDevice>(
+/// Carries out a batch, and writes the replies. If memory runs out, the device fails or the watch ends the call, all requests of
+/// the batch are refused; some of them may be done all the same. A reply that acknowledges its request says that what the batch did is kept.
+fn carry_out_batch<W: Write, D: BlockDevice, H: ClientWatch>(
     alloc: Global,
     writer: &mut W,
     disk: &mut D,
     sizes: DiskSizes,
     batch: &Batch,
+    watch: &mut H,
 ) -> Result<(), NbdFault>
     requires block { sizes.block ≡ D.block_len disk.old }
     requires size { sizes.size ≡ D.size disk.old }
@@ -51,7 +53,7 @@ fn carry_out_batch<W: Write, D: BlockDevice>(
     if !is_any_accepted(&batch.requests, sizes.size) {
         return put_refusals(writer, sizes.size, &batch.requests, NbdError::NoMemory);
     }
-    match carry_out_all(alloc, disk, &batch.operations) {
+    match carry_out_all(alloc, disk, &batch.operations, watch) {
         Ok(given) => put_answers(writer, sizes.size, &batch.requests, &given),
         Err(DiskFault::Failed) => put_refusals(writer, sizes.size, &batch.requests, NbdError::Io),
         Err(DiskFault::OutOfMemory) => put_refusals(
@@ -59,6 +61,12 @@ fn carry_out_batch<W: Write, D: BlockDevice>(
             sizes.size,
             &batch.requests,
             NbdError::NoMemory,
+        ),
+        Err(DiskFault::Interrupted) => put_refusals(
+            writer,
+            sizes.size,
+            &batch.requests,
+            NbdError::Shutdown,
         ),
         Err(DiskFault::Stopped) => Err(NbdFault::Stopped),
     }
@@ -102,11 +110,12 @@ fn goes_on(close: Close) -> Result<bool, NbdFault>
 /// the requests of its batch get no replies. A reply that acknowledges its request says that what its batch did is kept: the
 /// next process would hold it, even if this one ends before the reply is written. It still would if a later batch fails or the
 /// device stops at it, except for bytes that this later batch writes.
-pub fn transmit<R: Read + Arrived, W: Write, D: BlockDevice>(
+pub fn transmit<R: Read + Arrived, W: Write, D: BlockDevice, H: ClientWatch>(
     alloc: Global,
     reader: &mut R,
     writer: &mut W,
     disk: &mut D,
+    watch: &mut H,
 ) -> Result<u64, NbdFault>
     ensures ok { IfOk result (λ count. HasTransmitted (device_kind D.block_len D.size D.failed D.asked D.had D.hears D.holds D.kept) disk.old disk.new count
         (streams (R.remaining reader.old) (W.contents writer.old)) (streams (R.remaining reader.new) (W.contents writer.new))) }
@@ -119,7 +128,7 @@ pub fn transmit<R: Read + Arrived, W: Write, D: BlockDevice>(
     let mut served = 0;
     for _batch_number in 0..MOST_BATCHES {
         let (batch, close) = gather(alloc, reader, sizes);
-        carry_out_batch(alloc, writer, disk, sizes, &batch)?;
+        carry_out_batch(alloc, writer, disk, sizes, &batch, watch)?;
         // For the proof alone: the call's contract says what is known of the device's size.
         let _blocks = disk.blocks();
         let without_memory = refuse_without_memory(writer, sizes.size, close)?;

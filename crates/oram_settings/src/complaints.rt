@@ -218,9 +218,7 @@ fn size_complaint(
         return Ok(None);
     };
     let kind = Kind::Bytes;
-    Ok(Some(format!(in alloc;
-        "{name}, line {number}: size has to be {kind}: {size} for {value}"
-    )?))
+    Ok(Some(format!(in alloc; "{name}, line {number}: size has to be {kind}: {size} for {value}")?))
 }
 
 /// Returns how many letters of a word are wrong if it was meant for a key. What a key was called before has none.

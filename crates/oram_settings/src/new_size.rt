@@ -18,7 +18,9 @@ pub fn size_mistake(alloc: Global, word: &str) -> Result<String, AllocError> {
         ),
         Some(_) => format!(in alloc; "no disk has the size {word}: name one up to 256GiB"),
         None if lacks_letters(alloc, word)? => {
-            format!(in alloc; "the size {word} has half a unit: write {word}iB, or {word}B for powers of ten")
+            format!(in alloc;
+                "the size {word} has half a unit: write {word}iB, or {word}B for powers of ten"
+            )
         }
         None => format!(in alloc;
             "{word} isn't a size: name a number and its unit, such as 512MiB or 1GiB"

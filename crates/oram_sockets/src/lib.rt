@@ -1,16 +1,19 @@
 //! Connections that keep nobody out: while a server waits for one of them, it also watches the listener and the clock.
 //!
 //! A [`Listener`] accepts connections at an address or at a Unix socket, and [`connect_to`] connects to either. [`watch`]
-//! returns both directions of a connection. An [`Attendant`] decides how long the server waits for it, and what happens when somebody else connects.
+//! returns both directions of a connection. An [`Attendant`] decides how long the server waits for it, and what happens when
+//! somebody else connects. While the server is at work and waits for nobody, a [`Look`] sees the same.
 //! If a server answers messages, [`MarkedReader`] and [`MarkedWriter`] tell it whether it is in the middle of one.
 #![tactic(auto)]
 
 mod connection;
 mod listener;
+mod look;
 mod marked;
 mod watched;
 
 pub use connection::{Connection, UNIX, connect_to};
 pub use listener::{Listener, Peer, listen_at_path};
+pub use look::{Look, Seen};
 pub use marked::{MarkedReader, MarkedWriter, Marks};
 pub use watched::{Attendant, Direction, Halves, Watched, watch};

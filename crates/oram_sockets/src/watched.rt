@@ -13,9 +13,9 @@ use std::os::fd::{AsRawFd, RawFd};
 use std::rt::Clock;
 use std::time::{Duration, Instant};
 
-const CONNECTION: Token = Token(0);
+pub(crate) const CONNECTION: Token = Token(0);
 
-const LISTENER: Token = Token(1);
+pub(crate) const LISTENER: Token = Token(1);
 
 /// The most bytes that a reader takes from its socket at once. 64 requests that write 4 KiB each fit into them.
 const READ_ROOM: usize = 1 << 19;

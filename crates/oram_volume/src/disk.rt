@@ -18,7 +18,7 @@ use crate::volume::Volume;
 use oram_bucket::Sealer;
 use oram_bytes::Bytes;
 use oram_core::{Reply, ReplyBody};
-use oram_nbd::{BlockDevice, DiskFault, Operation};
+use oram_nbd::{BlockDevice, ClientWatch, DiskFault, Operation};
 use oram_rounds::{BatchLink, Keeper};
 use oram_session::Tape;
 use std::alloc::{AllocError, Global};
@@ -111,11 +111,13 @@ fn given_out(
 }
 
 impl<S: Sealer, B: BatchLink, K: Keeper, T: Tape> Volume<S, B, K, T> {
-    /// Carries out the commands of operations, in rounds. Returns the data of all replies, one after the other.
-    fn carry_out_rounds(
+    /// Carries out the commands of operations, in rounds. Returns the data of all replies, one after the other. Between the
+    /// rounds it asks `watch` whether to go on.
+    fn carry_out_rounds<H: ClientWatch>(
         &mut self,
         alloc: Global,
         operations: &[Operation],
+        watch: &mut H,
     ) -> Result<Vec<u8>, DiskFault>
         requires whole { All (IsWhole self.old.core.device.block_bytes) operations.now }
         requires within { All (IsWithin (self.old.core.device.block_bytes * self.old.core.device.blocks)) operations.now }
@@ -139,10 +141,13 @@ impl<S: Sealer, B: BatchLink, K: Keeper, T: Tape> Volume<S, B, K, T> {
             operation: 0,
             block: 0,
         };
-        for _round_number in 0..u64::MAX {
+        for round_number in 0..u64::MAX {
             let commands = next_round(alloc, block, operations, &mut cursor)?;
             if commands.is_empty() {
                 return Ok(found);
+            }
+            if round_number > 0 && !watch.goes_on() {
+                return Err(DiskFault::Interrupted);
             }
             let replies = self.carry_out_all(alloc, commands)?;
             append_data(&replies, &mut found)?;
@@ -205,17 +210,18 @@ impl<S: Sealer, B: BatchLink, K: Keeper, T: Tape> BlockDevice for Volume<S, B, K
         u64::from(self.blocks_in_all())
     }
 
-    fn carry_out(
+    fn carry_out<H: ClientWatch>(
         &mut self,
         alloc: Global,
         operations: &[Operation],
+        watch: &mut H,
     ) -> Result<Vec<Bytes>, DiskFault> {
         if self.has_failed() {
             return Err(DiskFault::Failed);
         }
         // For the proof alone: the call's contract bounds the sizes of the device.
         let _blocks = self.blocks_in_all();
-        let found = self.carry_out_rounds(alloc, operations)?;
+        let found = self.carry_out_rounds(alloc, operations, watch)?;
         let given = given_out(alloc, operations, found)?;
         Ok(given)
     }

@@ -2,8 +2,8 @@
 //! clients are turned away.
 
 use oram_disk_host::time;
-use oram_nbd::HandshakeWatch;
-use oram_sockets::{Attendant, Direction, Listener, Peer};
+use oram_nbd::ClientWatch;
+use oram_sockets::{Attendant, Direction, Listener, Look, Peer};
 use std::cell::Cell;
 use std::io::{Error, ErrorKind};
 use std::rt::Clock;
@@ -33,8 +33,8 @@ impl fmt::Display for Dismissal {
 }
 
 /// Watches over a client. The client has ten seconds for its handshake, and may then be idle for as long as it likes,
-/// but has to read each reply within a minute. Meanwhile the attendant turns other clients away, at once and with a
-/// line on standard error.
+/// but has to read each reply within a minute. Meanwhile the attendant turns other clients away, with a line on standard error:
+/// at once, or after the round at work.
 #[derive(Drop)]
 pub(crate) struct ClientAttendant<'r, 'l, R> {
     rt: &'r R,
@@ -108,8 +108,26 @@ impl<'r, 'l, R: Clock + Eprint + AllocGlobal> Attendant for ClientAttendant<'r, 
     }
 }
 
-impl<'r, 'l, R> HandshakeWatch for ClientAttendant<'r, 'l, R> {
-    fn agreed(&self) {
-        self.handshake_until.set(None);
+/// Watches over a client while its requests are carried out.
+#[derive(Drop)]
+pub(crate) struct ClientLook<'a, 'r, 'l, R> {
+    pub(crate) attendant: &'a ClientAttendant<'r, 'l, R>,
+    pub(crate) look: Look,
+}
+
+impl<'a, 'r, 'l, R: Clock + Eprint + AllocGlobal> ClientWatch for ClientLook<'a, 'r, 'l, R> {
+    fn agreed(&mut self) {
+        self.attendant.handshake_until.set(None);
+    }
+
+    // If the system can't tell, the call goes on.
+    fn goes_on(&mut self) -> bool {
+        let Ok(seen) = self.look.look() else {
+            return true;
+        };
+        if seen.others_wait {
+            let _passed_over = self.attendant.others_wait();
+        }
+        !seen.has_left
     }
 }

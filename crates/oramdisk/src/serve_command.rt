@@ -1,6 +1,6 @@
 //! Serves a disk to NBD clients, one connection after the other.
 
-use crate::clients::{ClientAttendant, Dismissal};
+use crate::clients::{ClientAttendant, ClientLook, Dismissal};
 use crate::watched_disk::{FailureKeeper, WatchedDisk};
 use oram_bucket::{ChaChaSeal, PlainSeal, Sealer};
 use oram_client::{
@@ -16,7 +16,7 @@ use oram_nbd::{BlockDevice, DiskFault, NbdFault, is_stop, serve};
 use oram_rounds::{BatchLink, Keeper, KeptCore, RoundLink, record_len};
 use oram_session::{ChaChaTape, LinkFault, Tape};
 use oram_settings::{DiskSettings, counted, failure_text, relative_to, serving_text};
-use oram_sockets::{Connection, Listener, Peer, listen_at_path, watch};
+use oram_sockets::{Connection, Listener, Look, Peer, listen_at_path, watch};
 use oram_volume::Volume;
 use percent_encoding::{NON_ALPHANUMERIC, utf8_percent_encode};
 use std::alloc::{AllocError, Global};
@@ -124,6 +124,10 @@ fn serve_client<R: Net + Clock + Eprint + AllocGlobal, D: BlockDevice>(
         Ok(attendant) => attendant,
         Err(_) => return Ended::by(NbdFault::Read),
     };
+    let look = match Look::new(rt, alloc, stream.as_raw_fd(), listener.as_raw_fd()) {
+        Ok(look) => look,
+        Err(_) => return Ended::by(NbdFault::Read),
+    };
     let (mut reader, mut writer) = match watch(
         rt,
         alloc,
@@ -137,7 +141,11 @@ fn serve_client<R: Net + Clock + Eprint + AllocGlobal, D: BlockDevice>(
         }
         Err(_) => return Ended::by(NbdFault::Read),
     };
-    let served = serve(alloc, &mut reader, &mut writer, disk, EXPORT, &attendant);
+    let mut client = ClientLook {
+        attendant: &attendant,
+        look,
+    };
+    let served = serve(alloc, &mut reader, &mut writer, disk, EXPORT, &mut client);
     Ended {
         served,
         dismissal: attendant.dismissal(),
@@ -250,13 +258,14 @@ type DiskKeeper<'a> = FileKeeper<FilePlace<&'a HostRuntime>>;
 type DiskVolume<'a, S> = Volume<S, HostLink<'a>, DiskKeeper<'a>, ChaChaTape>;
 
 /// Returns why a disk stopped.
-fn stopped<S: Sealer>(
-    alloc: Global,
-    volume: &DiskVolume<'_, S>,
-    settings: DiskSettings,
-) -> Fault {
+fn stopped<S: Sealer>(alloc: Global, volume: &DiskVolume<'_, S>, settings: DiskSettings) -> Fault {
     if let Some(failure) = volume.keeper.failure() {
-        unkept(alloc, FaultKind::StateNotKept, settings.state.as_str(), failure)
+        unkept(
+            alloc,
+            FaultKind::StateNotKept,
+            settings.state.as_str(),
+            failure,
+        )
     } else if volume.core.next_ticket() >= volume.core.device().lifetime() {
         Fault::About(FaultKind::UsedUp, settings.state)
     } else {
@@ -286,7 +295,7 @@ fn serve_volume<S: Sealer>(
     disk.watch();
     match resumed {
         Ok(()) => serve_clients(rt, clients, &mut disk)?,
-        Err(DiskFault::Failed | DiskFault::Stopped) => {}
+        Err(DiskFault::Failed | DiskFault::Stopped | DiskFault::Interrupted) => {}
         Err(DiskFault::OutOfMemory) => return Err(Fault::OutOfMemory),
     }
     Err(stopped(alloc, &disk.disk, settings))

@@ -3,7 +3,7 @@
 ghost use Rattle.std.specs.Prelude.{◌≡◌};
 
 use oram_bytes::Bytes;
-use oram_nbd::{BlockDevice, DiskFault, Operation};
+use oram_nbd::{BlockDevice, ClientWatch, DiskFault, Operation};
 use std::alloc::Global;
 
 /// Records that a disk has failed.
@@ -69,12 +69,13 @@ impl<D: BlockDevice, F: FailureKeeper<D>> BlockDevice for WatchedDisk<D, F> {
         self.disk.blocks()
     }
 
-    fn carry_out(
+    fn carry_out<H: ClientWatch>(
         &mut self,
         alloc: Global,
         operations: &[Operation],
+        watch: &mut H,
     ) -> Result<Vec<Bytes>, DiskFault> {
-        let done = self.disk.carry_out(alloc, operations);
+        let done = self.disk.carry_out(alloc, operations, watch);
         self.watch();
         done
     }

@@ -13,7 +13,7 @@ use oram_client::{DiskKey, FileKeeper, FilePlace, Head, Salt, SealerKind};
 use oram_core::{Command, Core, Note};
 use oram_geometry::Device;
 use oram_host::Server;
-use oram_nbd::{Arrived, transmit};
+use oram_nbd::{Arrived, ClientWatch, transmit};
 use oram_rounds::{KeepError, Keeper, OneByOne, RoundLink, perform, record_len};
 use oram_session::{ChaChaTape, Direct, has_no_work, submit};
 use oram_volume::Volume;
@@ -23,6 +23,17 @@ use std::io::Read;
 use std::rt::{Clock, Files};
 use std::time::{Duration, Instant};
 use std::{fs, io};
+
+/// A client that stays for as long as it is served.
+struct Stays;
+
+impl ClientWatch for Stays {
+    fn agreed(&mut self) {}
+
+    fn goes_on(&mut self) -> bool {
+        true
+    }
+}
 
 /// A keeper that keeps the newest file in memory.
 #[derive(Drop)]
@@ -169,7 +180,7 @@ fn time_of_requests<K: Keeper + Drop>(
     let mut reader = OneAtATime { unread: said };
     let mut replies = Vec::new(alloc);
     let start = Instant::now(rt)?;
-    let served = transmit(alloc, &mut reader, &mut replies, disk);
+    let served = transmit(alloc, &mut reader, &mut replies, disk, &mut Stays);
     let taken = start.elapsed(rt)?;
     if served == Ok(u64::from(REQUESTS)) {
         Ok(taken)

@@ -3,7 +3,8 @@
 use crate::arrivals::Unseen;
 use crate::endings::{with_memory, write_ended};
 use crate::stopping_disk;
-use oram_nbd::{Arrived, HandshakeWatch, MemDisk, NbdFault, serve, transmit};
+use crate::watches::Stays;
+use oram_nbd::{Arrived, MemDisk, NbdFault, serve, transmit};
 use rows::{Pace, Page, RowFault, RowWords, Source, Target};
 use std::alloc::Global;
 use std::io;
@@ -22,13 +23,6 @@ pub struct Connections {
 /// How a connection ended, and the writer that has what the client received.
 type Talk = (Result<u64, NbdFault>, Target);
 
-/// Ignores that a handshake is done.
-struct NoWatch;
-
-impl HandshakeWatch for NoWatch {
-    fn agreed(&self) {}
-}
-
 /// Serves a client that sends what `reader` gives, and has room for `room` bytes.
 fn talked<R: Read + Arrived>(
     alloc: Global,
@@ -38,7 +32,14 @@ fn talked<R: Read + Arrived>(
 ) -> Result<Talk, RowFault> {
     let mut target = Target::new(alloc, room, pace)?;
     let mut disk = MemDisk::new(alloc, 4, 4)?;
-    let ended = serve(alloc, reader, &mut target, &mut disk, b"disk", &NoWatch);
+    let ended = serve(
+        alloc,
+        reader,
+        &mut target,
+        &mut disk,
+        b"disk",
+        &mut Stays::on(),
+    );
     Ok((with_memory(ended, target.bytes())?, target))
 }
 
@@ -89,7 +90,7 @@ fn passes(alloc: Global, words: &mut RowWords, page: &mut Page) -> Result<(), Ro
     };
     let mut target = Target::new(alloc, ROOM, Pace::smooth(true))?;
     let mut disk = MemDisk::new(alloc, 4, 4)?;
-    let ended = transmit(alloc, &mut reader, &mut target, &mut disk);
+    let ended = transmit(alloc, &mut reader, &mut target, &mut disk, &mut Stays::on());
     write_ended(page, with_memory(ended, target.bytes())?)?;
     page.bytes(target.bytes());
     Ok(())

@@ -13,6 +13,7 @@ mod keepers;
 mod links;
 mod stopping_disk;
 mod volumes;
+mod watches;
 
 use connections::Connections;
 use rows::{Page, RowFault, RowWords, Table, run_table};

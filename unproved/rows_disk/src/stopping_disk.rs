@@ -4,8 +4,11 @@ ghost use Rattle.std.specs.Prelude.{◌≡◌, false};
 
 use crate::arrivals::{Sent, Unseen};
 use crate::endings::{with_memory, write_ended};
+use crate::watches::Stays;
 use oram_bytes::Bytes;
-use oram_nbd::{BlockDevice, Command, DiskFault, MemDisk, NbdFault, Operation, Request, transmit};
+use oram_nbd::{
+    BlockDevice, ClientWatch, Command, DiskFault, MemDisk, NbdFault, Operation, Request, transmit,
+};
 use rows::{Pace, Page, RowFault, RowWords, Source, Target};
 use std::alloc::{AllocError, Global};
 
@@ -68,15 +71,16 @@ impl BlockDevice for StoppingDisk {
         self.disk.blocks()
     }
 
-    fn carry_out(
+    fn carry_out<H: ClientWatch>(
         &mut self,
         alloc: Global,
         operations: &[Operation],
+        watch: &mut H,
     ) -> Result<Vec<Bytes>, DiskFault> {
         if !take_call(&mut self.calls_left) {
             return Err(DiskFault::Stopped);
         }
-        self.disk.carry_out(alloc, operations)
+        self.disk.carry_out(alloc, operations, watch)
     }
 }
 
@@ -86,7 +90,7 @@ fn talked(alloc: Global, disk: &mut StoppingDisk, said: &[u8]) -> Result<Talk, R
         reader: Source::new(said, Pace::smooth(false)),
     };
     let mut target = Target::new(alloc, ROOM, Pace::smooth(true))?;
-    let ended = transmit(alloc, &mut source, &mut target, disk);
+    let ended = transmit(alloc, &mut source, &mut target, disk, &mut Stays::on());
     Ok((with_memory(ended, target.bytes())?, target))
 }
 
@@ -104,7 +108,7 @@ pub fn together(alloc: Global, words: &mut RowWords, page: &mut Page) -> Result<
         source: Source::new(&said, Pace::smooth(false)),
     };
     let mut target = Target::new(alloc, ROOM, Pace::smooth(true))?;
-    let ended = transmit(alloc, &mut sent, &mut target, &mut disk);
+    let ended = transmit(alloc, &mut sent, &mut target, &mut disk, &mut Stays::on());
     write_ended(page, with_memory(ended, target.bytes())?)?;
     page.number(before.saturating_sub(disk.calls_left));
     page.bytes(target.bytes());

@@ -2,6 +2,7 @@
 
 use crate::arrivals::Unseen;
 use crate::endings::{with_memory, write_ended};
+use crate::watches::Stays;
 use oram_bucket::PlainSeal;
 use oram_core::Core;
 use oram_geometry::Device;
@@ -83,9 +84,9 @@ pub struct Volumes {
     volume: Option<Volume<PlainSeal, FaultyBatches, MemoryKeeper, ChaChaTape>>,
 }
 
-/// Formats a new device of 64 blocks of 16 bytes in three trees, and returns its core. The host takes the records.
-fn formatted(alloc: Global, server: &mut Server) -> Result<Core<PlainSeal>, RowFault> {
-    let Ok(device) = Device::new(64, 16, 4, 4, 100) else {
+/// Formats a new device with this many blocks of 16 bytes, and returns its core. The host takes the records.
+fn formatted(alloc: Global, blocks: u64, server: &mut Server) -> Result<Core<PlainSeal>, RowFault> {
+    let Ok(device) = Device::new(blocks, 16, 4, 4, 1_000) else {
         return Err(RowFault::NoRow);
     };
     match Core::format(alloc, device, PlainSeal, server) {
@@ -99,14 +100,20 @@ impl Volumes {
         Volumes { volume: None }
     }
 
-    /// `volume new ROOM AT TIMES`: makes a new volume. Its keeper keeps `ROOM` states, and its link fails `TIMES` times
-    /// from call `AT` on.
-    fn begin(&mut self, alloc: Global, words: &mut RowWords) -> Result<(), RowFault> {
+    /// `volume new ROOM AT TIMES`: makes a new volume of 64 blocks of 16 bytes in three trees. Its keeper keeps `ROOM` states,
+    /// and its link fails `TIMES` times from call `AT` on. `volume wide ROOM AT TIMES`: the same with 256 blocks in four trees.
+    fn begin(
+        &mut self,
+        alloc: Global,
+        blocks: u64,
+        trees: u8,
+        words: &mut RowWords,
+    ) -> Result<(), RowFault> {
         let room = words.number();
         let at = words.number();
         let times = words.number();
         let mut server = Server::new(alloc);
-        let core = formatted(alloc, &mut server)?;
+        let core = formatted(alloc, blocks, &mut server)?;
         let link = FaultLink::new(Direct::new(alloc, server), at, times, false);
         let link = over(alloc, &core, link);
         self.volume = Some(Volume {
@@ -115,7 +122,7 @@ impl Volumes {
             keeper: MemoryKeeper::new(alloc, room),
             tape: ChaChaTape {
                 key: [0; 32],
-                trees: 3,
+                trees,
             },
         });
         Ok(())
@@ -141,10 +148,13 @@ impl Volumes {
         Ok(())
     }
 
-    /// `volume asks SAID`: a client sends the requests `SAID`. Writes how its connection ends, and what it receives.
+    /// `volume asks SAID`: a client sends the requests `SAID`. Writes how its connection ends, and what it receives. `volume
+    /// leaves LOOKS SAID`: the same with a client that has left after so many looks between rounds; then it writes how many
+    /// rounds were kept, too.
     fn asks(
         &mut self,
         alloc: Global,
+        looks: u64,
         words: &mut RowWords,
         page: &mut Page,
     ) -> Result<(), RowFault> {
@@ -156,11 +166,33 @@ impl Volumes {
             reader: Source::new(&said, Pace::smooth(false)),
         };
         let mut target = Target::new(alloc, 256, Pace::smooth(true))?;
-        let ended = transmit(alloc, &mut source, &mut target, volume);
+        let mut watch = Stays { looks };
+        let ended = transmit(alloc, &mut source, &mut target, volume, &mut watch);
         volume.keeper.check_memory()?;
         write_ended(page, with_memory(ended, target.bytes())?)?;
         page.bytes(target.bytes());
         Ok(())
+    }
+
+    fn leaves(
+        &mut self,
+        alloc: Global,
+        words: &mut RowWords,
+        page: &mut Page,
+    ) -> Result<(), RowFault> {
+        let looks = words.number();
+        let before = self.room();
+        self.asks(alloc, looks, words, page)?;
+        page.number(before.saturating_sub(self.room()));
+        Ok(())
+    }
+
+    /// Returns how many states the keeper still keeps.
+    fn room(&self) -> u64 {
+        match &self.volume {
+            Some(volume) => volume.keeper.room,
+            None => 0,
+        }
     }
 
     /// Answers a row about volumes.
@@ -172,10 +204,12 @@ impl Volumes {
         page: &mut Page,
     ) -> Result<(), RowFault> {
         match name {
-            "new" => self.begin(alloc, words)?,
+            "new" => self.begin(alloc, 64, 3, words)?,
+            "wide" => self.begin(alloc, 256, 4, words)?,
             "keeps" => self.give_room(words)?,
             "bare" => self.mislead(alloc)?,
-            "asks" => return self.asks(alloc, words, page),
+            "asks" => return self.asks(alloc, u64::MAX, words, page),
+            "leaves" => return self.leaves(alloc, words, page),
             _ => return Err(RowFault::NoRow),
         }
         page.word("done");

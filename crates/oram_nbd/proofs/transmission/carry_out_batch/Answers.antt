@@ -3,7 +3,7 @@ use Rattle.std.proofs.lemmas.Result.{on_ok_weaker, MatchResult-weaker}
 use Rattle.std.specs.Io.KnownBytes.{Appends}
 use Rattle.oram_nbd.specs.Operations.{IsPlaced, IsWithin}
 use Rattle.oram_nbd.specs.Streams.{IsBegunText}
-use Rattle.oram_nbd.specs.declared.faults.NbdError.TheVariants.{Io, NoMemory}
+use Rattle.oram_nbd.specs.declared.faults.NbdError.TheVariants.{Io, NoMemory, Shutdown}
 use Rattle.oram_nbd.specs.declared.operations.Operation.{Operation}
 use Rattle.oram_nbd.proofs.Gathered.{all_answered, all_begun, all_refused, all_placed, all_within, answered_requests, at_size, begun_at_size, collected_as, many_given, refused_at_rest, refused_requests, text_answered, text_refused}
 use Rattle.oram_nbd.proofs.Beside.{weaker}
@@ -116,7 +116,7 @@ returns-in-Err-OutOfMemory-clause-ok g c =
     on_ok_weaker c.put_refusals-in-Err-OutOfMemory.result (λ wrote arrived collected. (
       refused_requests n arrived NoMemory,
       at_size c.requires.size (all_refused n c.args.disk.now c.carry_out_all.new.disk arrived (λ may_lie world bytes h. c.blocks-blocks.ensures.held may_lie world bytes h ∙ sym c.requires.size) reqs c.deref-2.result.now
-          NoMemory (collected_as n arrived reqs ops _ c.deref-2.ensures.value collected) (inr refl) (λ io. absurd cc) some.0 some.1 some.2 (sym c.deref.ensures.value ∙ some.3) some.4 (weaker c.in-Err-OutOfMemory.ensures.goes (λ may_lie world old new h step. ((step.0, step.2), λ io. cc)))),
+          NoMemory (collected_as n arrived reqs ops _ c.deref-2.ensures.value collected) (inr (inl refl)) (λ io. absurd cc) some.0 some.1 some.2 (sym c.deref.ensures.value ∙ some.3) some.4 (weaker c.in-Err-OutOfMemory.ensures.goes (λ may_lie world old new h step. ((step.0, step.2), λ io. cc)))),
       subst (Appends (g.W.Write.contents c.args.writer.now) (g.W.Write.contents c.put_refusals-in-Err-OutOfMemory.new.writer)) (text_refused n arrived NoMemory reqs _ collected.same c.deref-in-Err-OutOfMemory.ensures.value) wrote,
     )) c.put_refusals-in-Err-OutOfMemory.ensures.ok
 
@@ -131,8 +131,37 @@ returns-in-Err-OutOfMemory-clause-err g c =
       (
         refused_requests n arrived NoMemory,
         at_size c.requires.size (all_refused n c.args.disk.now c.carry_out_all.new.disk arrived (λ may_lie world bytes h. c.blocks-blocks.ensures.held may_lie world bytes h ∙ sym c.requires.size) reqs c.deref-2.result.now
-            NoMemory (collected_as n arrived reqs ops _ c.deref-2.ensures.value collected) (inr refl) (λ io. absurd cc) some.0 some.1 some.2 (sym c.deref.ensures.value ∙ some.3) some.4 (weaker c.in-Err-OutOfMemory.ensures.goes (λ may_lie world old new h step. ((step.0, step.2), λ io. cc)))),
+            NoMemory (collected_as n arrived reqs ops _ c.deref-2.ensures.value collected) (inr (inl refl)) (λ io. absurd cc) some.0 some.1 some.2 (sym c.deref.ensures.value ∙ some.3) some.4 (weaker c.in-Err-OutOfMemory.ensures.goes (λ may_lie world old new h step. ((step.0, step.2), λ io. cc)))),
         subst (IsBegunText (g.W.Write.contents c.args.writer.now) (g.W.Write.contents c.put_refusals-in-Err-OutOfMemory.new.writer)) (text_refused n arrived NoMemory reqs _ collected.same c.deref-in-Err-OutOfMemory.ensures.value) wrote.1,
+      ),
+    ))
+
+pub returns-in-Err-Interrupted-clause-ok : goal.returns-in-Err-Interrupted-clause-ok
+returns-in-Err-Interrupted-clause-ok g c =
+    let some = c.if-not-is_any_accepted.ensures.yes (grind arith) in
+    let n = c.args.sizes.size in
+    let reqs = c.args.batch.now.requests.items in
+    let ops = c.args.batch.now.operations.items in
+    on_ok_weaker c.put_refusals-in-Err-Interrupted.result (λ wrote arrived collected. (
+      refused_requests n arrived Shutdown,
+      at_size c.requires.size (all_refused n c.args.disk.now c.carry_out_all.new.disk arrived (λ may_lie world bytes h. c.blocks-blocks.ensures.held may_lie world bytes h ∙ sym c.requires.size) reqs c.deref-2.result.now
+          Shutdown (collected_as n arrived reqs ops _ c.deref-2.ensures.value collected) (inr (inr refl)) (λ io. absurd cc) some.0 some.1 some.2 (sym c.deref.ensures.value ∙ some.3) some.4 (weaker c.in-Err-Interrupted.ensures.goes (λ may_lie world old new h step. ((step.0, step.2), λ io. cc)))),
+      subst (Appends (g.W.Write.contents c.args.writer.now) (g.W.Write.contents c.put_refusals-in-Err-Interrupted.new.writer)) (text_refused n arrived Shutdown reqs _ collected.same c.deref-in-Err-Interrupted.ensures.value) wrote,
+    )) c.put_refusals-in-Err-Interrupted.ensures.ok
+
+pub returns-in-Err-Interrupted-clause-err : goal.returns-in-Err-Interrupted-clause-err
+returns-in-Err-Interrupted-clause-err g c =
+    let some = c.if-not-is_any_accepted.ensures.yes (grind arith) in
+    let n = c.args.sizes.size in
+    let reqs = c.args.batch.now.requests.items in
+    let ops = c.args.batch.now.operations.items in
+    MatchResult-weaker c.put_refusals-in-Err-Interrupted.result c.put_refusals-in-Err-Interrupted.ensures.err (λ x h. tt) (λ f wrote arrived collected. inl (
+      wrote.0,
+      (
+        refused_requests n arrived Shutdown,
+        at_size c.requires.size (all_refused n c.args.disk.now c.carry_out_all.new.disk arrived (λ may_lie world bytes h. c.blocks-blocks.ensures.held may_lie world bytes h ∙ sym c.requires.size) reqs c.deref-2.result.now
+            Shutdown (collected_as n arrived reqs ops _ c.deref-2.ensures.value collected) (inr (inr refl)) (λ io. absurd cc) some.0 some.1 some.2 (sym c.deref.ensures.value ∙ some.3) some.4 (weaker c.in-Err-Interrupted.ensures.goes (λ may_lie world old new h step. ((step.0, step.2), λ io. cc)))),
+        subst (IsBegunText (g.W.Write.contents c.args.writer.now) (g.W.Write.contents c.put_refusals-in-Err-Interrupted.new.writer)) (text_refused n arrived Shutdown reqs _ collected.same c.deref-in-Err-Interrupted.ensures.value) wrote.1,
       ),
     ))
 
