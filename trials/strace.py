@@ -35,6 +35,13 @@ def failing(call, error, when):
     return ["strace", "-f", "-o", "/dev/null", "-e", f"trace={call}", "-e", f"inject={call}:error={error}:when={when}"]
 
 
+def failing_on(file, calls, error, when):
+    """The words that start a program under strace, which makes one of these calls fail once with an error of the system: the call with
+    this number among those that are about this file."""
+    names = ["-P", file.name, "-P", str(file)]
+    return ["strace", "-f", "-o", "/dev/null", *names, "-e", f"trace={calls}", "-e", f"inject={calls}:error={error}:when={when}"]
+
+
 def noting(calls, file):
     """The words that start a program under strace, which writes these calls to a file, with the names of the files that they are about."""
     return ["strace", "-f", "-y", "-o", file, "-e", f"trace={calls}"]
