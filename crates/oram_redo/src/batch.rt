@@ -43,9 +43,9 @@ fn room_of(batch: &[Patch]) -> usize {
     room
 }
 
-/// Returns the checksum of what an entry says.
+/// Returns the checksum of a text, which tells whether it is still the one that was written.
 #[tactic(auto, unfolding(crate::specs::Log::check_bytes))]
-fn check_of(text: &[u8]) -> [u8; 8]
+pub fn check_of(text: &[u8]) -> [u8; 8]
     ensures { result ≡ check_bytes text.now }
 {
     let mut hasher = DefaultHasher::new();

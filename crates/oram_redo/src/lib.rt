@@ -35,7 +35,7 @@ mod redo;
 mod steps;
 mod system;
 
-pub use batch::Patch;
+pub use batch::{Patch, check_of};
 pub use bounds::Bounds;
 pub use faults::RedoError;
 pub use file_pair::{FileKind, FilePair};
