@@ -5,7 +5,7 @@ use Rattle.std.proofs.lemmas.Bool.Decides.{Decides-eqb}
 use Rattle.std.proofs.lemmas.List.{drop-take, drop_at, length-append, take-append-drop, length-take, take_at, take-take, append_cancel_left, append-nil, drop_all}
 use Rattle.std.proofs.lemmas.Slice.Eq.{slice_eq-Decides}
 use borrow.Rule.Slice.PartMut.{put_mid}
-use Rattle.oram_layout.specs.Fronts.{IsFront, IsNewer, bucket_name}
+use Rattle.oram_layout.specs.Fronts.{IsFront, IsNewer, IsOlder, bucket_name}
 use Rattle.oram_layout.specs.Header.{eight_bytes, letters}
 use Rattle.oram_layout.specs.declared.fronts.Identity.{Identity}
 use Rattle.oram_layout.proofs.TreeEntries.{eight_bytes_one, length-eight_bytes}
@@ -22,16 +22,36 @@ front_letters_are front_letters identity bytes long is =
 pub starts_so : (needle bytes : List ℕ) (r : Bool) → r ≡ pointwise eqb needle (take (length needle) bytes) → Decides r (needle ≡ take (length needle) bytes)
 starts_so needle bytes r e = slice_eq-Decides Decides-eqb needle (take (length needle) bytes) r e
 
-letters_spelled : letters ≡ bucket_name ++ eight_bytes 1
+letters_spelled : letters ≡ bucket_name ++ eight_bytes 2
 unfolding eight_bytes
 letters_spelled = refl
 
 -- a file of this version isn't of a newer one
 pub ours_not_newer : (identity : Identity) (bytes : List ℕ) → IsFront letters identity bytes → IsNewer bytes → ⊥
 ours_not_newer identity bytes is newer =
-    let same : bucket_name ++ eight_bytes newer.version ≡ bucket_name ++ eight_bytes 1 = sym newer.begins ∙ front_letters_are letters identity bytes refl is ∙ letters_spelled in
-    let one : newer.version ≡ 1 = eight_bytes_one newer.version 1 newer.fits (omega arith) (append_cancel_left bucket_name (eight_bytes newer.version) (eight_bytes 1) same) in
-    absurd (omega (arith, newer.above, one))
+    let same : bucket_name ++ eight_bytes newer.version ≡ bucket_name ++ eight_bytes 2 = sym newer.begins ∙ front_letters_are letters identity bytes refl is ∙ letters_spelled in
+    let two : newer.version ≡ 2 = eight_bytes_one newer.version 2 newer.fits (omega arith) (append_cancel_left bucket_name (eight_bytes newer.version) (eight_bytes 2) same) in
+    absurd (omega (arith, newer.above, two))
+
+-- and not of an older one
+pub ours_not_older : (identity : Identity) (bytes : List ℕ) → IsFront letters identity bytes → IsOlder bytes → ⊥
+ours_not_older identity bytes is older =
+    let same : bucket_name ++ eight_bytes older.version ≡ bucket_name ++ eight_bytes 2 = sym older.begins ∙ front_letters_are letters identity bytes refl is ∙ letters_spelled in
+    let two : older.version ≡ 2 = eight_bytes_one older.version 2 (omega (arith, older.below)) (omega arith) (append_cancel_left bucket_name (eight_bytes older.version) (eight_bytes 2) same) in
+    absurd (omega (arith, older.below, two))
+
+-- a file has one version
+pub newer_not_older : (bytes : List ℕ) → IsNewer bytes → IsOlder bytes → ⊥
+newer_not_older bytes newer older =
+    let same : newer.version ≡ older.version = eight_bytes_one newer.version older.version newer.fits (omega (arith, older.below))
+    (append_cancel_left bucket_name (eight_bytes newer.version) (eight_bytes older.version) (sym newer.begins ∙ older.begins)) in
+    absurd (omega (arith, newer.above, older.below, same))
+
+pub older_long : (bytes : List ℕ) → IsOlder bytes → 16 ≤ length bytes
+older_long bytes older = omega (arith, ap length older.begins, length-take 16 bytes, length-append bucket_name (eight_bytes older.version), length-eight_bytes older.version)
+
+pub older_name : (bytes : List ℕ) → IsOlder bytes → bucket_name ≡ take 8 bytes
+older_name bytes older = sym (take_at bucket_name (eight_bytes older.version) 8 refl) ∙ ap (λ (l : List ℕ). take 8 l) (sym older.begins) ∙ take-take 8 16 bytes (omega arith)
 
 pub newer_long : (bytes : List ℕ) → IsNewer bytes → 16 ≤ length bytes
 newer_long bytes newer = omega (arith, ap length newer.begins, length-take 16 bytes, length-append bucket_name (eight_bytes newer.version), length-eight_bytes newer.version)
@@ -44,7 +64,7 @@ first_sixteen bytes =
     sym (take-append-drop 8 (take 16 bytes)) ∙ ap (λ (l : List ℕ). l ++ drop 8 (take 16 bytes)) (take-take 8 16 bytes (omega arith))
     ∙ ap (λ (l : List ℕ). take 8 bytes ++ l) (drop-take 8 8 bytes)
 
-pub newer_from : (bytes : List ℕ) (version : ℕ) → bucket_name ≡ take 8 bytes → eight_bytes version ≡ take 8 (drop 8 bytes) → version < 2 ^ 64 → 1 < version → IsNewer bytes
+pub newer_from : (bytes : List ℕ) (version : ℕ) → bucket_name ≡ take 8 bytes → eight_bytes version ≡ take 8 (drop 8 bytes) → version < 2 ^ 64 → 2 < version → IsNewer bytes
 newer_from bytes version named said fits above = record {
   version = version;
   above = above;
@@ -52,12 +72,26 @@ newer_from bytes version named said fits above = record {
   begins = first_sixteen bytes ∙ ap (λ (l : List ℕ). l ++ take 8 (drop 8 bytes)) (sym named) ∙ ap (λ (l : List ℕ). bucket_name ++ l) (sym said);
 }
 
-pub newer_version : (bytes : List ℕ) (version : ℕ) → eight_bytes version ≡ take 8 (drop 8 bytes) → version < 2 ^ 64 → IsNewer bytes → 1 < version
+pub newer_version : (bytes : List ℕ) (version : ℕ) → eight_bytes version ≡ take 8 (drop 8 bytes) → version < 2 ^ 64 → IsNewer bytes → 2 < version
 newer_version bytes version said fits newer =
     let its : eight_bytes newer.version ≡ take 8 (drop 8 bytes) =
     sym (drop_at bucket_name (eight_bytes newer.version) 8 refl) ∙ ap (λ (l : List ℕ). drop 8 l) (sym newer.begins) ∙ drop-take 8 8 bytes in
     let same : newer.version ≡ version = eight_bytes_one newer.version version newer.fits fits (its ∙ sym said) in
     omega (arith, newer.above, same)
+
+pub older_from : (bytes : List ℕ) (version : ℕ) → bucket_name ≡ take 8 bytes → eight_bytes version ≡ take 8 (drop 8 bytes) → version < 2 → IsOlder bytes
+older_from bytes version named said below = record {
+  version = version;
+  below = below;
+  begins = first_sixteen bytes ∙ ap (λ (l : List ℕ). l ++ take 8 (drop 8 bytes)) (sym named) ∙ ap (λ (l : List ℕ). bucket_name ++ l) (sym said);
+}
+
+pub older_version : (bytes : List ℕ) (version : ℕ) → eight_bytes version ≡ take 8 (drop 8 bytes) → version < 2 ^ 64 → IsOlder bytes → version < 2
+older_version bytes version said fits older =
+    let its : eight_bytes older.version ≡ take 8 (drop 8 bytes) =
+    sym (drop_at bucket_name (eight_bytes older.version) 8 refl) ∙ ap (λ (l : List ℕ). drop 8 l) (sym older.begins) ∙ drop-take 8 8 bytes in
+    let same : older.version ≡ version = eight_bytes_one older.version version (omega (arith, older.below)) fits (its ∙ sym said) in
+    omega (arith, older.below, same)
 
 pub two_halves : (a b zeros : List ℕ) → length a ≡ 16 → length b ≡ 16 → length zeros ≡ 16 → put_mid 16 16 (a ++ zeros) b ≡ a ++ b
 two_halves a b zeros la lb lz =

@@ -3,9 +3,9 @@ use Rattle.std.proofs.Common.{◌≡◌, [], ◌∷◌, Some, None, refl, lit≤
 use Rattle.oram_host.specs.Path.{node_on}
 use Rattle.oram_redo.specs.Content.{Content, put}
 use Rattle.oram_redo.specs.Log.{put_all}
-use Rattle.oram_layout.specs.Changes.{marks, path_patches, tree_patch, unmarked_patch}
+use Rattle.oram_layout.specs.Changes.{marks, path_patches, unmarked_patch}
 use Rattle.oram_layout.specs.Fronts.{front_bytes}
-use Rattle.oram_layout.specs.Header.{eight_bytes, entry_bytes, four_bytes, letters}
+use Rattle.oram_layout.specs.Header.{letters}
 use Rattle.oram_layout.specs.Limits.{cell_len, cells_len}
 use Rattle.oram_layout.specs.Records.{records_in}
 use Rattle.oram_layout.specs.Trees.{Trees, cell_at, end_of, next_of, sizes_of}
@@ -28,15 +28,6 @@ row_lengths = refl
 
 row_cells : (cell_at narrow 0 ∷ cell_at narrow 2 ∷ end_of narrow ∷ cell_at wide 1 ∷ end_of wide ∷ []) ≡ 8192 ∷ 8200 ∷ 8204 ∷ 8210 ∷ 8222 ∷ []
 row_cells = refl
-
--- 8192 is 32 * 256, and 8204 is 12 more
-row_entry : entry_bytes (Some narrow) ≡ 1 ∷ 1 ∷ 0 ∷ 0 ∷ 3 ∷ 0 ∷ 0 ∷ 0 ∷ 0 ∷ 32 ∷ 0 ∷ 0 ∷ 0 ∷ 0 ∷ 0 ∷ 0 ∷ []
-unfolding four_bytes eight_bytes
-row_entry = refl
-
-row_patch : tree_patch 2 wide ≡ (4128, 1 ∷ 1 ∷ 0 ∷ 0 ∷ 4 ∷ 0 ∷ 0 ∷ 0 ∷ 12 ∷ 32 ∷ 0 ∷ 0 ∷ 0 ∷ 0 ∷ 0 ∷ 0 ∷ [])
-unfolding four_bytes eight_bytes
-row_patch = refl
 
 -- the next tree's cells are after those of all trees, in whatever order they are
 row_next : (next_of [] ∷ next_of (None ∷ Some narrow ∷ []) ∷ next_of (Some narrow ∷ None ∷ Some wide ∷ []) ∷ next_of (Some wide ∷ Some narrow ∷ []) ∷ []) ≡ 8192 ∷ 8204 ∷ 8222 ∷ 8222 ∷ []
@@ -70,5 +61,5 @@ row_path : path_patches narrow 1 (1 ∷ 2 ∷ 3 ∷ 4 ∷ 5 ∷ 6 ∷ []) 0 2 �
 unfolding node_on
 row_path = refl
 
-row_front : front_bytes letters (record { 0 = 9 ∷ 8 ∷ [] }) ≡ 86 ∷ 73 ∷ 68 ∷ 76 ∷ 65 ∷ 81 ∷ 69 ∷ 66 ∷ 1 ∷ 0 ∷ 0 ∷ 0 ∷ 0 ∷ 0 ∷ 0 ∷ 0 ∷ 9 ∷ 8 ∷ []
+row_front : front_bytes letters (record { 0 = 9 ∷ 8 ∷ [] }) ≡ 86 ∷ 73 ∷ 68 ∷ 76 ∷ 65 ∷ 81 ∷ 69 ∷ 66 ∷ 2 ∷ 0 ∷ 0 ∷ 0 ∷ 0 ∷ 0 ∷ 0 ∷ 0 ∷ 9 ∷ 8 ∷ []
 row_front = refl

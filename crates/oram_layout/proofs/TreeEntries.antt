@@ -5,7 +5,8 @@ use Rattle.std.specs.Int.{w32, w64, to_le_bytes, from_le_bytes}
 use Rattle.std.proofs.Math.Nat.{add-mul}
 use Rattle.std.proofs.lemmas.List.{drop_at, ext_get_or, length-append, take_at}
 use Rattle.std.proofs.lemmas.Nat.{from_le_bytes-to_le_bytes_4, from_le_bytes-to_le_bytes_8}
-use Rattle.oram_layout.specs.Header.{eight_bytes, entry_bytes, four_bytes}
+use Rattle.oram_redo.specs.Log.{check_bytes}
+use Rattle.oram_layout.specs.Header.{eight_bytes, entry_bytes, entry_check, four_bytes}
 use Rattle.oram_layout.specs.Laws.{TreesAreOne}
 use Rattle.oram_layout.specs.Trees.{tree_at}
 use Rattle.oram_layout.specs.declared.shapes.Shape.{Shape}
@@ -27,10 +28,21 @@ pub length-eight_bytes : (base : ℕ) → length (eight_bytes base) ≡ 8
 unfolding eight_bytes
 length-eight_bytes base = refl
 
+pub length-entry_check : (depth record_len base : ℕ) → length (entry_check depth record_len base) ≡ 2
+unfolding check_bytes
+length-entry_check depth record_len base = refl
+
 pub length-entry_bytes : (found : Option Tree) → length (entry_bytes found) ≡ 16
 length-entry_bytes None = refl
 length-entry_bytes (Some tree) =
-    omega (arith, length-append (four_bytes tree.shape.record_len) (eight_bytes tree.base), length-four_bytes tree.shape.record_len, length-eight_bytes tree.base)
+    omega (
+      arith,
+      length-append (entry_check tree.shape.depth tree.shape.record_len tree.base) (four_bytes tree.shape.record_len ++ eight_bytes tree.base),
+      length-entry_check tree.shape.depth tree.shape.record_len tree.base,
+      length-append (four_bytes tree.shape.record_len) (eight_bytes tree.base),
+      length-four_bytes tree.shape.record_len,
+      length-eight_bytes tree.base,
+    )
 
 pub four_bytes_one : (a b : ℕ) → a < 2 ^ 32 → b < 2 ^ 32 → four_bytes a ≡ four_bytes b → a ≡ b
 unfolding four_bytes
@@ -83,7 +95,11 @@ entry_one None (Some b) e = absurd cc
 entry_one (Some a) None e = absurd cc
 entry_one (Some a) (Some b) e =
     let depth : a.shape.depth ≡ b.shape.depth = cc in
-    let rest : four_bytes a.shape.record_len ++ eight_bytes a.base ≡ four_bytes b.shape.record_len ++ eight_bytes b.base = cc in
+    let check : Tree → List ℕ = λ t. entry_check t.shape.depth t.shape.record_len t.base in
+    let said : Tree → List ℕ = λ t. four_bytes t.shape.record_len ++ eight_bytes t.base in
+    let long : (t : Tree) → length (check t) ≡ 2 = λ t. length-entry_check t.shape.depth t.shape.record_len t.base in
+    let tails : check a ++ said a ≡ check b ++ said b = ap (λ (l : List ℕ). drop 2 l) e in
+    let rest : said a ≡ said b = sym (drop_at (check a) (said a) 2 (long a)) ∙ ap (drop 2) tails ∙ drop_at (check b) (said b) 2 (long b) in
     let lens : four_bytes a.shape.record_len ≡ four_bytes b.shape.record_len =
     sym (take_at (four_bytes a.shape.record_len) (eight_bytes a.base) 4 (length-four_bytes a.shape.record_len)) ∙ ap (take 4) rest
     ∙ take_at (four_bytes b.shape.record_len) (eight_bytes b.base) 4 (length-four_bytes b.shape.record_len) in

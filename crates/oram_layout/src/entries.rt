@@ -80,15 +80,15 @@ fn read_entry(entry: &[u8]) -> Result<Option<Tree>, LayoutFault>
     }
 }
 
+// Returns the tree whose entry these bytes are, with its checksum.
 fn tree_in(entry: &[u8]) -> Option<Tree>
     requires { length entry.now ≡ ENTRY_LEN }
     ensures { MatchOption result ((tree : Tree) → entry.now ≡ entry_bytes (Some tree) → ⊥) (λ tree. entry.now ≡ entry_bytes (Some tree)) }
 {
-    if entry[0] != 1 || entry[2] != 0 || entry[3] != 0 {
-        return None;
-    }
     let shape = Shape::new(entry[1], four_bytes_in(&entry[4..8]))?;
-    Tree::place(shape, eight_bytes_in(&entry[8..16]))
+    let tree = Tree::place(shape, eight_bytes_in(&entry[8..16]))?;
+    let own = tree.entry();
+    if entry == &own[..] { Some(tree) } else { None }
 }
 
 fn are_apart(trees: &[Option<Tree>]) -> bool

@@ -1,6 +1,6 @@
 //! The first bytes of the two files: letters that say what the file is, a version, and an identity that the two share.
 ghost use Rattle.std.specs.Prelude.{◌≡◌, ◌<◌, ◌↔◌, All, IfSome, IsTrue, take, Some};
-ghost use Rattle.oram_layout.specs.Fronts.{IfOurs, IsFront, IsNewer, front_bytes, log_letters, sqlite_letters};
+ghost use Rattle.oram_layout.specs.Fronts.{IfOurs, IsFront, IsNewer, IsOlder, front_bytes, log_letters, sqlite_letters};
 ghost use Rattle.oram_layout.specs.Header.{letters};
 ghost use Rattle.oram_layout.specs.declared.fronts.Identity.{Identity};
 
@@ -15,9 +15,12 @@ pub(crate) const LETTERS_LEN: usize = 16;
 /// The number of these bytes that are letters.
 const NAME_LEN: usize = 8;
 
-const LETTERS: [u8; 16] = *b"VIDLAQEB\x01\0\0\0\0\0\0\0";
+/// The version of both files.
+const VERSION: u64 = 2;
 
-const LOG_LETTERS: [u8; 16] = *b"VIDLAQEL\x01\0\0\0\0\0\0\0";
+const LETTERS: [u8; 16] = *b"VIDLAQEB\x02\0\0\0\0\0\0\0";
+
+const LOG_LETTERS: [u8; 16] = *b"VIDLAQEL\x02\0\0\0\0\0\0\0";
 
 const SQLITE_LETTERS: [u8; 16] = *b"SQLite format 3\0";
 
@@ -32,6 +35,8 @@ pub enum Front {
     Ours(Identity),
     /// A bucket file of a later version.
     NewerVersion,
+    /// A bucket file of an earlier version.
+    OlderVersion,
     /// A SQLite database, in which an earlier version kept its buckets.
     Sqlite,
     /// Only zeros, or no bytes at all.
@@ -59,6 +64,7 @@ pub fn read_front(bytes: &[u8]) -> Front
     ensures ours { IfOurs result (λ identity. IsFront letters identity bytes.now) }
     ensures read_again { (identity : Identity) → IsFront letters identity bytes.now → result ≡ Front.Ours identity }
     ensures newer { (result ≡ Front.NewerVersion) ↔ IsNewer bytes.now }
+    ensures older { (result ≡ Front.OlderVersion) ↔ IsOlder bytes.now }
     ensures sqlite { (result ≡ Front.Sqlite) ↔ (take 16 bytes.now ≡ sqlite_letters) }
     ensures empty { (result ≡ Front.Empty) ↔ All (λ byte. byte ≡ 0) bytes.now }
 {
@@ -70,6 +76,8 @@ pub fn read_front(bytes: &[u8]) -> Front
         Front::Ours(identity)
     } else if is_newer(bytes) {
         Front::NewerVersion
+    } else if is_older(bytes) {
+        Front::OlderVersion
     } else {
         Front::Another
     }
@@ -111,7 +119,16 @@ fn is_newer(bytes: &[u8]) -> bool
     if bytes.len() < LETTERS_LEN || !bytes.starts_with(&LETTERS[..NAME_LEN]) {
         return false;
     }
-    eight_bytes_in(&bytes[NAME_LEN..LETTERS_LEN]) > 1
+    eight_bytes_in(&bytes[NAME_LEN..LETTERS_LEN]) > VERSION
+}
+
+fn is_older(bytes: &[u8]) -> bool
+    ensures { IsTrue result ↔ IsOlder bytes.now }
+{
+    if bytes.len() < LETTERS_LEN || !bytes.starts_with(&LETTERS[..NAME_LEN]) {
+        return false;
+    }
+    eight_bytes_in(&bytes[NAME_LEN..LETTERS_LEN]) < VERSION
 }
 
 /// Returns whether each byte is 0.

@@ -1,7 +1,8 @@
 //! A tree of a bucket file: its shape, and where its cells are.
-ghost use Rattle.std.specs.Prelude.{◌≡◌, ◌<◌, ◌≤◌, ◌+◌, ◌-◌, ◌*◌, ◌/◌, ◌^◌, MatchOption, Some};
+ghost use Rattle.std.specs.Prelude.{◌≡◌, ◌<◌, ◌≤◌, ◌+◌, ◌-◌, ◌*◌, ◌/◌, ◌^◌, ◌∷◌, ◌++◌, MatchOption, Some};
 
 use crate::shapes::Shape;
+use oram_redo::check_of;
 
 /// The offset in the file by which the cells of all trees must end. Operating systems allow no longer files.
 pub const CELLS_END: u64 = 1 << 62;
@@ -22,7 +23,7 @@ pub struct Tree {
 }
 
 impl Tree {
-    ghost use Rattle.oram_layout.specs.Header.{entry_bytes};
+    ghost use Rattle.oram_layout.specs.Header.{eight_bytes, entry_bytes, four_bytes};
     ghost use Rattle.oram_layout.specs.Limits.{cell_len, cells_len, nodes_of};
     ghost use Rattle.oram_layout.specs.Trees.{cell_at, end_of, sizes_of};
 
@@ -54,17 +55,14 @@ impl Tree {
         self.base + u64::from(self.shape.nodes()) * cell_len_of(self.shape.record_len)
     }
 
-    /// Returns the tree's entry in the header.
-    pub fn entry(&self) -> [u8; 16]
-        ensures { result ≡ entry_bytes (Some self.now) }
+    // Returns what the tree's entry says: the depth, the length of a record, and the place of the first cell.
+    fn said(&self) -> [u8; 13]
+        ensures { result ≡ self.now.shape.depth ∷ (four_bytes self.now.shape.record_len ++ eight_bytes self.now.base) }
     {
         let len = self.shape.record_len.to_le_bytes();
         let base = self.base.to_le_bytes();
         [
-            1,
             self.shape.depth,
-            0,
-            0,
             len[0],
             len[1],
             len[2],
@@ -77,6 +75,18 @@ impl Tree {
             base[5],
             base[6],
             base[7],
+        ]
+    }
+
+    /// Returns the tree's entry in the header.
+    pub fn entry(&self) -> [u8; 16]
+        ensures { result ≡ entry_bytes (Some self.now) }
+    {
+        let said = self.said();
+        let check = check_of(&said);
+        [
+            1, said[0], check[0], check[1], said[1], said[2], said[3], said[4], said[5], said[6],
+            said[7], said[8], said[9], said[10], said[11], said[12],
         ]
     }
 }

@@ -5,7 +5,7 @@ use Rattle.std.specs.Prelude.{All, ◌==◌, false}
 use Rattle.oram_redo.specs.Batch.{patch_of, patches_of}
 use Rattle.oram_redo.specs.Content.{Content, put}
 use Rattle.oram_redo.specs.Log as spec
-use Rattle.oram_redo.specs.Log.{entry, entries, place_and_length, put_all, Spares}
+use Rattle.oram_redo.specs.Log.{entry, entries, entry_text, check_bytes, put_all, Spares}
 use Rattle.oram_redo.specs.declared.batch.Patch.{Patch}
 use Rattle.oram_redo.proofs.Logs.{entries-append}
 use Rattle.oram_redo.proofs.Heal.{put_all-append}
@@ -42,6 +42,6 @@ spares_each (x ∷ xs) zero d i h spared = spared.0
 spares_each (x ∷ xs) (suc k) d i h spared = spares_each xs k d i (omega arith) spared.1
 
 -- the entries of a batch begin with an open gate
-pub patches_first : (xs : List Patch) → (length xs == 0) ≡ false → (tail : List ℕ) × (entries (patches_of xs) ≡ 1 ∷ tail)
+pub patches_first : (xs : List Patch) → (length xs == 0) ≡ false → (tail : List ℕ) × (entries (patches_of xs) ≡ 255 ∷ tail)
 patches_first [] some = cc
-patches_first (x ∷ xs) some = (place_and_length x.at (length x.bytes.now) ++ x.bytes.now ++ entries (patches_of xs), refl)
+patches_first (x ∷ xs) some = ((entry_text (patch_of x) ++ check_bytes (entry_text (patch_of x))) ++ entries (patches_of xs), refl)

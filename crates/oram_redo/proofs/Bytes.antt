@@ -28,6 +28,9 @@ bytes_at-agrees (suc n) at c d same =
 pub has_along : (bs : List ℕ) (at at' : ℕ) (c : Content) → at ≡ at' → Has bs at c → Has bs at' c
 has_along bs at at' c e has = subst (λ (k : ℕ). Has bs k c) e has
 
+pub has_length : (bs : List ℕ) (at at' n : ℕ) (c : Content) → at ≡ at' → n ≡ length bs → Has bs at c → bytes_at n at' c ≡ bs
+has_length bs at at' n c here long has = ap (λ (k : ℕ). bytes_at k at' c) long ∙ has_along bs at at' c here has
+
 pub has_same : (bs : List ℕ) (at : ℕ) (c d : Content) → ((i : ℕ) → at ≤ i → i < at + length bs → d i ≡ c i) → Has bs at c → Has bs at d
 has_same bs at c d same has = bytes_at-agrees (length bs) at d c same ∙ has
 

@@ -20,7 +20,7 @@ pub nothing_yet : (bounds : Bounds) (loose : List Patch) (before : Contents) (ba
 nothing_yet bounds loose before batch c keeps = record { front = keeps.front; stands = inl keeps.stands }
 
 -- what was written after the shut gate
-pub tail_written : (batch : List Patch) (tail body : List ℕ) (at : ℕ) (seen seen' : Contents) → entries batch ≡ 1 ∷ tail → body ≡ entries batch ++ 0 ∷ []
+pub tail_written : (batch : List Patch) (tail body : List ℕ) (at : ℕ) (seen seen' : Contents) → entries batch ≡ 255 ∷ tail → body ≡ entries batch ++ 0 ∷ []
     → Wrote Log at (take (length body - 1) (drop 1 body)) seen seen' → Has (tail ++ 0 ∷ []) at (seen' Log)
 tail_written batch tail body at seen seen' spelled is wrote =
     let written : List ℕ = take (length body - 1) (drop 1 body) in
@@ -71,7 +71,7 @@ module _ (redo : Redo) (loose : List Patch) (seen : Contents) (leave : Contents 
 
 -- The batch's entries are after the shut gate, all but their first gate, and a shut gate is after them.
 module _ (redo : Redo) (loose : List Patch) (seen : Contents) (leave : Contents → Type 0) (s : AreCrashConsistent redo loose seen leave) (sure : (c : Contents) → leave c → Agrees (c Log) (seen Log))
-    (batch : List Patch) (tail : List ℕ) (spelled : entries batch ≡ 1 ∷ tail) (whole : Has (tail ++ 0 ∷ []) (end_of redo + 1) (seen Log))
+    (batch : List Patch) (tail : List ℕ) (spelled : entries batch ≡ 255 ∷ tail) (whole : Has (tail ++ 0 ∷ []) (end_of redo + 1) (seen Log))
     (room : end_of redo + length (entries batch) < redo.bounds.log_end) (fits : All (Fits (bounds_of redo)) batch) where
   abbrev end : ℕ
   end = end_of redo
@@ -79,12 +79,12 @@ module _ (redo : Redo) (loose : List Patch) (seen : Contents) (leave : Contents 
   long : length (entries batch) ≡ suc (length tail)
   long = ap length spelled
 
-  log_open : (l : Content) → ((i : ℕ) → (i < end ⊎ end + 1 ≤ i) → l i ≡ seen Log i) → l end ≡ 1 → IsLog (bounds_of redo) (s.patches ++ batch) l
+  log_open : (l : Content) → ((i : ℕ) → (i < end ⊎ end + 1 ≤ i) → l i ≡ seen Log i) → l end ≡ 255 → IsLog (bounds_of redo) (s.patches ++ batch) l
   log_open l same gate =
       let behind : Has (tail ++ 0 ∷ []) (end + 1) l = has_same (tail ++ 0 ∷ []) (end + 1) (seen Log) l (λ i low high. same i (inr low)) whole in
       let rest : Has tail (end + 1) l = has_front tail (0 ∷ []) (end + 1) l behind in
-      let one : Has (1 ∷ []) end l = (λ i. gate i ∷ []) in
-      let both : Has (1 ∷ tail) end l = has-append (1 ∷ []) tail end l one rest in
+      let one : Has (255 ∷ []) end l = (λ i. gate i ∷ []) in
+      let both : Has (255 ∷ tail) end l = has-append (255 ∷ []) tail end l one rest in
       let last : Has (0 ∷ []) (end + 1 + length tail) l = has_back tail (0 ∷ []) (end + 1) l behind in
       let shut_at : l (end + 1 + length tail) ≡ 0 = cc in
       log_more (bounds_of redo) s.patches batch (seen Log) l end s.log s.end (λ i low. same i (inl low))
@@ -94,7 +94,7 @@ module _ (redo : Redo) (loose : List Patch) (seen : Contents) (leave : Contents 
       moved : end + length (entries batch) ≡ end + 1 + length tail
       moved = omega (arith, long)
 
-  log_shut : (l : Content) → ((i : ℕ) → (i < end ⊎ end + 1 ≤ i) → l i ≡ seen Log i) → (l end ≡ 1 → ⊥) → IsLog (bounds_of redo) s.patches l
+  log_shut : (l : Content) → ((i : ℕ) → (i < end ⊎ end + 1 ≤ i) → l i ≡ seen Log i) → (l end ≡ 255 → ⊥) → IsLog (bounds_of redo) s.patches l
   log_shut l same gate = record {
     stands = has_same (entries s.patches) redo.bounds.log_start (seen Log) l (λ i low high. same i (inl (omega (arith, s.end)))) s.log.stands;
     shut = λ is. gate (ap l s.end ∙ is);
@@ -114,13 +114,13 @@ module _ (redo : Redo) (loose : List Patch) (seen : Contents) (leave : Contents 
   pub gate_torn : (c : Contents) → Tears Log end 1 leave c → AllOrNothing (bounds_of redo) loose seen batch c
   gate_torn c (d, was, torn) = record {
     front = λ i low. around d c was torn i (inl (omega (arith, s.end)));
-    stands = elim (cases_eq (c Log end) 1) [
+    stands = elim (cases_eq (c Log end) 255) [
       | inl gate ↦ inr (record { patches = s.patches ++ batch; log = log_open (c Log) (around d c was torn) gate; gives = gives_all c d was torn.other })
       | inr gate ↦ inl (without gate)
     ];
   }
     where
-      without : (c Log end ≡ 1 → ⊥) → StandsFor (bounds_of redo) loose (seen Records) c
+      without : (c Log end ≡ 255 → ⊥) → StandsFor (bounds_of redo) loose (seen Records) c
       without gate = record {
         patches = s.patches;
         log = log_shut (c Log) (around d c was torn) gate;
@@ -128,9 +128,9 @@ module _ (redo : Redo) (loose : List Patch) (seen : Contents) (leave : Contents 
       }
 
   -- the gate is open
-  module _ (seen' : Contents) (leave' : Contents → Type 0) (wrote : Wrote Log end (1 ∷ []) seen seen') (sure' : (c : Contents) → leave' c → Agrees (c Log) (seen' Log)) (follows : Follows (Torn Log end 1) leave leave') where
+  module _ (seen' : Contents) (leave' : Contents → Type 0) (wrote : Wrote Log end (255 ∷ []) seen seen') (sure' : (c : Contents) → leave' c → Agrees (c Log) (seen' Log)) (follows : Follows (Torn Log end 1) leave leave') where
     opened : IsLog (bounds_of redo) (s.patches ++ batch) (seen' Log)
-    opened = log_open (seen' Log) (λ i out. wrote.there i ∙ put_outside (1 ∷ []) end (seen Log) i out) (wrote.there end ∙ gate_written 1 end (seen Log))
+    opened = log_open (seen' Log) (λ i out. wrote.there i ∙ put_outside (255 ∷ []) end (seen Log) i out) (wrote.there end ∙ gate_written 255 end (seen Log))
 
     -- the places may have any bytes: the log heals them
     healed : (c d : Contents) → leave' d → Smeared batch d c → (i : ℕ) → Spares loose i → put_all (s.patches ++ batch) (c Records) i ≡ put_all batch (seen Records) i
@@ -143,7 +143,7 @@ module _ (redo : Redo) (loose : List Patch) (seen : Contents) (leave : Contents 
 
     pub places_torn : (c : Contents) → Smears batch leave' c → AllOrNothing (bounds_of redo) loose seen batch c
     places_torn c (d, was, smeared) = record {
-      front = λ i low. smeared.log i ∙ sure' d was i ∙ wrote.there i ∙ put_outside (1 ∷ []) end (seen Log) i (inl (omega (arith, s.end)));
+      front = λ i low. smeared.log i ∙ sure' d was i ∙ wrote.there i ∙ put_outside (255 ∷ []) end (seen Log) i (inl (omega (arith, s.end)));
       stands = inr (record {
         patches = s.patches ++ batch;
         log = log_kept (bounds_of redo) (s.patches ++ batch) (seen' Log) (c Log) opened (λ i le. smeared.log i ∙ sure' d was i);

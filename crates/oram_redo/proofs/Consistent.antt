@@ -89,17 +89,17 @@ module _ (redo : Redo) (loose : List Patch) (seen : Contents) (leave : Contents 
           stands = λ c now i spared. sure c now i;
         }
 
-    first_gate : (ps : List Patch) → IsLog (bounds_of redo) ps (seen Log) → end_of redo ≡ redo.bounds.log_start + length (entries ps) → (end_of redo ≡ redo.bounds.log_start → ⊥) → seen Log redo.bounds.log_start ≡ 1
+    first_gate : (ps : List Patch) → IsLog (bounds_of redo) ps (seen Log) → end_of redo ≡ redo.bounds.log_start + length (entries ps) → (end_of redo ≡ redo.bounds.log_start → ⊥) → seen Log redo.bounds.log_start ≡ 255
     first_gate [] log end full = absurd (full (omega (arith, end)))
     first_gate (p ∷ ps) log end full = entry_gate p redo.bounds.log_start (seen Log) (has_front (entry p) (entries ps) redo.bounds.log_start (seen Log) log.stands)
 
     pub keeps_shut : (end_of redo ≡ redo.bounds.log_start → ⊥) → (c : Contents) → Tears Log redo.bounds.log_start 1 leave c → Keeps (bounds_of redo) loose seen c
     keeps_shut full c (d, was, torn) = record {
       front = λ i low. torn.before i low ∙ s.sure d was i (omega (arith, s.end));
-      stands = elim (cases_eq (c Log redo.bounds.log_start) 1) [ inl gate ↦ open_still gate | inr gate ↦ shut_now gate ];
+      stands = elim (cases_eq (c Log redo.bounds.log_start) 255) [ inl gate ↦ open_still gate | inr gate ↦ shut_now gate ];
     }
       where
-        same : c Log redo.bounds.log_start ≡ 1 → (i : ℕ) → i ≤ redo.bounds.log_start + length (entries s.patches) → c Log i ≡ seen Log i
+        same : c Log redo.bounds.log_start ≡ 255 → (i : ℕ) → i ≤ redo.bounds.log_start + length (entries s.patches) → c Log i ≡ seen Log i
         same gate i le = elim (cases_eq i redo.bounds.log_start) [
           | inl here ↦ ap (c Log) here ∙ gate ∙ sym (first_gate s.patches s.log s.end full) ∙ ap (seen Log) (sym here)
           | inr other ↦ elsewhere other
@@ -111,14 +111,14 @@ module _ (redo : Redo) (loose : List Patch) (seen : Contents) (leave : Contents 
                 sides : i ≢ redo.bounds.log_start → (i < redo.bounds.log_start ⊎ redo.bounds.log_start + 1 ≤ i)
                 sides not_here = grind arith
 
-        open_still : c Log redo.bounds.log_start ≡ 1 → StandsFor (bounds_of redo) loose (seen Records) c
+        open_still : c Log redo.bounds.log_start ≡ 255 → StandsFor (bounds_of redo) loose (seen Records) c
         open_still gate = record {
           patches = s.patches;
           log = log_kept (bounds_of redo) s.patches (seen Log) (c Log) s.log (same gate);
           gives = λ i spared. put_all_heals s.patches (c Records) (d Records) i (λ any. torn.other i) ∙ s.stands d was i spared;
         }
 
-        shut_now : (c Log redo.bounds.log_start ≡ 1 → ⊥) → StandsFor (bounds_of redo) loose (seen Records) c
+        shut_now : (c Log redo.bounds.log_start ≡ 255 → ⊥) → StandsFor (bounds_of redo) loose (seen Records) c
         shut_now gate = record {
           patches = [];
           log = log_none (bounds_of redo) (c Log) (omega (arith, s.log.within)) gate;

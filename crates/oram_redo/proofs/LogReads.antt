@@ -1,18 +1,18 @@
 -- What recovery has read of a log so far.
-use Rattle.std.proofs.Common.{◌≡◌, ◌⊎◌, ⊎_elim, ℕ, zero, suc, ◌+◌, ◌^◌, ◌<◌, ◌≤◌, List, [], ◌∷◌, ◌++◌, length, refl, sym, ◌∙◌, ap, subst, arith, length-append}
-use Rattle.std.proofs.lemmas.List.{append-nil}
+use Rattle.std.proofs.Common.{◌≡◌, ◌⊎◌, ⊎_elim, ℕ, zero, suc, ◌+◌, ◌^◌, ◌<◌, ◌≤◌, List, [], ◌∷◌, ◌++◌, ◌-◌, length, take, drop, refl, sym, ◌∙◌, ap, subst, arith, length-append}
+use Rattle.std.proofs.lemmas.List.{append-nil, take_at, drop_at, take_rest}
 use Rattle.std.proofs.lemmas.List.Elements.{All-append}
 use Rattle.std.specs.Prelude.{All}
 use Rattle.oram_redo.specs.Content.{Content, Agrees, Has, bytes_at}
-use Rattle.oram_redo.specs.Log.{Patch, Fits, IsLog, entry, entries, place_and_length, put_all}
+use Rattle.oram_redo.specs.Log.{Patch, Fits, HasOddGate, IsLog, check_bytes, entry_text, entry, entries, place_and_length, put_all}
 use Rattle.oram_redo.specs.FilePair.{Contents}
-use Rattle.oram_redo.specs.Recovery.{IsEntryAt, IsDamagedAt, IsEndAt}
+use Rattle.oram_redo.specs.Recovery.{IsEntryAt, IsDamagedAt, IsEndAt, IsWholeAt}
 use Rattle.oram_redo.specs.declared.file_pair.FileKind.TheVariants.{Records, Log}
 use Rattle.oram_redo.specs.declared.bounds.Bounds.{Bounds}
 use Rattle.oram_redo.specs.declared.recovery.Entry.{Entry}
-use Rattle.oram_redo.proofs.Bytes.{has_along, has_front, has_back, has-append, has_one, has_read}
+use Rattle.oram_redo.proofs.Bytes.{bytes_at-add, length-bytes_at, has_along, has_front, has_back, has_length, has-append, has_one, has_read}
 use Rattle.oram_redo.proofs.Moments.{same_content}
-use Rattle.oram_redo.proofs.Logs.{length-entry, length-place_and_length, place_and_length_one, entries-append, entry_gate, entry_head, entry_read, entry_one, all_first, all_rest, follows}
+use Rattle.oram_redo.proofs.Logs.{length-entry, length-entry_text, length-check_bytes, length-place_and_length, place_and_length_one, entries-append, entry_gate, entry_head, entry_says, entry_check, entry_read, entry_one, all_first, all_rest, follows}
 
 -- the entries of these patches are in the log, up to this place
 pub record Opens (bounds : Bounds) (done : List Patch) (log : Content) (at : ℕ) : Type 0 where
@@ -20,23 +20,58 @@ pub record Opens (bounds : Bounds) (done : List Patch) (log : Content) (at : ℕ
   pub ends : at ≡ bounds.log_start + length (entries done)
   pub each : All (Fits bounds) done
 
-gate_of : (at a b : ℕ) (log : Content) → bytes_at 13 at log ≡ 1 ∷ place_and_length a b → log at ≡ 1
+gate_of : (at a b : ℕ) (log : Content) → bytes_at 13 at log ≡ 255 ∷ place_and_length a b → log at ≡ 255
 gate_of at a b log is = cc
 
-pub damaged_head : (bounds : Bounds) (log : Content) (at a b : ℕ) → bytes_at 13 at log ≡ 1 ∷ place_and_length a b → a < 2 ^ 64 → b < 2 ^ 32
-    → (bounds.log_end ≤ at + 13 + b ⊎ bounds.records_end < a + b) → IsDamagedAt bounds log at
+-- what an entry says and its checksum, read in one piece
+pub text_and_check : (len at : ℕ) (bytes : List ℕ) (log : Content) → bytes ≡ bytes_at (12 + len + 8) (at + 1) log
+    → (take (length bytes - (12 + len)) (drop (12 + len) bytes) ≡ bytes_at 8 (at + 13 + len) log) × (take (12 + len) bytes ≡ bytes_at (12 + len) (at + 1) log)
+text_and_check len at bytes log is =
+    let text : List ℕ = bytes_at (12 + len) (at + 1) log in
+    let long : length text ≡ 12 + len = length-bytes_at (12 + len) (at + 1) log in
+    let next : at + 1 + (12 + len) ≡ at + 13 + len = omega arith in
+    let both : bytes ≡ text ++ bytes_at 8 (at + 13 + len) log = is ∙ bytes_at-add (12 + len) 8 (at + 1) log ∙ ap (λ (k : ℕ). text ++ bytes_at 8 k log) next in (
+      take_rest bytes (12 + len) ∙ ap (λ (l : List ℕ). drop (12 + len) l) both ∙ drop_at text (bytes_at 8 (at + 13 + len) log) (12 + len) long,
+      ap (λ (l : List ℕ). take (12 + len) l) both ∙ take_at text (bytes_at 8 (at + 13 + len) log) (12 + len) long,
+    )
+
+-- an entry with this head is of a patch with its place and its length
+head_parts_are : (bounds : Bounds) (log : Content) (at a b : ℕ) → bytes_at 13 at log ≡ 255 ∷ place_and_length a b → a < 2 ^ 64 → b < 2 ^ 32
+    → (p : Patch) → Fits bounds p → Has (entry p) at log → (p.0 ≡ a) × (length p.1 ≡ b)
+head_parts_are bounds log at a b is ha hb p fits has =
+    let first : Has (255 ∷ place_and_length a b) at log = has_read 13 at log (255 ∷ place_and_length a b) (sym is) in
+    let heads : place_and_length p.0 (length p.1) ≡ place_and_length a b = has_one _ _ (suc at) log
+    (length-place_and_length p.0 (length p.1) ∙ sym (length-place_and_length a b)) (entry_head p at log has) (rest first) in
+    place_and_length_one p.0 (length p.1) a b fits.place_fits fits.length_fits ha hb heads
+  where
+    rest : Has (255 ∷ place_and_length a b) at log → Has (place_and_length a b) (suc at) log
+    rest h = cc
+
+-- a checksum that isn't that of what the entry says
+pub damaged_check : (bounds : Bounds) (log : Content) (at a b : ℕ) → bytes_at 13 at log ≡ 255 ∷ place_and_length a b → a < 2 ^ 64 → b < 2 ^ 32
+    → (IsWholeAt log at b → ⊥) → IsDamagedAt bounds log at
+damaged_check bounds log at a b is ha hb bad = record {
+  no_end = λ shut low. shut (gate_of at a b log is);
+  no_entry = λ p fits has room.
+      let parts = head_parts_are bounds log at a b is ha hb p fits has in
+      bad (whole_of p at b log parts.1 has);
+}
+  where
+    whole_of : (p : Patch) (at b : ℕ) (log : Content) → length p.1 ≡ b → Has (entry p) at log → IsWholeAt log at b
+    whole_of p at b log long has =
+        let said : bytes_at (12 + b) (at + 1) log ≡ entry_text p = has_length (entry_text p) (suc at) (at + 1) (12 + b) log (omega arith) (omega (arith, length-entry_text p, long)) (entry_says p at log has) in
+        let check : bytes_at 8 (at + 13 + b) log ≡ check_bytes (entry_text p) =
+        has_length (check_bytes (entry_text p)) (at + 13 + length p.1) (at + 13 + b) 8 log (omega (arith, long)) (sym (length-check_bytes (entry_text p))) (entry_check p at log has) in
+        check ∙ ap check_bytes (sym said)
+
+pub damaged_head : (bounds : Bounds) (log : Content) (at a b : ℕ) → bytes_at 13 at log ≡ 255 ∷ place_and_length a b → a < 2 ^ 64 → b < 2 ^ 32
+    → (bounds.log_end ≤ at + 21 + b ⊎ bounds.records_end < a + b) → IsDamagedAt bounds log at
 damaged_head bounds log at a b is ha hb bad = record {
   no_end = λ shut low. shut (gate_of at a b log is);
   no_entry = λ p fits has room.
-      let first : Has (1 ∷ place_and_length a b) at log = has_read 13 at log (1 ∷ place_and_length a b) (sym is) in
-      let heads : place_and_length p.0 (length p.1) ≡ place_and_length a b = has_one _ _ (suc at) log
-      (length-place_and_length p.0 (length p.1) ∙ sym (length-place_and_length a b)) (entry_head p at log has) (rest first) in
-      let parts = place_and_length_one p.0 (length p.1) a b fits.place_fits fits.length_fits ha hb heads in
+      let parts = head_parts_are bounds log at a b is ha hb p fits has in
       ⊎_elim (λ long. absurd (omega (arith, long, room, length-entry p, parts.1))) (λ far. absurd (omega (arith, far, fits.within, parts.0, parts.1))) bad;
 }
-  where
-    rest : Has (1 ∷ place_and_length a b) at log → Has (place_and_length a b) (suc at) log
-    rest h = cc
 
 module _ (bounds : Bounds) (log : Content) where
   -- the patch of an entry that was found
@@ -44,7 +79,7 @@ module _ (bounds : Bounds) (log : Content) where
   patch_at at found = (found.at, bytes_at found.len (at + 13) log)
 
   pub patch_stands : (at : ℕ) (found : Entry) → IsEntryAt bounds log at found → (length (patch_at at found).1 ≡ found.len) × Has (entry (patch_at at found)) at log
-  patch_stands at found is = entry_read found.at found.len at (bytes_at 13 at log) (bytes_at found.len (at + 13) log) log refl is.head refl
+  patch_stands at found is = entry_read found.at found.len at (bytes_at found.len (at + 13) log) log is.head refl is.whole
 
   pub patch_fits : (at : ℕ) (found : Entry) → IsEntryAt bounds log at found → Fits bounds (patch_at at found)
   patch_fits at found is = record {
@@ -131,6 +166,12 @@ entry_along bounds log other at found same is = subst (λ (l : Content). IsEntry
 
 pub damaged_along : (bounds : Bounds) (log other : Content) (at : ℕ) → Agrees other log → IsDamagedAt bounds other at → IsDamagedAt bounds log at
 damaged_along bounds log other at same is = subst (λ (l : Content). IsDamagedAt bounds l at) (same_content other log same) is
+
+pub whole_along : (log other : Content) (at len : ℕ) → Agrees other log → IsWholeAt other at len → IsWholeAt log at len
+whole_along log other at len same is = subst (λ (l : Content). IsWholeAt l at len) (same_content other log same) is
+
+pub odd_along : (bounds : Bounds) (log other : Content) → Agrees other log → HasOddGate bounds other → HasOddGate bounds log
+odd_along bounds log other same is = subst (λ (l : Content). HasOddGate bounds l) (same_content other log same) is
 
 pub end_along : (bounds : Bounds) (log other : Content) (at : ℕ) → Agrees other log → IsEndAt bounds other at → IsEndAt bounds log at
 end_along bounds log other at same is = subst (λ (l : Content). IsEndAt bounds l at) (same_content other log same) is

@@ -1,18 +1,18 @@
 -- Worked rows: what the definitions say of a few patches, beside what was written down by hand.
 use Rattle.std.proofs.Common.{◌≡◌, [], ◌∷◌, length, refl}
 use Rattle.oram_redo.specs.Content.{Content, bytes_at, put}
-use Rattle.oram_redo.specs.Log.{place_bytes, length_bytes, entry, entries, put_all}
+use Rattle.oram_redo.specs.Log.{place_bytes, length_bytes, check_bytes, entry_text, entries, put_all}
 
 zeros : Content
 zeros i = 0
 
 -- two bytes for the place 258, which is 1 * 256 + 2
-row_entry : entry (258, 7 ∷ 9 ∷ []) ≡ 1 ∷ 2 ∷ 1 ∷ 0 ∷ 0 ∷ 0 ∷ 0 ∷ 0 ∷ 0 ∷ 2 ∷ 0 ∷ 0 ∷ 0 ∷ 7 ∷ 9 ∷ []
+row_text : entry_text (258, 7 ∷ 9 ∷ []) ≡ 2 ∷ 1 ∷ 0 ∷ 0 ∷ 0 ∷ 0 ∷ 0 ∷ 0 ∷ 2 ∷ 0 ∷ 0 ∷ 0 ∷ 7 ∷ 9 ∷ []
 unfolding place_bytes length_bytes
-row_entry = refl
+row_text = refl
 
-row_lengths : length (entries ((258, 7 ∷ 9 ∷ []) ∷ (0, []) ∷ [])) ≡ 28
-unfolding place_bytes length_bytes
+row_lengths : length (entries ((258, 7 ∷ 9 ∷ []) ∷ (0, []) ∷ [])) ≡ 44
+unfolding place_bytes length_bytes check_bytes
 row_lengths = refl
 
 row_put : bytes_at 5 2 (put (7 ∷ 9 ∷ []) 4 zeros) ≡ 0 ∷ 0 ∷ 7 ∷ 9 ∷ 0 ∷ []

@@ -1,5 +1,6 @@
--- The log: the entries of patches, one after the other, and then a byte that is not 1.
+-- The log: the entries of patches, one after the other, and then a byte that is not 255.
 use Rattle.std.specs.Prelude.{◌≡◌, ◌⊎◌, ◌<◌, ◌≤◌, ℕ, ◌+◌, ◌^◌, List, [], ◌∷◌, ◌++◌, length, All, ⊤}
+use Rattle.std.specs.Hash.DefaultHasher as sip
 use Rattle.std.specs.Int.{w32, w64, to_le_bytes}
 use Rattle.oram_redo.specs.Content.{Content, Agrees, Has, put}
 use Rattle.oram_redo.specs.FilePair.{Contents}
@@ -26,21 +27,36 @@ length_bytes len = to_le_bytes w32 len
 abbrev pub place_and_length : ℕ → ℕ → List ℕ
 place_and_length place len = place_bytes place ++ length_bytes len
 
--- An entry: its gate, which is 1, the place, the length, and the bytes.
+-- SipHash-1-3 with keys of zeros, in 8 bytes. It tells whether a text is still the one that was written.
+unfoldable pub check_bytes : List ℕ → List ℕ
+check_bytes text = to_le_bytes w64 (sip.finish (sip.write sip.initial text))
+
+-- what an entry says: the place, the length, and the bytes
+abbrev pub entry_text : Patch → List ℕ
+entry_text patch = place_and_length patch.0 (length patch.1) ++ patch.1
+
+-- An entry: its gate, which is 255, what it says, and the checksum of that.
 abbrev pub entry : Patch → List ℕ
-entry patch = 1 ∷ (place_and_length patch.0 (length patch.1) ++ patch.1)
+entry patch = 255 ∷ (entry_text patch ++ check_bytes (entry_text patch))
 
 abbrev pub entries : List Patch → List ℕ
 entries [] = []
 entries (p ∷ ps) = entry p ++ entries ps
 
--- The log holds the entries of these patches and no others: the gate after them is not 1. The bytes after that gate
+-- The log holds the entries of these patches and no others: the gate after them is not 255. The bytes after that gate
 -- don't count.
 pub record IsLog (bounds : Bounds) (patches : List Patch) (log : Content) : Type 0 where
   pub stands : Has (entries patches) bounds.log_start log
-  pub shut : log (bounds.log_start + length (entries patches)) ≡ 1 → ⊥
+  pub shut : log (bounds.log_start + length (entries patches)) ≡ 255 → ⊥
   pub within : bounds.log_start + length (entries patches) < bounds.log_end
   pub each : All (Fits bounds) patches
+
+-- The gate after the log's last entry is neither open nor 0. A crash leaves that only if it tears the write of a single
+-- byte; more likely, the byte has changed since.
+pub record HasOddGate (bounds : Bounds) (log : Content) : Type 0 where
+  pub patches : List Patch
+  pub is : IsLog bounds patches log
+  pub odd : log (bounds.log_start + length (entries patches)) ≡ 0 → ⊥
 
 abbrev pub put_all : List Patch → Content → Content
 put_all [] c = c

@@ -1,17 +1,21 @@
 //! Patches, and their bytes in the log.
-ghost use Rattle.std.specs.Prelude.{◌≡◌, ◌<◌, ◌^◌, ◌++◌, [], ◌∷◌, All, length, IfNone, IfOk, IfSome, slice_index};
-ghost use Rattle.oram_redo.specs.Batch.{patches_of};
-ghost use Rattle.oram_redo.specs.Log.{entries, length_bytes, place_and_length, place_bytes};
+ghost use Rattle.std.specs.Prelude.{◌≡◌, ◌<◌, ◌^◌, ◌↔◌, ◌++◌, [], ◌∷◌, All, length, IfNone, IfOk, IfSome, IsTrue, OnOk, slice_index};
+ghost use Rattle.oram_redo.specs.Batch.{patch_of, patches_of};
+ghost use Rattle.oram_redo.specs.Log.{check_bytes, entries, entry, length_bytes, place_and_length, place_bytes};
 
 use std::alloc::{AllocError, Global};
+use std::hash::{DefaultHasher, Hasher};
 
 /// The number of bytes in an entry before those of its patch: the gate, the place and the length.
 pub const HEAD_LEN: usize = 13;
 
-/// The gate of an entry that counts.
-pub const OPEN: u8 = 1;
+/// The number of bytes of an entry's checksum, which come after those of its patch.
+pub const CHECK_LEN: usize = 8;
 
-/// The gate after the last entry. Any byte but `OPEN` would do.
+/// The gate of an entry that counts. It differs from `SHUT` in each bit, so no single bit that changes turns one into the other.
+pub const OPEN: u8 = 255;
+
+/// The gate after the last entry. The log ends at any byte but `OPEN`, but only this one is written there.
 pub const SHUT: u8 = 0;
 
 /// Bytes to write at a place of the records' file.
@@ -33,10 +37,43 @@ fn room_of(batch: &[Patch]) -> usize {
     let mut room = 1usize;
     for patch in batch {
         room = room
-            .saturating_add(HEAD_LEN)
+            .saturating_add(HEAD_LEN + CHECK_LEN)
             .saturating_add(patch.bytes.len());
     }
     room
+}
+
+/// Returns the checksum of a text, which tells whether it is still the one that was written.
+#[tactic(auto, unfolding(crate::specs::Log::check_bytes))]
+pub fn check_of(text: &[u8]) -> [u8; 8]
+    ensures { result ≡ check_bytes text.now }
+{
+    let mut hasher = DefaultHasher::new();
+    hasher.write(text);
+    hasher.finish().to_le_bytes()
+}
+
+/// Returns whether `check` is the checksum of what an entry says.
+pub fn is_check_of(check: &[u8], text: &[u8]) -> bool
+    ensures { IsTrue result ↔ (check.now ≡ check_bytes text.now) }
+{
+    let own = check_of(text);
+    check == &own[..]
+}
+
+/// Adds the entry of a patch to those before it.
+fn push_entry(body: &mut Vec<u8>, patch: &Patch) -> Result<(), AllocError>
+    requires { length patch.now.bytes.now < 2 ^ 32 }
+    ensures { OnOk result (body.new.items ≡ body.old.items ++ entry (patch_of patch.now)) }
+{
+    body.push(OPEN)?;
+    let start = body.len();
+    body.extend_from_slice(&patch.at.to_le_bytes())?;
+    body.extend_from_slice(&(patch.bytes.len() as u32).to_le_bytes())?;
+    body.extend_from_slice(patch.bytes)?;
+    let check = check_of(&body[start..]);
+    body.extend_from_slice(&check)?;
+    Ok(())
 }
 
 /// Returns the batch's entries, and a shut gate after them.
@@ -46,10 +83,7 @@ pub fn body_of(alloc: Global, batch: &[Patch]) -> Result<Vec<u8>, AllocError>
 {
     let mut body = Vec::with_capacity(alloc, room_of(batch))?;
     for patch in batch {
-        body.push(OPEN)?;
-        body.extend_from_slice(&patch.at.to_le_bytes())?;
-        body.extend_from_slice(&(patch.bytes.len() as u32).to_le_bytes())?;
-        body.extend_from_slice(patch.bytes)?;
+        push_entry(&mut body, patch)?;
     }
     body.push(SHUT)?;
     Ok(body)
@@ -58,8 +92,8 @@ pub fn body_of(alloc: Global, batch: &[Patch]) -> Result<Vec<u8>, AllocError>
 /// Returns the head in the first bytes of an entry, or `None` if its gate is shut.
 pub fn head_of(bytes: &[u8]) -> Option<Head>
     requires { length bytes.now ≡ HEAD_LEN }
-    ensures shut { IfNone result (slice_index bytes.now 0 ≡ 1 → ⊥) }
-    ensures open { IfSome result (λ head. bytes.now ≡ 1 ∷ place_and_length head.at head.len) }
+    ensures shut { IfNone result (slice_index bytes.now 0 ≡ 255 → ⊥) }
+    ensures open { IfSome result (λ head. bytes.now ≡ 255 ∷ place_and_length head.at head.len) }
     ensures in_range { IfSome result (λ head. (head.at < 2 ^ 64) × (head.len < 2 ^ 32)) }
 {
     if bytes[0] != OPEN {

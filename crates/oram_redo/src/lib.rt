@@ -1,12 +1,16 @@
 //! A redo log for one file of records. Each batch of patches is in the log, on the disk, before any of it is written to
 //! its place.
 //!
-//! The log holds entries, one after the other: a gate (a byte, 1 where it is open), a place (an offset in the records'
-//! file), a length, and that many bytes. The entries that count are the longest run with open gates from the log's
-//! start on. A batch is written after the last entry, all but its first gate, and synced; then that gate is opened and
-//! synced. So after a crash the log has the whole batch or none of it, and needs no digest. Any byte but 1 is a shut
-//! gate, so a gate that a crash has torn can stay as it is. A gate that is shut is never shut again, because a crash
-//! might tear that write and open the gate.
+//! The log holds entries, one after the other: a gate (a byte, 255 where it is open), a place (an offset in the records'
+//! file), a length, that many bytes, and a checksum of the place, the length and the bytes. The entries that count are the
+//! longest run with open gates from the log's start on. A batch is written after the last entry, all but its first gate,
+//! and synced; then that gate is opened and synced. So after a crash the log has the whole batch or none of it, and that
+//! rests on no checksum. A gate that is shut is never shut again, because a crash might tear that write and open the gate.
+//!
+//! The checksums are for what happens to the log afterwards: a disk that gets old, or a copy that goes wrong. The whole log
+//! is read and found sound before any of it is written to its place. A gate that is shut is 0, and differs from an open one
+//! in each bit: so a gate that is neither of the two has changed since, and such a log is refused. Only a crash that tears
+//! the write of a single byte would leave that too.
 //!
 //! [`FilePair`] is the pair of files, as far as a contract can say what files do: what a read returns, what a crash may
 //! leave now, and what a crash at each past moment might have left. [`recover`] opens a pair. It syncs both files
@@ -31,7 +35,7 @@ mod redo;
 mod steps;
 mod system;
 
-pub use batch::Patch;
+pub use batch::{Patch, check_of};
 pub use bounds::Bounds;
 pub use faults::RedoError;
 pub use file_pair::{FileKind, FilePair};

@@ -7,11 +7,11 @@ ghost use Rattle.std.specs.Prelude.{◌≡◌, ◌⊎◌, ◌<◌, ◌≤◌, �
 ghost use Rattle.oram_redo.specs.Batch.{patches_of};
 ghost use Rattle.oram_redo.specs.Content.{Content, Agrees, bytes_at, put};
 ghost use Rattle.oram_redo.specs.FilePair.{ComesAfter, HasFailed, LeavesOnly, ReadOnto, Rises, Torn, WritesNothing};
-ghost use Rattle.oram_redo.specs.Log.{AllOrNothing, Fits, Keeps, StandsAlike, StandsFor, entries, put_all};
+ghost use Rattle.oram_redo.specs.Log.{AllOrNothing, Fits, HasOddGate, Keeps, StandsAlike, StandsFor, entries, put_all};
 ghost use Rattle.oram_redo.specs.Redo.{IsCrashConsistent, IsRefused, bounds_of, end_of};
 
 use crate::batch::{OPEN, SHUT, body_of};
-use crate::recovery::{end_of_log, replay};
+use crate::recovery::{replay, sound_end};
 use crate::steps::{put_in_place, read, read_onto, set_gate, sync_both, write_synced};
 use crate::{Bounds, FileKind, FilePair, Patch, RedoError};
 use std::alloc::Global;
@@ -26,8 +26,9 @@ pub struct Redo {
     end: u64,
 }
 
-/// Syncs both files, and writes the log's patches to their places. A crash meanwhile does no harm. The log isn't
-/// changed. If the log isn't a list of patches, this fails with `Damaged` and writes nothing.
+/// Syncs both files, reads the whole log, and then writes its patches to their places. A crash meanwhile does no harm. The
+/// log isn't changed. If the log isn't a list of patches, or if the gate at its end is neither open nor shut, this fails with
+/// `Damaged` and writes nothing.
 pub fn recover<F: FilePair>(alloc: Global, files: &mut F, bounds: Bounds) -> Result<Redo, RedoError>
     // Reads return the records that the files stood for.
     ensures records { OnOk result (F.model.is_honest files.new → StandsFor bounds [] (F.model.seen files.new FileKind.Records) (F.model.seen files.old)) }
@@ -40,14 +41,18 @@ pub fn recover<F: FilePair>(alloc: Global, files: &mut F, bounds: Bounds) -> Res
     ensures any_moment { F.model.is_honest files.new → LeavesOnly F.model files.old files.new
         (λ c. F.model.may_leave files.old c ⊎ StandsAlike bounds (F.model.seen files.old) c) }
 
-    ensures damaged { F.model.is_honest files.new → IsErrOf result RedoError.Damaged → (records : Content) → StandsFor bounds [] records (F.model.seen files.old) → ⊥ }
+    ensures damaged { F.model.is_honest files.new → IsErrOf result RedoError.Damaged → (records : Content) → StandsFor bounds [] records (F.model.seen files.old)
+        → HasOddGate bounds (F.model.seen files.old FileKind.Log) }
+
+    // A log with such a gate isn't taken.
+    ensures shut { OnOk result (F.model.is_honest files.new → HasOddGate bounds (F.model.seen files.old FileKind.Log) → ⊥) }
     ensures untouched { F.model.is_honest files.new → IsErrOf result RedoError.Damaged → WritesNothing F.model files.old files.new }
     ensures after { ComesAfter F.model files.old files.new }
     ensures failed { IsErrOf result RedoError.Failed → HasFailed F.model files.old files.new }
     ensures errors { IfErr result (λ e. (e ≡ RedoError.Memory) ⊎ (e ≡ RedoError.Failed) ⊎ (e ≡ RedoError.Damaged)) }
 {
     sync_both(files)?;
-    let end = end_of_log(alloc, files, bounds)?;
+    let end = sound_end(alloc, files, bounds)?;
     replay(alloc, files, bounds)?;
     Ok(Redo { bounds, end })
 }

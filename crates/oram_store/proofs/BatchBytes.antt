@@ -39,24 +39,24 @@ path_more tree leaf bytes n =
     ap (path_patches tree leaf bytes 0) (let e : n + 1 ≡ suc n = omega arith in e) ∙ path_from tree leaf bytes n 0
     ∙ ap (λ (l : ℕ). path_patches tree leaf bytes 0 n ++ record_patch tree (node_on tree.shape.depth leaf l) (record_at tree.shape.record_len bytes l) ∷ []) (let e : 0 + n ≡ n = omega arith in e)
 
-length-entries : (p : Patch) (ps : List Patch) → length (entries (p ∷ ps)) ≡ 13 + length p.1 + length (entries ps)
+length-entries : (p : Patch) (ps : List Patch) → length (entries (p ∷ ps)) ≡ 21 + length p.1 + length (entries ps)
 length-entries p ps = length-append (entry p) (entries ps) ∙ ap (λ (n : ℕ). n + length (entries ps)) (length-entry p)
 
-pub length-one : (p : Patch) → length (entries (p ∷ [])) ≡ 13 + length p.1
+pub length-one : (p : Patch) → length (entries (p ∷ [])) ≡ 21 + length p.1
 length-one p = omega (arith, length-entries p [])
 
-pub length-marks : (cells : List ℕ) → length (entries (marks cells)) ≡ 14 * length cells
+pub length-marks : (cells : List ℕ) → length (entries (marks cells)) ≡ 22 * length cells
 length-marks [] = omega arith
 length-marks (cell ∷ cells) = omega (arith, length-entries (cell, 1 ∷ []) (marks cells), length-marks cells)
 
 pub length-path : (tree : Tree) (leaf : ℕ) (bytes : List ℕ) → length bytes ≡ (tree.shape.depth + 1) * tree.shape.record_len → (n level : ℕ) → level + n ≤ tree.shape.depth + 1
-    → length (entries (path_patches tree leaf bytes level n)) ≡ n * (tree.shape.record_len + 14)
+    → length (entries (path_patches tree leaf bytes level n)) ≡ n * (tree.shape.record_len + 22)
 length-path tree leaf bytes whole zero level fits = omega arith
 length-path tree leaf bytes whole (suc n) level fits =
     let rest = length-path tree leaf bytes whole n (suc level) (omega arith) in
     let long = length-record_at tree.shape.record_len bytes level (tree.shape.depth + 1) whole (omega arith) in
     length-entries (record_patch tree (node_on tree.shape.depth leaf level) (record_at tree.shape.record_len bytes level)) (path_patches tree leaf bytes (suc level) n)
-    ∙ (omega (arith, rest, long, step_is n (tree.shape.record_len + 14)))
+    ∙ (omega (arith, rest, long, step_is n (tree.shape.record_len + 22)))
 
 all_cons : {X : Type 0} (P : X → Type 0) (x : X) (xs : List X) → P x → All P xs → All P (x ∷ xs)
 all_cons P x xs here rest zero d h = here
@@ -76,5 +76,5 @@ pub path_short : (tree : Tree) (leaf : ℕ) (bytes : List ℕ) → length bytes 
     → bounds.log_start + length (entries (path_patches tree leaf bytes 0 (tree.shape.depth + 1))) < bounds.log_end
 path_short tree leaf bytes whole =
     let long = length-path tree leaf bytes whole (tree.shape.depth + 1) 0 (omega arith) in
-    let spread : (tree.shape.depth + 1) * (tree.shape.record_len + 14) ≡ (tree.shape.depth + 1) * tree.shape.record_len + (tree.shape.depth + 1) * 14 = omega arith in
+    let spread : (tree.shape.depth + 1) * (tree.shape.record_len + 22) ≡ (tree.shape.depth + 1) * tree.shape.record_len + (tree.shape.depth + 1) * 22 = omega arith in
     omega (arith, long, spread, tree.shape.fits, tree.shape.deep)

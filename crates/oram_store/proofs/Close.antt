@@ -1,8 +1,9 @@
 -- Closing a store.
 use Rattle.std.proofs.Common.{◌≡◌, inl, inr, ℕ, ◌≤◌, true, false, List, [], refl, sym, ◌∙◌, ap, subst, arith, Result, Ok, Err}
 use Rattle.std.specs.Prelude.{IsErrAnd, OnOk}
-use Rattle.std.proofs.lemmas.Bool.{cases_Bool}
+use Rattle.std.proofs.lemmas.Bool.{cases_Bool, false≢true}
 use Rattle.oram_layout.specs.BucketFile.{IsBucketFile}
+use Rattle.oram_layout.specs.Changes.{marks}
 use Rattle.oram_layout.specs.Records.{AreKept, records_in}
 use Rattle.oram_layout.specs.Trees.{Trees}
 use Rattle.oram_layout.proofs.Contents.{content_is}
@@ -72,6 +73,37 @@ module _ {F : Type 0} (model : FileModel F) where
         commits_puts.any_moment (passes sound.file.loose sound.file.steady).moments (λ r found. found)
         (λ r but. inr (holds_all old mid trees none (commits_puts.records running) r (holds_but mid.trees sound.file.loose (model.seen mid.file.files Records) r sound.file.file sound.file.off but))))
   ]
+
+  -- the store goes on with an empty log
+  pub commits_puts_then : (old mid : StoreValue F) (last : FileValue F) → mid.trees ≡ old.trees → mid.pending ≡ [] → CommitsPuts model old mid
+      → ((loose : List Patch) → IsSteady model mid.file loose → Passes model [] (λ r. AgreesBut loose r (model.seen mid.file.files Records)) mid.file last)
+      → Agrees (model.seen last.files Records) (model.seen mid.file.files Records) → (mid.file.has_stopped ≡ true → last ≡ mid.file)
+      → ((t : ℕ) (c : Contents) → t ≤ model.moment mid.file.files → model.may_leave mid.file.files c → model.left_since mid.file.files t c) → model.may_leave mid.file.files (model.seen mid.file.files)
+      → CommitsPuts model old (record mid { file = last })
+  commits_puts_then old mid last trees none commits_puts passes same stays counts_now whole = record {
+    sound = λ running.
+        let sound = commits_puts.sound (was_running running) in
+        record {
+          file = record {
+            loose = [];
+            steady = (passes sound.file.loose sound.file.steady).steady running;
+            off = λ k d h. absurd (omega arith);
+            file = subst (λ (d : Content). IsBucketFile mid.trees d) (sym is) sound.file.file;
+          };
+          cells = sound.cells;
+        };
+    records = λ running tree node. ap (λ (d : Content). records_in mid.trees (put_all (marks mid.pending) d) tree node) is ∙ commits_puts.records (was_running running) tree node;
+    any_moment = closes_whole old mid last trees none commits_puts passes stays counts_now whole;
+  }
+    where
+      is : model.seen last.files Records ≡ model.seen mid.file.files Records
+      is = content_is (model.seen mid.file.files Records) (model.seen last.files Records) same
+
+      was_running : last.has_stopped ≡ false → mid.file.has_stopped ≡ false
+      was_running running = elim (cases_Bool mid.file.has_stopped) [
+        | inl stopped ↦ absurd (false≢true (sym running ∙ ap (λ (v : FileValue F). v.has_stopped) (stays stopped) ∙ stopped))
+        | inr goes_on ↦ goes_on
+      ]
 
   -- the PUTs can't be committed
   pub closes_err : (result : Result Unit StoreFault) (why : StoreFault) (old mid : StoreValue F) → IsErrAnd result (λ e. e ≡ why)

@@ -281,6 +281,7 @@ module _ {F : Type 0} (model : FileModel F) where
   reason_then old mid new fault.LogOfAnotherFile runs same reason = reason
   reason_then old mid new fault.LogWithoutFile runs same reason = reason
   reason_then old mid new fault.Damaged runs same reason = reason
+  reason_then old mid new fault.LogDamaged runs same reason = reason
 
   pub calls_then : {T : Type 0} (result : Result T StoreFault) (old mid new : FileValue F) → Runs model old mid → mid.has_stopped ≡ old.has_stopped
       → Calls model result mid new → Calls model result old new

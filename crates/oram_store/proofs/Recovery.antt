@@ -3,11 +3,11 @@ use Rattle.std.proofs.Common.{◌≡◌, ◌⊎◌, inl, inr, ⊎_elim, ℕ, ◌
 use Rattle.std.specs.Prelude.{replicate}
 use Rattle.oram_redo.specs.Content.{Content, Agrees, Has, put}
 use Rattle.oram_redo.specs.FilePair.{ComesAfter, Contents, FileModel, HasFailed, WritesNothing}
-use Rattle.oram_redo.specs.Log.{StandsAlike, StandsFor}
+use Rattle.oram_redo.specs.Log.{HasOddGate, StandsAlike, StandsFor}
 use Rattle.oram_redo.specs.Redo.{bounds_of}
 use Rattle.oram_redo.specs.declared.faults.RedoError.{RedoError}
 use Rattle.oram_redo.specs.declared.faults.RedoError.TheVariants as error
-use Rattle.oram_redo.specs.declared.file_pair.FileKind.TheVariants.{Records}
+use Rattle.oram_redo.specs.declared.file_pair.FileKind.TheVariants.{Log, Records}
 use Rattle.oram_redo.specs.declared.redo.Redo.{Redo}
 use Rattle.oram_redo.proofs.Bytes.{has_same, has-put}
 use Rattle.oram_redo.proofs.LawProofs.{files_stand_for_one}
@@ -68,16 +68,23 @@ module _ {F : Type 0} (model : FileModel F) where
   -- the redo log can't be recovered
   pub not_recovered : (e : RedoError) (old new : F) → (e ≡ error.Memory) ⊎ (e ≡ error.Failed) ⊎ (e ≡ error.Damaged)
       → ComesAfter model old new → (model.is_honest new → OpensAlike model old new)
-      → (model.is_honest new → e ≡ error.Damaged → (c : Content) → StandsFor bounds [] c (model.seen old) → ⊥) → (e ≡ error.Failed → HasFailed model old new)
+      → (model.is_honest new → e ≡ error.Damaged → (c : Content) → StandsFor bounds [] c (model.seen old) → HasOddGate bounds (model.seen old Log)) → (e ≡ error.Failed → HasFailed model old new)
       → IsNotOpened model (fault_of e) old new
   not_recovered error.Memory old new errors after moments damaged failed =
-      record { after = after; any_moment = moments; damaged = λ is. cc; failed = λ is. cc; which = inl refl }
+      record { after = after; any_moment = moments; damaged = λ is. cc; log_damaged = λ is. cc; failed = λ is. cc; which = inl refl }
   not_recovered error.NoRoom old new errors after moments damaged failed = absurd (⊎_elim (λ is. cc) (λ rest. ⊎_elim (λ is. cc) (λ is. cc) rest) errors)
   not_recovered error.LogFull old new errors after moments damaged failed = absurd (⊎_elim (λ is. cc) (λ rest. ⊎_elim (λ is. cc) (λ is. cc) rest) errors)
   not_recovered error.Failed old new errors after moments damaged failed =
-      record { after = after; any_moment = moments; damaged = λ is. cc; failed = λ is. failed refl; which = inr (inl refl) }
+      record { after = after; any_moment = moments; damaged = λ is. cc; log_damaged = λ is. cc; failed = λ is. failed refl; which = inr (inl refl) }
   not_recovered error.Damaged old new errors after moments damaged failed =
-      record { after = after; any_moment = moments; damaged = λ is honest trees c stands file. damaged honest refl c stands; failed = λ is. cc; which = inr (inr refl) }
+      record {
+        after = after;
+        any_moment = moments;
+        damaged = λ is. cc;
+        log_damaged = λ is honest c stands. damaged honest refl c stands;
+        failed = λ is. cc;
+        which = inr (inr (inr refl));
+      }
 
   -- the header can't be read
   pub not_read : (why : StoreFault) (old mid new : F) → (why ≡ fault.OutOfMemory) ⊎ (why ≡ fault.Io)
@@ -88,6 +95,7 @@ module _ {F : Type 0} (model : FileModel F) where
     after = comes_then model old mid new first second;
     any_moment = moments;
     damaged = λ is. absurd (⊎_elim (λ memory. cc) (λ io. cc) which);
+    log_damaged = λ is. absurd (⊎_elim (λ memory. cc) (λ io. cc) which);
     failed = λ is. failed_later model old mid new first (failed is);
     which = ⊎_elim (λ memory. inl memory) (λ io. inr (inl io)) which;
   }
@@ -99,15 +107,16 @@ module _ {F : Type 0} (model : FileModel F) where
       → (e ≡ layout.Damaged → (trees : Trees) (c : Content) → Has bytes 4096 c → HasTrees trees c → AreApart trees → ⊥)
       → IsNotOpened model (fault_in e) old new
   not_trees layout.OutOfMemory bytes old mid new first second moments stood has damaged =
-      record { after = comes_then model old mid new first second; any_moment = moments; damaged = λ is. cc; failed = λ is. cc; which = inl refl }
+      record { after = comes_then model old mid new first second; any_moment = moments; damaged = λ is. cc; log_damaged = λ is. cc; failed = λ is. cc; which = inl refl }
   not_trees layout.Damaged bytes old mid new first second moments stood has damaged = record {
     after = comes_then model old mid new first second;
     any_moment = moments;
     damaged = λ is honest trees c stands file.
         let same = same_contents (model.seen mid Records) c (model.seen old) (stood (second.honest honest)) stands in
         damaged refl trees (model.seen mid Records) (has honest) (subst (λ (d : Content). HasTrees trees d) (sym same) file.trees_stand) file.apart;
+    log_damaged = λ is. cc;
     failed = λ is. cc;
-    which = inr (inr refl);
+    which = inr (inr (inl refl));
   }
 
   -- a store over files that were opened

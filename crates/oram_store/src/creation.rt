@@ -97,7 +97,8 @@ impl<F: FilePair + Drop> FileStore<F> {
         ensures any_moment { IfOk result (λ store. F.model.is_honest store.file.files → OpensAlike F.model files store.file.files) }
         ensures after { IfOk result (λ store. ComesAfter F.model files store.file.files) }
 
-        // On an error, the files are dropped. `Damaged` comes only if they hold no bucket file.
+        // On an error, the files are dropped. `Damaged` comes only if they hold no bucket file, and `LogDamaged` only if they hold
+        // none or if the gate at the log's end is neither open nor shut.
         ensures err { IfErr result (λ why. (last : F) × IsNotOpened F.model why files last) }
     {
         let (redo, trees) = recover_trees(alloc, &mut files)?;

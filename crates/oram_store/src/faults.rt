@@ -33,6 +33,9 @@ pub enum StoreFault {
     /// The file holds something that no store writes.
     #[error("it is damaged")]
     Damaged,
+    /// The log isn't as a store writes it.
+    #[error("its log, the file beside it with -log after its name, is damaged, and both are left as they are: put back a copy of both, or format the disk anew over a new file")]
+    LogDamaged,
     /// The disk is full.
     #[error("the disk is full")]
     NoRoom,
@@ -88,7 +91,7 @@ impl From<RedoError> for StoreFault {
         match error {
             RedoError::Memory => StoreFault::OutOfMemory,
             RedoError::NoRoom => StoreFault::NoRoom,
-            RedoError::Damaged => StoreFault::Damaged,
+            RedoError::Damaged => StoreFault::LogDamaged,
             RedoError::Failed | RedoError::LogFull => StoreFault::Io,
         }
     }

@@ -2,7 +2,7 @@
 //!
 //! This looks at what is at a path before it writes anything there.
 ghost use Rattle.std.specs.Prelude.{◌≡◌, ◌⊎◌, ◌≤◌, ◌↔◌, [], false, length, take, Err, None, Ok, IfErr, IfOk, IsOk};
-ghost use Rattle.oram_layout.specs.Fronts.{IsFront, IsNewer, log_letters, sqlite_letters};
+ghost use Rattle.oram_layout.specs.Fronts.{IsFront, IsNewer, IsOlder, log_letters, sqlite_letters};
 ghost use Rattle.oram_layout.specs.Header.{letters};
 ghost use Rattle.oram_layout.specs.declared.fronts.Identity.{Identity};
 
@@ -130,13 +130,13 @@ fn identity_in(front: &[u8]) -> Result<Identity, StoreFault>
     ensures found { IfOk result (λ identity. IsFront letters identity front.now) }
     ensures ours { (identity : Identity) → IsFront letters identity front.now → result ≡ Ok identity }
     ensures newer { (result ≡ Err StoreFault.NewerKind) ↔ IsNewer front.now }
-    ensures old { (result ≡ Err StoreFault.OlderVersion) ↔ (take 16 front.now ≡ sqlite_letters) }
+    ensures old { (result ≡ Err StoreFault.OlderVersion) ↔ ((take 16 front.now ≡ sqlite_letters) ⊎ IsOlder front.now) }
     ensures errors { IfErr result (λ fault. (fault ≡ StoreFault.NewerKind) ⊎ (fault ≡ StoreFault.OlderVersion) ⊎ (fault ≡ StoreFault.NotABucketFile)) }
 {
     match read_front(front) {
         Front::Ours(identity) => Ok(identity),
         Front::NewerVersion => Err(StoreFault::NewerKind),
-        Front::Sqlite => Err(StoreFault::OlderVersion),
+        Front::Sqlite | Front::OlderVersion => Err(StoreFault::OlderVersion),
         Front::Another | Front::Empty => Err(StoreFault::NotABucketFile),
     }
 }
@@ -206,11 +206,11 @@ fn open_new(rt: &HostRuntime, name: &str) -> io::Result<File> {
     options.open(rt, name)
 }
 
-/// Returns whether a log holds acknowledged changes, which is so if its first gate is open.
+/// Returns whether a log may hold acknowledged changes, which it doesn't if its first gate is shut.
 fn holds_entries(log: &File) -> io::Result<bool> {
     let mut gate = [0];
     let len = bytes_at(log, BOUNDS.log_start, &mut gate)?;
-    Ok(len > 0 && gate[0] == 1)
+    Ok(len > 0 && gate[0] != 0)
 }
 
 /// Refuses a log where a new one would be, unless an attempt to make a store has left it.

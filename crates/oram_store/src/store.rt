@@ -505,14 +505,26 @@ impl<F: FilePair> FileStore<F> {
     }
 }
 
+impl<F: FilePair> FileStore<F> {
+    /// Commits the pending PUTs, syncs the records and empties the log, so that the next opening has nothing to replay. After
+    /// `Ok` all records are on the disk, in their places.
+    pub fn empty_log(&mut self) -> Result<(), StoreFault>
+        ensures none_pending { OnOk result (self.new.pending ≡ []) }
+        ensures trees { self.new.trees ≡ self.old.trees }
+        ensures commits_puts { IsSound F.model self.old → CommitsPuts F.model self.old self.new }
+        ensures closes { Closes F.model result self.old self.new.file }
+    {
+        self.commit_puts()?;
+        self.file.restart()
+    }
+}
+
 impl<F: FilePair + Drop> FileStore<F> {
-    /// Commits the pending PUTs, and empties the log, so that the next opening is quick. After `Ok` all records are on
-    /// the disk.
+    /// Empties the log, and drops the store.
     pub fn close(mut self) -> Result<(), StoreFault>
         // `last` is the file when it is dropped.
         ensures { (last : FileValue F) × Closes F.model result self last }
     {
-        self.commit_puts()?;
-        self.file.restart()
+        self.empty_log()
     }
 }

@@ -11,11 +11,8 @@ use Rattle.oram_redo.proofs.batch.body_of.Goals as goal
 abbrev none : Patch
 none = record { at = 0; bytes = record { ref_ptr = (0, 0); now = [] } }
 
-regroup : (a pb lb bs : List ℕ) → a ++ 1 ∷ [] ++ pb ++ lb ++ bs ≡ a ++ (1 ∷ (pb ++ lb ++ bs))
-regroup a pb lb bs = simp append_assoc
-
-pub overflow_cast-patch : goal.overflow_cast-patch
-overflow_cast-patch c =
+pub push_entry-requires : goal.push_entry-requires
+push_entry-requires c =
     let fits : length (get_or c.args.batch.now c.loop-patch.patch-index none).bytes.now < 2 ^ 32 =
     patch_has (λ (p : spec.Patch). length p.1 < 2 ^ 32) c.args.batch.now c.loop-patch.patch-index none c.requires c.loop-patch-test.true in
     search rules
@@ -24,16 +21,10 @@ pub loop-patch-preserved : goal.loop-patch-preserved
 loop-patch-preserved c =
     let p = get_or c.args.batch.now c.loop-patch.patch-index none in
     let more = entries_more c.args.batch.now c.loop-patch.patch-index none c.loop-patch-test.true in
-    let one = c.in_ok-push.ensures.items in
-    let two = c.in_ok-extend_from_slice.ensures.items in
-    let three = c.in_ok-extend_from_slice-2.ensures.items in
-    let four = c.in_ok-extend_from_slice-3.ensures.items in
-    let place = c.to_le_bytes.ensures ∙ place_bytes_are p.at in
-    let len = c.to_le_bytes-in-loop-patch.ensures ∙ length_bytes_are (length p.bytes.now) in
-    let grouped = regroup c.loop-patch.body.items (place_bytes p.at) (length_bytes (length p.bytes.now)) p.bytes.now in
+    let one = c.in_ok-push_entry.ensures in
     let was = c.loop-patch.invariant in
-    cc (more, one, two, three, four, place, len, grouped, was)
+    cc (more, one, was)
 
 pub returns : goal.returns
 returns c =
-    c.in_ok-push-2.ensures.items ∙ ap (λ (l : List ℕ). l ++ 0 ∷ []) (c.loop-patch.invariant ∙ ap (λ (l : List Patch). entries (patches_of l)) (take_all c.loop-patch.patch-index c.args.batch.now (omega arith)))
+    c.in_ok-push.ensures.items ∙ ap (λ (l : List ℕ). l ++ 0 ∷ []) (c.loop-patch.invariant ∙ ap (λ (l : List Patch). entries (patches_of l)) (take_all c.loop-patch.patch-index c.args.batch.now (omega arith)))

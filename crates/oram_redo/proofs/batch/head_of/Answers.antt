@@ -3,7 +3,7 @@ use Rattle.oram_redo.proofs.batch.head_of.Goals as goal
 
 pub returns-clause-open : goal.returns-clause-open
 returns-clause-open c =
-    let parts = head_parts c.args.bytes.now c.requires c.if-bytes-ne-OPEN.false in
+    let parts = head_parts c.args.bytes.now c.requires c.if-bytes.false in
     let place = c.place_in.ensures in
     let len = c.length_in.ensures in
     cc (parts, place, len)

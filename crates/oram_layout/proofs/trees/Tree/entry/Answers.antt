@@ -1,7 +1,5 @@
-use Rattle.std.proofs.Common.{refl}
-use Rattle.oram_layout.specs.Header.{eight_bytes, four_bytes}
+use Rattle.oram_layout.proofs.EntryReads.{entry_of_parts}
 use Rattle.oram_layout.proofs.trees.Tree.entry.Goals as goal
 
 pub returns : goal.returns
-unfolding eight_bytes four_bytes
-returns c = rw (c.to_le_bytes-len.ensures, c.to_le_bytes-base.ensures) refl
+returns c = entry_of_parts c.args.self.now c.said-said.result c.check_of-check.result c.said-said.ensures c.check_of-check.ensures
