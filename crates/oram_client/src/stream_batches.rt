@@ -188,6 +188,7 @@ fn carry<R: Read, W: Write>(
 }
 
 impl<R: Read, W: Write> BatchLink for StreamBatches<R, W> {
+    ghost use Rattle.std.specs.Prelude.{◌≡◌, []};
     ghost use Rattle.std.proofs.Common.{inl};
     ghost use Rattle.oram_client.specs.StreamBatches.{StreamBatch};
     ghost use Rattle.oram_client.specs.BatchExchanges.{streams_are_batches};
