@@ -165,9 +165,9 @@ fn format_with<S: Sealer>(
 {
     let alloc = rt.alloc();
     let core = formatted(rt, device, sealer, identity, settings)?;
-    let file = encode_kept(alloc, &[], &core)?;
+    let file = encode_kept(alloc, &[], &[], &core)?;
     let state = settings.state.as_str();
-    match (keeper.keep(file.as_slice()), keeper.failure()) {
+    match (keeper.keep(file.bytes.as_slice()), keeper.failure()) {
         (Ok(()), _) => Ok(()),
         (Err(_), Some(failure)) => Err(unkept(alloc, FaultKind::StateNotMade, state, failure)),
         (Err(_), None) => Err(named(alloc, FaultKind::StateNotMade, state)),
