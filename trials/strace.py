@@ -42,6 +42,12 @@ def failing_on(file, calls, error, when):
     return ["strace", "-f", "-o", "/dev/null", *names, "-e", f"trace={calls}", "-e", f"inject={calls}:error={error}:when={when}"]
 
 
+def giving_random(known):
+    """The words that start a program under strace, which gives it these bytes in place of random ones. The first call for random bytes is
+    the C library's own."""
+    return ["strace", "-f", "-o", "/dev/null", "-e", "trace=getrandom", "-e", f"inject=getrandom:poke_exit=@arg1={known.hex()}:when=2"]
+
+
 def noting(calls, file):
     """The words that start a program under strace, which writes these calls to a file, with the names of the files that they are about."""
     return ["strace", "-f", "-y", "-o", file, "-e", f"trace={calls}"]

@@ -2,8 +2,10 @@
 
 import tomllib
 
+from trials import strace
 from trials.disk import BLOCK, Disk
 from trials.nbd_client import WRITE
+from trials.processes import end_of, start
 
 
 def try_sealed(trial):
@@ -36,3 +38,20 @@ def try_keys(trial):
     trial.check("keys: each formatting has a salt of its own", len(salts) == len(disks), heads)
     trial.check("keys: the salts look random", all(len(set(salt)) > 16 for salt in salts), heads)
     trial.check("keys: what is derived from one key and two salts differs", len(checks) == len(disks), heads)
+    try_known_bytes(trial)
+
+
+def try_known_bytes(trial):
+    """The key of a new disk, and the salt of a formatting, are the bytes that the system gave when it was asked for random ones."""
+    if not strace.is_usable():
+        trial.skip()
+        return
+    key, salt = bytes(range(32)), bytes(range(100, 132))
+    made = end_of(start([*strace.giving_random(key), trial.oramdisk, "new", "drawn", "--size", "256kB"], trial.folder))
+    settings = trial.folder / "drawn" / "disk.toml"
+    trial.check("keys: the key that was drawn", made.status == 0 and tomllib.loads(settings.read_text())["key"] == key.hex(), made)
+    disk = Disk(trial, "salted")
+    disk.start_host()
+    end = end_of(start([*strace.giving_random(salt), trial.oramdisk, "format", "disk.toml"], disk.folder))
+    disk.host.stop()
+    trial.check("keys: the salt that was drawn", end.status == 0 and disk.state_file.read_bytes()[8:40] == salt, end)
