@@ -1,9 +1,15 @@
 use Rattle.std.proofs.Common.{◌≡◌, ◌+◌, ◌*◌, ℕ, drop, take, ap, ◌∙◌, subst, arith, rules}
 use Rattle.oram_nbd.specs.Bytes.{bytes_at}
+use Rattle.std.proofs.lemmas.Result.{err_from_is_err_and}
 use Rattle.oram_nbd.proofs.Beside.{weaker}
 use Rattle.oram_nbd.proofs.Edges.{mul-one, rest_of}
 use Rattle.oram_nbd.proofs.Saving.{all_weaker}
 use Rattle.oram_nbd.proofs.ranges.read_one_edge.Goals as goal
+
+pub returns-in_err-bytes-clause-goes : goal.returns-in_err-bytes-clause-goes
+returns-in_err-bytes-clause-goes g c =
+    let p = err_from_is_err_and c.from_residual.result c.from_residual.ensures.1 in
+    rw p.1 (weaker c.in_err-bytes.ensures.goes (λ may_lie world old new h step. (step.0, tt, λ e. step.2 cc)))
 
 pub returns-clause-goes : goal.returns-clause-goes
 returns-clause-goes g c =

@@ -13,12 +13,12 @@ abbrev all_saved : List ℕ → Arrays (List ℕ)
 all_saved bytes = record { held = bytes; saved = Some bytes }
 
 pub returns-in_err-given-clause-goes : goal.returns-in_err-given-clause-goes
-returns-in_err-given-clause-goes c =
+returns-in_err-given-clause-goes g c =
     let p = err_from_is_err_and c.from_residual.result c.from_residual.ensures.1 in
     rw p.1 (at_rest (λ may_lie world old h. (begun_nothing c.args.operations.now old.held, λ e. cc, part_at_rest)))
 
 pub returns-in_err-bytes-clause-goes : goal.returns-in_err-bytes-clause-goes
-returns-in_err-bytes-clause-goes c =
+returns-in_err-bytes-clause-goes g c =
     let p = err_from_is_err_and c.from_residual-in_err-bytes.result c.from_residual-in_err-bytes.ensures.1 in
     let inv = c.loop-operation.invariant in
     let same = ap (λ (d : MemBlocks). d.bytes) (sym c.in_err-bytes.ensures.err) in
@@ -27,7 +27,7 @@ returns-in_err-bytes-clause-goes c =
     (all_saved c.loop-operation.self.bytes, (begun, λ e. cc, record { either = inr (c.loop-operation.self.bytes, begun, refl) }), (same, (same, same)))))
 
 pub returns-then-is_err-clause-goes : goal.returns-then-is_err-clause-goes
-returns-then-is_err-clause-goes c =
+returns-then-is_err-clause-goes g c =
     let inv = c.loop-operation.invariant in
     let next = c.apply.new.self.bytes in
     let led = ap (λ (d : MemBlocks). d.bytes) c.in_ok-bytes.ensures.ok.1 in
@@ -37,12 +37,12 @@ returns-then-is_err-clause-goes c =
     (all_saved next, (begun, λ e. cc, record { either = inr (next, begun, refl) }), (refl, (refl, refl))))
 
 pub returns-clause-len : goal.returns-clause-len
-returns-clause-len c =
+returns-clause-len g c =
     let all = carried_all _ _ _ _ _ c.loop-operation.invariant.so_far (omega (arith, c.loop-operation-test.false)) in
     ap (λ (l : List (List ℕ)). map length l) all.0 ∙ given_lens (length c.args.self.now.bytes) c.args.operations.now c.args.self.now.bytes refl c.requires.within
 
 pub returns-clause-goes : goal.returns-clause-goes
-returns-clause-goes c =
+returns-clause-goes g c =
     let all = carried_all _ _ _ _ _ c.loop-operation.invariant.so_far (omega (arith, c.loop-operation-test.false)) in
     one_call [] refl (λ may_lie world later run old h. (
       all_saved c.loop-operation.self.bytes,
