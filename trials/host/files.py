@@ -1,6 +1,7 @@
 """Files that a host refuses and leaves as they are, and those that it makes and moves."""
 
 import shutil
+import signal
 import sqlite3
 
 from trials.bucket_file import BucketFile, log_of
@@ -30,13 +31,13 @@ def check_refused(trial, what, file, start, status, line):
 
 
 def used_host(trial, folder):
-    """A host that has ended, whose file `whole` has some records. Returns it with its model."""
+    """A host that was killed, whose file `whole` has some records, the last of them in its log. Returns it with its model."""
     host, model = Host(trial.oramdisk, folder, "whole").start(), Model()
     format_tree(trial, host, model, 3, 400)
     client = host.client()
     check_answers(trial, "STOREs", client, model, [store(0, leaf, [trial.dice.randbytes(400)] * 4) for leaf in range(8)])
+    host.stop(signal.SIGKILL)
     client.close()
-    host.stop()
     return host, model
 
 
@@ -48,7 +49,7 @@ def try_other_files(trial, folder):
     for file, status, line in (
         (text, NO_BUCKETS, no_file),
         (older, OTHER_VERSION, f"oramdisk: {older.name} is {older_is}"),
-        (first, OTHER_VERSION, f"oramdisk: first is {older_is}"),
+        (first, OTHER_VERSION, f"oramdisk: earlier is {older_is}"),
         (newer, OTHER_VERSION, "oramdisk: newer is a file of buckets of a newer version, and is left as it is: serve it with that version"),
         (damaged, DAMAGED, f"oramdisk: damaged {NO_HOST}"),
         (twice, DAMAGED, f"oramdisk: twice {NO_HOST}"),
@@ -67,7 +68,7 @@ def make_other_files(trial, folder):
     host, _ = used_host(trial, folder)
     BucketFile(host.path()).replay()
     whole = host.path().read_bytes()
-    first, newer, damaged, twice = (folder / name for name in ("first", "newer", "damaged", "twice"))
+    first, newer, damaged, twice = (folder / name for name in ("earlier", "newer", "damaged", "twice"))
     first.write_bytes(whole[:8] + b"\1" + whole[9:])
     newer.write_bytes(whole[:8] + b"\3" + whole[9:])
     damaged.write_bytes(whole[:4097] + b"\x19" + whole[4098:])

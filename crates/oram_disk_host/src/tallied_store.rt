@@ -75,7 +75,10 @@ impl<'a, F: FilePair, W> TalliedStore<'a, F, W> {
         ensures sent { self.new.tally.sent ≡ self.old.tally.sent }
     {
         if let Err(fault) = self.store.empty_log() {
-            self.tally.failure = Some(fault);
+            // If the disk has failed before, the tally says so already.
+            if fault != StoreFault::Closed || self.tally.failure.is_none() {
+                self.tally.failure = Some(fault);
+            }
         }
     }
 
