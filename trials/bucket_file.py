@@ -14,6 +14,9 @@ class BucketFile:
 
     ENTRIES, LOG_START = 4096, 4096
 
+    # The first byte of an entry of the log, and the bytes of an entry besides those of its patch, before them and after them.
+    OPEN, HEAD_LEN, CHECK_LEN = b"\xff", 13, 8
+
     def __init__(self, file):
         self.file, self.log = file, log_of(file)
 
@@ -27,14 +30,23 @@ class BucketFile:
         """Puts what the log holds into the file, as opening it does, and leaves the log empty."""
         log, at = self.log.read_bytes(), self.LOG_START
         with open(self.file, "r+b") as file:
-            while log[at : at + 1] == b"\1":
+            while log[at : at + 1] == self.OPEN:
                 place, length = struct.unpack_from("<QI", log, at + 1)
                 file.seek(place)
-                file.write(log[at + 13 : at + 13 + length])
-                at += 13 + length
+                file.write(log[at + self.HEAD_LEN : at + self.HEAD_LEN + length])
+                at += self.HEAD_LEN + length + self.CHECK_LEN
         with open(self.log, "r+b") as file:
             file.seek(self.LOG_START)
             file.write(b"\0")
+
+    def entries(self):
+        """The places in the log at which its entries begin, with their lengths, and the place at which the log ends."""
+        log, at, found = self.log.read_bytes(), self.LOG_START, []
+        while log[at : at + 1] == self.OPEN:
+            length = self.HEAD_LEN + struct.unpack_from("<I", log, at + 9)[0] + self.CHECK_LEN
+            found.append((at, length))
+            at += length
+        return found, at
 
     def records(self):
         """The records that the file has, by tree and node."""

@@ -4,7 +4,7 @@ import hashlib
 from dataclasses import dataclass, field
 from pathlib import Path
 
-from trials.formats.ciphers import xored
+from trials.formats.ciphers import siphash, xored
 from trials.formats.reader import Misread, Reader
 from trials.formats.sizes import node_of
 
@@ -62,9 +62,13 @@ def log_entries(log):
     """The entries of a log: places, and the bytes that belong there."""
     reader = Reader(log, "little")
     reader.take(4096)
-    while not reader.is_at_end() and reader.number(1) == 1:
-        place, count = reader.number(8), reader.number(4)
-        yield place, reader.take(count)
+    while not reader.is_at_end() and reader.number(1) == 255:
+        head = reader.take(12)
+        place, count = int.from_bytes(head[:8], "little"), int.from_bytes(head[8:], "little")
+        patch = reader.take(count)
+        if reader.number(8) != siphash(head + patch):
+            raise Misread("the checksum of an entry")
+        yield place, patch
 
 
 def read_buckets(name):
@@ -72,7 +76,7 @@ def read_buckets(name):
     file, log = Reader(Path(name).read_bytes(), "little"), Reader(Path(f"{name}-log").read_bytes(), "little")
     file.expect(b"VIDLAQEB", "a bucket file begins so")
     log.expect(b"VIDLAQEL", "its log begins so")
-    if (file.number(8), log.number(8)) != (1, 1) or file.take(16) != log.take(16):
+    if (file.number(8), log.number(8)) != (2, 2) or file.take(16) != log.take(16):
         raise Misread("the versions, or the identities")
     data = bytearray(file.data)
     for place, patch in log_entries(log.data):
@@ -89,9 +93,9 @@ def read_shapes(entries):
         if entry != bytes(16):
             fields = Reader(entry, "little")
             fields.expect(b"\1", "an entry of a tree begins so")
-            depth, zeros = fields.number(1), fields.number(2)
-            if zeros:
-                raise Misread("bytes of an entry that are 0")
+            depth, check = fields.number(1), fields.number(2)
+            if check != siphash(entry[1:2] + entry[4:]) % 2**16:
+                raise Misread("the checksum of a tree's entry")
             shapes[tree] = Shape(depth, fields.number(4), fields.number(8))
     return shapes
 

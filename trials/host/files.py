@@ -1,6 +1,7 @@
 """Files that a host refuses and leaves as they are, and those that it makes and moves."""
 
 import shutil
+import signal
 import sqlite3
 
 from trials.bucket_file import BucketFile, log_of
@@ -30,24 +31,25 @@ def check_refused(trial, what, file, start, status, line):
 
 
 def used_host(trial, folder):
-    """A host that has ended, whose file `whole` has some records. Returns it with its model."""
+    """A host that was killed, whose file `whole` has some records, the last of them in its log. Returns it with its model."""
     host, model = Host(trial.oramdisk, folder, "whole").start(), Model()
     format_tree(trial, host, model, 3, 400)
     client = host.client()
     check_answers(trial, "STOREs", client, model, [store(0, leaf, [trial.dice.randbytes(400)] * 4) for leaf in range(8)])
+    host.stop(signal.SIGKILL)
     client.close()
-    host.stop()
     return host, model
 
 
 def try_other_files(trial, folder):
     """Files that are no host's, or not whole, are refused and left as they are."""
-    text, older, newer, damaged, twice = make_other_files(trial, folder)
+    text, older, first, newer, damaged, twice = make_other_files(trial, folder)
     no_file = f"oramdisk: {text.name} isn't a file of buckets, and is left as it is: name another file"
-    sqlite = "a SQLite file, which an older version may have written, and is left as it is: serve it with that version, or name another file, and format anew"
+    older_is = "a file of an older version, and is left as it is: serve it with that version, or name another file, and format anew"
     for file, status, line in (
         (text, NO_BUCKETS, no_file),
-        (older, OTHER_VERSION, f"oramdisk: {older.name} is {sqlite}"),
+        (older, OTHER_VERSION, f"oramdisk: {older.name} is {older_is}"),
+        (first, OTHER_VERSION, f"oramdisk: earlier is {older_is}"),
         (newer, OTHER_VERSION, "oramdisk: newer is a file of buckets of a newer version, and is left as it is: serve it with that version"),
         (damaged, DAMAGED, f"oramdisk: damaged {NO_HOST}"),
         (twice, DAMAGED, f"oramdisk: twice {NO_HOST}"),
@@ -57,7 +59,7 @@ def try_other_files(trial, folder):
 
 
 def make_other_files(trial, folder):
-    """Random bytes, a SQLite file, a file of a newer version, one whose first tree is damaged, and one that has a tree twice."""
+    """Random bytes, a SQLite file, files of the first and of a newer version, one whose first tree is damaged, and one that has a tree twice."""
     text, older = folder / "text", folder / "older.sqlite"
     text.write_bytes(trial.dice.randbytes(5000))
     with sqlite3.connect(older) as base:
@@ -66,14 +68,15 @@ def make_other_files(trial, folder):
     host, _ = used_host(trial, folder)
     BucketFile(host.path()).replay()
     whole = host.path().read_bytes()
-    newer, damaged, twice = (folder / name for name in ("newer", "damaged", "twice"))
-    newer.write_bytes(whole[:8] + b"\2" + whole[9:])
+    first, newer, damaged, twice = (folder / name for name in ("earlier", "newer", "damaged", "twice"))
+    first.write_bytes(whole[:8] + b"\1" + whole[9:])
+    newer.write_bytes(whole[:8] + b"\3" + whole[9:])
     damaged.write_bytes(whole[:4097] + b"\x19" + whole[4098:])
     # A second tree where the first one is.
     twice.write_bytes(whole[:4112] + whole[4096:4112] + whole[4128:])
-    for file in (newer, damaged, twice):
+    for file in (first, newer, damaged, twice):
         shutil.copyfile(log_of(host.path()), log_of(file))
-    return text, older, newer, damaged, twice
+    return text, older, first, newer, damaged, twice
 
 
 def try_logs(trial):
@@ -111,7 +114,8 @@ def try_wrong_logs(trial, folder, file, log):
     shutil.copyfile(log_of(other.path()), log)
     check_refused(trial, "a file with another's log", file, start, WRONG_LOG, f"{log_is} is another file's: {put_back}")
     log.write_bytes(kept[:4097] + b"\xff" * 12 + kept[4109:])
-    check_refused(trial, "a damaged log", file, start, DAMAGED, f"oramdisk: whole {NO_HOST}")
+    leave = "is damaged, and both are left as they are: put back copies of both that belong together, or name another file, and format anew"
+    check_refused(trial, "a damaged log", file, start, DAMAGED, f"{log_is} {leave}")
     log.write_bytes(kept)
 
 

@@ -40,6 +40,7 @@ store_fault store.WithoutLog name = About kind.WithoutLog name
 store_fault store.LogOfAnotherFile name = About kind.LogOfAnotherFile name
 store_fault store.LogWithoutFile name = About kind.LogWithoutFile name
 store_fault store.Damaged name = About kind.Damaged name
+store_fault store.LogDamaged name = About kind.LogDamaged name
 store_fault store.NoRoom name = About (kind.File reason.DiskFull) name
 store_fault store.Io name = About (kind.File reason.Other) name
 store_fault store.Closed name = About (kind.File reason.Other) name

@@ -7,7 +7,7 @@ use Rattle.oram_cli.specs.declared.hosts.HostFault.TheVariants as host
 use Rattle.oram_settings.specs.declared.differences.FixedKey.{FixedKey}
 use Rattle.oram_settings.specs.declared.differences.FixedKey.TheVariants as fixed
 use Rattle.oram_disk_host.specs.declared.kinds.FaultKind.{FaultKind}
-use Rattle.oram_disk_host.specs.declared.kinds.FaultKind.TheVariants.{CommandLine, Settings, File, Unformatted, Address, NotABucketFile, OlderFile, NewerFile, WithoutLog, LogOfAnotherFile, LogWithoutFile, Damaged, Busy, NoFile, FileExists, Exists, Formatted, NotADisk, DamagedState, OlderState, ReplacedState, WrongKey, Changed, Host, StateNotKept, StateNotMade, UsedUp, InUse, Failed, NotFailed}
+use Rattle.oram_disk_host.specs.declared.kinds.FaultKind.TheVariants.{CommandLine, Settings, File, Unformatted, Address, NotABucketFile, OlderFile, NewerFile, WithoutLog, LogOfAnotherFile, LogWithoutFile, Damaged, LogDamaged, Busy, NoFile, FileExists, Exists, Formatted, NotADisk, DamagedState, OlderState, ReplacedState, WrongKey, Changed, Host, StateNotKept, StateNotMade, UsedUp, InUse, Failed, NotFailed}
 
 -- the text before the name of the settings with a changed value
 abbrev pub changed : FixedKey → List ℕ
@@ -25,6 +25,7 @@ front (File reason.Other) = codes "oramdisk: can't open, read or write "
 front Address = codes "oramdisk: can't listen at "
 front WithoutLog = codes "oramdisk: the log of "
 front LogOfAnotherFile = codes "oramdisk: the log of "
+front LogDamaged = codes "oramdisk: the log of "
 front LogWithoutFile = codes "oramdisk: there is no file "
 front NoFile = codes "oramdisk: there is no file "
 front WrongKey = codes "oramdisk: the key in "
@@ -69,12 +70,13 @@ rest Unformatted = codes ": see that its place is mounted; if the disk isn't for
 rest (File why) = file_rest why
 rest Address = codes ": see that no other program listens there, that it is a place of this machine, and that you may use it\n"
 rest NotABucketFile = codes " isn't a file of buckets, and is left as it is: name another file\n"
-rest OlderFile = codes " is a SQLite file, which an older version may have written, and is left as it is: serve it with that version, or name another file, and format anew\n"
+rest OlderFile = codes " is a file of an older version, and is left as it is: serve it with that version, or name another file, and format anew\n"
 rest NewerFile = codes " is a file of buckets of a newer version, and is left as it is: serve it with that version\n"
 rest WithoutLog = codes ", the file beside it with -log after its name, isn't there: put back the one that it was served with last\n"
 rest LogOfAnotherFile = codes ", the file beside it with -log after its name, is another file's: put back the one that it was served with last\n"
 rest LogWithoutFile = codes ", but its log, the file beside it with -log after its name, holds records of it: put the file back, or take the log away\n"
 rest Damaged = codes " is damaged, and is left as it is: name another file, and format anew\n"
+rest LogDamaged = codes ", the file beside it with -log after its name, is damaged, and both are left as they are: put back copies of both that belong together, or name another file, and format anew\n"
 rest Busy = codes " is held by another process: end that one first\n"
 rest NoFile = codes ": see that the settings are those of the right host, or say oramdisk host --new to make it\n"
 rest FileExists = codes " is there already, and is left as it is: leave --new out to serve it\n"
@@ -108,6 +110,7 @@ status Unformatted = 28
 status Address = 5
 status NotABucketFile = 6
 status Damaged = 7
+status LogDamaged = 7
 status Busy = 8
 status FileExists = 9
 status Exists = 9

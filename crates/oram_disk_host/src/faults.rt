@@ -59,6 +59,7 @@ pub fn store_fault(name: String, why: StoreFault) -> Fault
         StoreFault::LogOfAnotherFile => FaultKind::LogOfAnotherFile,
         StoreFault::LogWithoutFile => FaultKind::LogWithoutFile,
         StoreFault::Damaged => FaultKind::Damaged,
+        StoreFault::LogDamaged => FaultKind::LogDamaged,
         StoreFault::NoRoom => FaultKind::File(FileReason::DiskFull),
         StoreFault::Io | StoreFault::Closed => FaultKind::File(FileReason::Other),
         StoreFault::OutOfMemory => return Fault::OutOfMemory,

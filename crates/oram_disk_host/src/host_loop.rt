@@ -4,7 +4,7 @@ ghost use Rattle.std.specs.Prelude.{◌≡◌, ◌⊎◌, [], IsSome};
 
 use crate::attendant::HostAttendant;
 use crate::connection::{ConnectionReport, EarlyEnd, line};
-use crate::disk_watch::{AnswerWriter, DiskPrinter};
+use crate::disk_watch::{AnswerWriter, DiskPrinter, DiskWatch};
 use crate::faults::{Fault, store_fault};
 use crate::kinds::FaultKind;
 use crate::settings_file::{HostSettings, read_host_settings, settings_text};
@@ -19,7 +19,7 @@ use oram_sockets::{
 };
 use oram_store::{FileStore, StoreFault, open_store};
 use std::alloc::{AllocError, Global};
-use std::io::{Error, ErrorKind};
+use std::io::{Error, ErrorKind, Read, Write};
 use std::net::{Net, TcpStream};
 use std::os::fd::AsRawFd;
 use std::rt::{Clock, Files};
@@ -88,6 +88,27 @@ struct Accepted<'a> {
     listener: &'a Listener,
 }
 
+/// Answers the messages of a connection to its end. Whenever it has been quiet for a while, the log is emptied.
+fn serve_on<R: Read, W: Write, F: FilePair, D: DiskWatch>(
+    alloc: Global,
+    reader: &mut R,
+    writer: &mut W,
+    attendant: &HostAttendant,
+    hosted: &mut TalliedStore<'_, F, D>,
+) -> Result<u64, ServeFault> {
+    for _ in 0..u64::MAX {
+        let served = host_serve(alloc, reader, writer, hosted);
+        if !attendant.ends_quiet() {
+            return served;
+        }
+        hosted.empty_log();
+        if hosted.has_failed() {
+            return served;
+        }
+    }
+    Err(ServeFault::Read)
+}
+
 /// Serves a connection to its end, and returns why that came early, if it did.
 fn serve<R: Net + Clock + Eprint + AllocGlobal, F: FilePair>(
     rt: &R,
@@ -111,8 +132,8 @@ fn serve<R: Net + Clock + Eprint + AllocGlobal, F: FilePair>(
     };
     let mut reader = MarkedReader::new(reader, &attendant);
     let mut writer = AnswerWriter::new(MarkedWriter::new(writer, &attendant), disk);
-    let served = host_serve(alloc, &mut reader, &mut writer, hosted);
-    hosted.commit_puts();
+    let served = serve_on(alloc, &mut reader, &mut writer, &attendant, hosted);
+    hosted.empty_log();
     if hosted.has_failed() {
         // The tally says why.
         return None;
@@ -190,6 +211,11 @@ fn serve_all<R: Net + Clock + Eprint + AllocGlobal, F: FilePair + Drop>(
 ) -> Result<(), Fault> {
     let disk = DiskPrinter::new(rt, file);
     let mut hosted = TalliedStore::new(store, &disk);
+    // What was found in the log is in its places, but not on the disk yet.
+    hosted.empty_log();
+    if hosted.has_failed() {
+        return Ok(());
+    }
     for _ in 0..u64::MAX {
         match listener.accept() {
             Ok((stream, peer)) => {

@@ -33,6 +33,8 @@ pub enum FaultKind {
     LogWithoutFile,
     /// The file of this name holds something that no host writes.
     Damaged,
+    /// The log beside the file of buckets of this name isn't as a host writes it.
+    LogDamaged,
     /// Another process has the file of this name open.
     Busy,
     /// There is no file of buckets of this name.
@@ -129,7 +131,8 @@ impl FaultKind {
             FaultKind::Unformatted => "oramdisk: there is no state ",
             FaultKind::File(FileReason::Other) => "oramdisk: can't open, read or write ",
             FaultKind::Address => "oramdisk: can't listen at ",
-            FaultKind::WithoutLog | FaultKind::LogOfAnotherFile => "oramdisk: the log of ",
+            FaultKind::WithoutLog | FaultKind::LogOfAnotherFile | FaultKind::LogDamaged =>
+                "oramdisk: the log of ",
             FaultKind::LogWithoutFile | FaultKind::NoFile => "oramdisk: there is no file ",
             FaultKind::WrongKey => "oramdisk: the key in ",
             FaultKind::Changed(key) => changed(key),
@@ -161,7 +164,7 @@ impl FaultKind {
             FaultKind::NotABucketFile =>
                 " isn't a file of buckets, and is left as it is: name another file\n",
             FaultKind::OlderFile =>
-                " is a SQLite file, which an older version may have written, and is left as it is: serve it with that version, or name another file, and format anew\n",
+                " is a file of an older version, and is left as it is: serve it with that version, or name another file, and format anew\n",
             FaultKind::NewerFile =>
                 " is a file of buckets of a newer version, and is left as it is: serve it with that version\n",
             FaultKind::WithoutLog =>
@@ -172,6 +175,8 @@ impl FaultKind {
                 ", but its log, the file beside it with -log after its name, holds records of it: put the file back, or take the log away\n",
             FaultKind::Damaged =>
                 " is damaged, and is left as it is: name another file, and format anew\n",
+            FaultKind::LogDamaged =>
+                ", the file beside it with -log after its name, is damaged, and both are left as they are: put back copies of both that belong together, or name another file, and format anew\n",
             FaultKind::Busy => " is held by another process: end that one first\n",
             FaultKind::NoFile =>
                 ": see that the settings are those of the right host, or say oramdisk host --new to make it\n",
@@ -215,7 +220,7 @@ impl FaultKind {
             FaultKind::File(_) => 4,
             FaultKind::Address => 5,
             FaultKind::NotABucketFile => 6,
-            FaultKind::Damaged => 7,
+            FaultKind::Damaged | FaultKind::LogDamaged => 7,
             FaultKind::Busy => 8,
             FaultKind::FileExists | FaultKind::Exists | FaultKind::Formatted => 9,
             FaultKind::NotADisk | FaultKind::DamagedState | FaultKind::OlderState => 10,

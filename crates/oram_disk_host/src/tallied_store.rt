@@ -61,10 +61,10 @@ impl<'a, F: FilePair, W> TalliedStore<'a, F, W> {
         self.tally
     }
 
-    /// Makes durable the records that a formatting has put so far. If that fails, the tally says why.
-    pub fn commit_puts(&mut self)
+    /// Makes durable the records that a formatting has put so far, and empties the log, so that the next start has nothing to
+    /// replay. If that fails, the tally says why.
+    pub fn empty_log(&mut self)
         ensures none_pending_or_why { (self.new.store.pending ≡ []) ⊎ IsSome self.new.tally.failure }
-        ensures calm { self.old.store.pending ≡ [] → self.new ≡ self.old }
         ensures trees { self.new.store.trees ≡ self.old.store.trees }
         ensures sound { IsSound F.model self.old.store → self.new.store.file.has_stopped ≡ false → IsSound F.model self.new.store }
         ensures records { IsSound F.model self.old.store → self.new.store.file.has_stopped ≡ false
@@ -73,10 +73,12 @@ impl<'a, F: FilePair, W> TalliedStore<'a, F, W> {
         ensures messages { self.new.tally.messages ≡ self.old.tally.messages }
         ensures received { self.new.tally.received ≡ self.old.tally.received }
         ensures sent { self.new.tally.sent ≡ self.old.tally.sent }
-        ensures reports { self.new.store.failure ≢ self.old.store.failure → self.new.tally.failure ≡ self.new.store.failure }
     {
-        if let Err(fault) = self.store.commit_puts() {
-            self.tally.failure = Some(fault);
+        if let Err(fault) = self.store.empty_log() {
+            // If the disk has failed before, the tally says so already.
+            if fault != StoreFault::Closed || self.tally.failure.is_none() {
+                self.tally.failure = Some(fault);
+            }
         }
     }
 

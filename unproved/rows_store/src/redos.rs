@@ -9,7 +9,7 @@ use std::alloc::Global;
 /// The bounds of the files of these rows: a log with room for a few entries, and 32 bytes of records.
 pub const BOUNDS: Bounds = Bounds {
     log_start: 4,
-    log_end: 60,
+    log_end: 84,
     records_end: 32,
 };
 
