@@ -1,0 +1,3 @@
+pub mod Stamps
+pub mod Known
+pub mod Note
