@@ -1,3 +1,4 @@
 pub mod Stamps
 pub mod Known
 pub mod Note
+pub mod Lives

@@ -10,9 +10,11 @@
 #![tactic(auto)]
 
 mod known;
+mod law;
 mod note;
 mod stamp;
 
 pub use known::{Known, Mismatch};
+pub use law::{life_example, newest_states_pass, older_states_are_refused};
 pub use note::{NoteFault, decode_note, encode_note};
 pub use stamp::{Place, RECORD_LEN, Shown, Stamp, StampKey, decode_shown, encode_record};
