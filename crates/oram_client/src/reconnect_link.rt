@@ -11,7 +11,7 @@ use oram_host::HostRefusal;
 use oram_rounds::BatchLink;
 use oram_session::LinkFault;
 use oram_wire::REFUSED;
-use std::alloc::Global;
+use std::alloc::{AllocError, Global};
 use std::marker::Model;
 
 /// The pause before the second try, in milliseconds. Each later pause is twice as long as the one before.
@@ -362,9 +362,14 @@ impl<D: Dial, W: HostWatch> ReconnectLink<D, W> {
 }
 
 impl<D: Dial, W: HostWatch> BatchLink for ReconnectLink<D, W> {
+    ghost use Rattle.std.proofs.Common.{inl};
     ghost use Rattle.oram_client.specs.BatchExchanges.{reconnects_are_batches};
 
     ghost batches = { λ l bodies o exchanges m. ReconnectBatch (dialer_kind D.opens D.fails D.pauses D.reads D.Line.batches) l bodies o exchanges m };
+
+    ghost notes = { λ l. [] };
+
+    ghost learns = { λ l check m. m ≡ l };
 
     fn call_all(
         &mut self,
@@ -378,6 +383,15 @@ impl<D: Dial, W: HostWatch> BatchLink for ReconnectLink<D, W> {
         }
     }
 
+    /// Returns no bytes: this link has nothing to remember.
+    fn note(&self, alloc: Global) -> Result<Vec<u8>, AllocError> {
+        Ok(Vec::new(alloc))
+    }
+
+    fn learn_kept(&mut self, _check: u64) {}
+
     ghost are_batches = { λ l m bodies o exchanges h.
         reconnects_are_batches (dialer_kind D.opens D.fails D.pauses D.reads D.Line.batches) D.Line.are_batches l m bodies o exchanges h };
+
+    ghost learning_sends_nothing = { λ l m check same. inl same };
 }

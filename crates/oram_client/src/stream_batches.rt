@@ -11,7 +11,7 @@ ghost use Rattle.oram_client.specs.StreamBatches.{AreSent, AreUnframed, Carries,
 use oram_rounds::BatchLink;
 use oram_session::LinkFault;
 use oram_wire::{FrameFault, LONGEST_BODY, WriteFault, next_frame, write};
-use std::alloc::Global;
+use std::alloc::{AllocError, Global};
 use std::io::{Read, Write};
 use std::marker::Model;
 
@@ -188,10 +188,15 @@ fn carry<R: Read, W: Write>(
 }
 
 impl<R: Read, W: Write> BatchLink for StreamBatches<R, W> {
+    ghost use Rattle.std.proofs.Common.{inl};
     ghost use Rattle.oram_client.specs.StreamBatches.{StreamBatch};
     ghost use Rattle.oram_client.specs.BatchExchanges.{streams_are_batches};
 
     ghost batches = { λ l bodies o exchanges m. StreamBatch R.remaining W.contents l bodies o exchanges m };
+
+    ghost notes = { λ l. [] };
+
+    ghost learns = { λ l check m. m ≡ l };
 
     fn call_all(
         &mut self,
@@ -207,5 +212,14 @@ impl<R: Read, W: Write> BatchLink for StreamBatches<R, W> {
         outcome
     }
 
+    /// Returns no bytes: this link has nothing to remember.
+    fn note(&self, alloc: Global) -> Result<Vec<u8>, AllocError> {
+        Ok(Vec::new(alloc))
+    }
+
+    fn learn_kept(&mut self, _check: u64) {}
+
     ghost are_batches = { λ l m bodies o exchanges h. streams_are_batches R.remaining W.contents l m bodies o exchanges h };
+
+    ghost learning_sends_nothing = { λ l m check same. inl same };
 }

@@ -5,7 +5,7 @@ ghost use Rattle.oram_client.specs.StreamBatches.{connection};
 use crate::stream_batches::StreamBatches;
 use oram_rounds::BatchLink;
 use oram_session::LinkFault;
-use std::alloc::Global;
+use std::alloc::{AllocError, Global};
 use std::cell::Cell;
 use std::io;
 use std::io::{ErrorKind, Read, Write};
@@ -137,10 +137,15 @@ impl<S, C: Copy> TimedLink<S, C> {
 }
 
 impl<S: Read + Write, C: Clock> BatchLink for TimedLink<S, C> {
+    ghost use Rattle.std.proofs.Common.{inl};
     ghost use Rattle.oram_client.specs.StreamBatches.{StreamBatch};
     ghost use Rattle.oram_client.specs.BatchExchanges.{streams_are_batches};
 
     ghost batches = { λ l bodies o exchanges m. StreamBatch S.remaining S.contents l bodies o exchanges m };
+
+    ghost notes = { λ l. [] };
+
+    ghost learns = { λ l check m. m ≡ l };
 
     fn call_all(
         &mut self,
@@ -156,5 +161,14 @@ impl<S: Read + Write, C: Clock> BatchLink for TimedLink<S, C> {
         self.line.call_all(alloc, first, last)
     }
 
+    /// Returns no bytes: this link has nothing to remember.
+    fn note(&self, alloc: Global) -> Result<Vec<u8>, AllocError> {
+        Ok(Vec::new(alloc))
+    }
+
+    fn learn_kept(&mut self, _check: u64) {}
+
     ghost are_batches = { λ l m bodies o exchanges h. streams_are_batches S.remaining S.contents l m bodies o exchanges h };
+
+    ghost learning_sends_nothing = { λ l m check same. inl same };
 }

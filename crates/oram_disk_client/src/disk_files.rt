@@ -9,7 +9,7 @@ ghost use Rattle.oram_disk_client.specs.Faults.{IsAbout, IsMissing, IsNotKeptFor
 ghost use Rattle.oram_disk_client.specs.Sealers as spec;
 ghost use Rattle.oram_geometry.specs.declared.Sizes.{Sizes};
 ghost use Rattle.oram_rounds.specs.Batches.{texts};
-ghost use Rattle.oram_rounds.specs.Files.{IsFile, IsFileOf};
+ghost use Rattle.oram_rounds.specs.Files.{HasChecksum, IsFileOf, IsFileWith};
 ghost use Rattle.oram_semantics.specs.State.{State};
 ghost use Rattle.oram_settings.specs.Differences.{AgreeAt, IsFirstDifference, fixed_keys};
 ghost use Rattle.oram_settings.specs.declared.differences.FixedKey.{FixedKey};
@@ -128,10 +128,11 @@ fn process_in<S: Sealer>(
     name: &str,
 ) -> Result<KeptCore<S>, Fault>
     ensures sealer { IfOk result (λ kept. kept.core.sealer ≡ sealer) }
-    ensures ok { IfOk result (λ kept. IsFile (scheme_of S.cipher kept.core) process.now (texts kept.stores.items) kept.core.state) }
+    ensures ok { IfOk result (λ kept. IsFileWith (scheme_of S.cipher kept.core) process.now (texts kept.stores.items) kept.note.items kept.core.state) }
+    ensures check { IfOk result (λ kept. HasChecksum process.now kept.check) }
     // It returns the process that was kept, unless memory runs out.
-    ensures same { (d : Sizes) (stores : List (List ℕ)) (core : State) → IsFileOf (S.cipher sealer).overhead d process.now stores core
-        → IfOk result (λ kept. (texts kept.stores.items ≡ stores) × (kept.core.device ≡ d) × (kept.core.state ≡ core)) }
+    ensures same { (d : Sizes) (stores : List (List ℕ)) (core : State) → (it : IsFileOf (S.cipher sealer).overhead d process.now stores core)
+        → IfOk result (λ kept. (texts kept.stores.items ≡ stores) × (kept.core.device ≡ d) × (kept.core.state ≡ core) × (kept.note.items ≡ it.note)) }
     ensures only { (d : Sizes) (stores : List (List ℕ)) (core : State) → IsFileOf (S.cipher sealer).overhead d process.now stores core
         → IfErr result (λ fault. fault ≡ Fault.OutOfMemory) }
     ensures fault { IfErr result (λ fault. IsAbout FaultKind.NotADisk name.now fault) }
@@ -227,16 +228,17 @@ pub fn process_for<S: Sealer>(
     sealer: S,
 ) -> Result<KeptCore<S>, Fault>
     ensures sealer { IfOk result (λ process. process.core.sealer ≡ sealer) }
-    ensures ok { IfOk result (λ process. IsFile (scheme_of S.cipher process.core) kept.now.process.now (texts process.stores.items) process.core.state) }
+    ensures ok { IfOk result (λ process. IsFileWith (scheme_of S.cipher process.core) kept.now.process.now (texts process.stores.items) process.note.items process.core.state) }
+    ensures check { IfOk result (λ process. HasChecksum kept.now.process.now process.check) }
     ensures agrees { IfOk result (λ process. IsFirstDifference (AgreeAt settings.now process.core.device (spec.sealing_of kept.now.head.sealer)) fixed_keys None) }
     // Only the settings of a process can have changed. The fault names the first key at which they differ.
     ensures fault { IfErr result (λ fault. IsAbout FaultKind.NotADisk (string_bytes settings.now.state) fault
         ⊎ ((process : KeptCore S) × (key : FixedKey) × (fault ≡ Fault.About (FaultKind.Changed key) name)
-        × IsFile (scheme_of S.cipher process.core) kept.now.process.now (texts process.stores.items) process.core.state
+        × IsFileWith (scheme_of S.cipher process.core) kept.now.process.now (texts process.stores.items) process.note.items process.core.state
         × IsFirstDifference (AgreeAt settings.now process.core.device (spec.sealing_of kept.now.head.sealer)) fixed_keys (Some key))) }
     // It returns all of a process that was kept, unless memory runs out or the settings differ.
-    ensures same { (d : Sizes) (stores : List (List ℕ)) (core : State) → IsFileOf (S.cipher sealer).overhead d kept.now.process.now stores core
-        → IfOk result (λ process. (texts process.stores.items ≡ stores) × (process.core.device ≡ d) × (process.core.state ≡ core)) }
+    ensures same { (d : Sizes) (stores : List (List ℕ)) (core : State) → (it : IsFileOf (S.cipher sealer).overhead d kept.now.process.now stores core)
+        → IfOk result (λ process. (texts process.stores.items ≡ stores) × (process.core.device ≡ d) × (process.core.state ≡ core) × (process.note.items ≡ it.note)) }
     ensures changed { (d : Sizes) (stores : List (List ℕ)) (core : State) → IsFileOf (S.cipher sealer).overhead d kept.now.process.now stores core
         → IfErr result (λ fault. (fault ≡ Fault.OutOfMemory) ⊎ ((key : FixedKey) × (fault ≡ Fault.About (FaultKind.Changed key) name)
         × IsFirstDifference (AgreeAt settings.now d (spec.sealing_of kept.now.head.sealer)) fixed_keys (Some key))) }

@@ -162,8 +162,8 @@ fn format_with<S: Sealer>(
 {
     let alloc = rt.alloc();
     let core = formatted(rt, device, sealer, identity, settings)?;
-    let file = encode_kept(alloc, &[], &core)?;
-    match keeper.keep(file.as_slice()) {
+    let file = encode_kept(alloc, &[], &[], &core)?;
+    match keeper.keep(file.bytes.as_slice()) {
         Ok(()) => Ok(()),
         Err(_) => Err(named(alloc, FaultKind::StateNotMade, settings.state.as_str())),
     }

@@ -1,5 +1,5 @@
 -- Several messages that go to the host at once.
-use Rattle.std.specs.Prelude.{◌≡◌, ℕ, List, [], ◌∷◌, ◌++◌, length, map, Result, Ok, Err}
+use Rattle.std.specs.Prelude.{◌≡◌, ◌⊎◌, ℕ, List, [], ◌∷◌, ◌++◌, length, map, Result, Ok, Err}
 use Rattle.std.specs.Global.{Vec}
 use Rattle.oram_session.specs.declared.link.LinkFault.{LinkFault}
 use Rattle.oram_link_laws.specs.Repair.{AreAmong}
@@ -22,6 +22,10 @@ abbrev pub answered : List (List ℕ) → List (List ℕ) → List Exchange
 answered [] answers = []
 answered (body ∷ bodies) [] = []
 answered (body ∷ bodies) (answer ∷ answers) = (body, Ok answer) ∷ answered bodies answers
+
+-- the link stays as it is, or does what it may do in a batch of no messages
+abbrev pub SendsNothing : {B : Type 0} → (B → List (List ℕ) → BatchOutcome → List Exchange → B → Type 0) → B → B → Type 0
+SendsNothing batches l m = (m ≡ l) ⊎ batches l [] (Ok []) [] m
 
 -- The exchanges of a batch with this outcome: tries of its messages, with any outcomes; and if there are answers, each
 -- message once more, with its answer.

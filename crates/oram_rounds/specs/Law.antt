@@ -9,7 +9,7 @@ use Rattle.oram_host_laws.specs.Honest.{KeepsAll}
 use Rattle.oram_session.specs.Honesty.{IsHeardCall}
 use Rattle.oram_session.specs.Outcome.{Outcome}
 use Rattle.oram_link_laws.specs.Runs.{Exchange}
-use Rattle.oram_rounds.specs.Batches.{BatchOutcome, IsBatch}
+use Rattle.oram_rounds.specs.Batches.{BatchOutcome, IsBatch, SendsNothing}
 use Rattle.oram_rounds.specs.CatchUp.{CatchesUp, IsPlainCall, PlainRun}
 use Rattle.oram_rounds.specs.PathMessages.{IsPathFetch}
 use Rattle.oram_rounds.specs.Rounds.{Round, RoundCall, WentAhead, waiting}
@@ -17,6 +17,10 @@ use Rattle.oram_rounds.specs.Rounds.{Round, RoundCall, WentAhead, waiting}
 -- each batch has exchanges such as `IsBatch` allows
 abbrev pub AreBatches : {B : Type 0} → (B → List (List ℕ) → BatchOutcome → List Exchange → B → Type 0) → Type 0
 AreBatches {B} batches = (l m : B) (bodies : List (List ℕ)) (o : BatchOutcome) (exchanges : List Exchange) → batches l bodies o exchanges m → IsBatch bodies o exchanges
+
+-- a link sends nothing when it learns that its process was kept, in a file with some checksum
+abbrev pub LearningSendsNothing : {B : Type 0} → (B → List (List ℕ) → BatchOutcome → List Exchange → B → Type 0) → (B → ℕ → B → Type 0) → Type 0
+LearningSendsNothing {B} batches learns = (l m : B) (check : ℕ) → learns l check m → SendsNothing batches l m
 
 -- the host keeps a record of the right length at each node of the device's trees
 abbrev pub IsStocked : Scheme → Host → Type 0

@@ -8,6 +8,7 @@ pub mod Examples
 pub mod Service
 pub mod Files
 pub mod Process
+pub mod Keeping
 pub mod AheadInTurn
 pub mod Start
 pub mod ProcessSteps

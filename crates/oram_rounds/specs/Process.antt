@@ -1,5 +1,5 @@
 -- A process of the client: its core, its link, and where it keeps what has to outlive it.
-use Rattle.std.specs.Prelude.{◌≡◌, ◌⊎◌, ℕ, Bool, true, false, List, [], ◌∷◌, ◌++◌, Some, map}
+use Rattle.std.specs.Prelude.{◌≡◌, ◌⊎◌, ℕ, Bool, true, false, List, [], ◌∷◌, ◌++◌, Some, map, ⊤}
 use Rattle.std.specs.List.{AllByRecursion, FoldsTo, flat_map}
 use Rattle.oram_geometry.specs.declared.Sizes.{Sizes}
 use Rattle.oram_geometry.specs.Sizes.{IsDevice}
@@ -19,7 +19,7 @@ use Rattle.oram_session.specs.Outcome.{Outcome}
 use Rattle.oram_session.specs.CoreWork.{outstanding}
 use Rattle.oram_link_laws.specs.Repair.{AreAmong, IsAmong}
 use Rattle.oram_link_laws.specs.Runs.{Exchange, bodies_of}
-use Rattle.oram_rounds.specs.Batches.{BatchOutcome}
+use Rattle.oram_rounds.specs.Batches.{BatchOutcome, SendsNothing}
 use Rattle.oram_rounds.specs.Files.{IsFile}
 use Rattle.oram_rounds.specs.CatchUp.{CatchesUp, PlainRun}
 use Rattle.oram_rounds.specs.Law.{AreAhead, AreBatches}
@@ -64,11 +64,20 @@ replies_of (Misses o exchanges) = []
 replies_of (GoesAhead exchanges) = []
 replies_of (Keeps done) = []
 
--- the first act is to send FETCHes ahead
-abbrev pub GoesAheadFirst : List Act → Type 0
-GoesAheadFirst acts = (exchanges : List Exchange) × (rest : List Act) × (acts ≡ GoesAhead exchanges ∷ rest)
+-- the keeper isn't asked to keep anything
+abbrev pub KeepsNothing : List Act → Type 0
+KeepsNothing [] = ⊤
+KeepsNothing (Hears event x ∷ acts) = KeepsNothing acts
+KeepsNothing (Calls o exchanges x ∷ acts) = KeepsNothing acts
+KeepsNothing (Misses o exchanges ∷ acts) = KeepsNothing acts
+KeepsNothing (GoesAhead exchanges ∷ acts) = KeepsNothing acts
+KeepsNothing (Keeps done ∷ acts) = ⊥
 
--- a round: the process keeps itself, and sends FETCHes ahead before it does anything else
+-- the first act is to send FETCHes ahead, and nothing is kept after it
+abbrev pub GoesAheadFirst : List Act → Type 0
+GoesAheadFirst acts = (exchanges : List Exchange) × (rest : List Act) × (acts ≡ GoesAhead exchanges ∷ rest) × KeepsNothing rest
+
+-- a round: the process keeps itself, and sends FETCHes ahead before it does anything else; it doesn't keep itself again
 abbrev pub IsRound : List Act → Type 0
 IsRound acts = (rest : List Act) × (acts ≡ Keeps true ∷ rest) × GoesAheadFirst rest
 
@@ -129,10 +138,11 @@ module _ (v : Scheme) {B K : Type 0} (batches : B → List (List ℕ) → BatchO
   Does p (Calls o exchanges x) q = Talks v batches (p.core, p.link) (Calls o exchanges x) (q.core, q.link) × (q.keeper ≡ p.keeper)
   Does p (Misses o exchanges) q = Talks v batches (p.core, p.link) (Misses o exchanges) (q.core, q.link) × (q.keeper ≡ p.keeper)
   Does p (GoesAhead exchanges) q = Talks v batches (p.core, p.link) (GoesAhead exchanges) (q.core, q.link) × (q.keeper ≡ p.keeper)
-  -- once something is kept, nothing else is read back
+  -- once something is kept, nothing else is read back; the link below sends nothing meanwhile
   Does p (Keeps true) q =
       ((bytes : List ℕ) → reads_back q.keeper bytes → IsFile v bytes (waiting p.link) p.core)
-      × (q.core ≡ p.core) × (q.link ≡ record p.link { kept = waiting p.link; held = []; ahead = [] })
+      × (q.core ≡ p.core) × (q.link ≡ record p.link { inner = q.link.inner; kept = waiting p.link; held = []; ahead = [] })
+      × SendsNothing batches p.link.inner q.link.inner
   -- if the keeper fails, the new file is read back, or the old one
   Does p (Keeps false) q =
       ((bytes : List ℕ) → reads_back q.keeper bytes → IsFile v bytes (waiting p.link) p.core ⊎ reads_back p.keeper bytes)

@@ -7,7 +7,7 @@ ghost use Rattle.oram_rounds.specs.Batches.{IsBatch, answered, texts};
 use crate::batch::BatchLink;
 use crate::lists::push;
 use oram_session::{Link, LinkFault};
-use std::alloc::Global;
+use std::alloc::{AllocError, Global};
 
 /// Sends each message of a batch over a link once the one before it is answered. It saves no round trip. It stops at the
 /// first fault, and doesn't send the messages after it.
@@ -37,10 +37,15 @@ fn call_each<L: Link>(
 }
 
 impl<L: Link> BatchLink for OneByOne<L> {
+    ghost use Rattle.std.proofs.Common.{inl};
     ghost use Rattle.oram_link_laws.specs.Runs.{LinkRun};
     ghost use Rattle.oram_rounds.specs.Batches.{IsBatch};
 
     ghost batches = { λ l bodies o exchanges m. LinkRun L.calls l.link exchanges m.link × IsBatch bodies o exchanges };
+
+    ghost notes = { λ l. [] };
+
+    ghost learns = { λ l check m. m ≡ l };
 
     fn call_all(
         &mut self,
@@ -54,5 +59,14 @@ impl<L: Link> BatchLink for OneByOne<L> {
         Ok(answers)
     }
 
+    /// Returns no bytes: this link has nothing to remember.
+    fn note(&self, alloc: Global) -> Result<Vec<u8>, AllocError> {
+        Ok(Vec::new(alloc))
+    }
+
+    fn learn_kept(&mut self, _check: u64) {}
+
     ghost are_batches = { λ l m bodies o exchanges h. h.1 };
+
+    ghost learning_sends_nothing = { λ l m check same. inl same };
 }

@@ -1,5 +1,5 @@
 //! A link that holds STOREs back.
-ghost use Rattle.std.specs.Prelude.{◌≡◌, ◌≢◌, ◌↔◌, ◌+◌, ◌*◌, ◌^◌, ◌<◌, [], ◌∷◌, ◌++◌, List, IsTrue, MatchOption, MatchResult, OnOk, OnErr};
+ghost use Rattle.std.specs.Prelude.{◌≡◌, ◌≢◌, ◌↔◌, ◌+◌, ◌*◌, ◌^◌, ◌<◌, [], ◌∷◌, ◌++◌, List, IfOk, IsTrue, MatchOption, MatchResult, OnOk, OnErr};
 ghost use Rattle.std.specs.List.{AllByRecursion};
 ghost use Rattle.oram_geometry.specs.Sizes.{depth_of, trees_of};
 ghost use Rattle.oram_wire.specs.HostMessages.{done_answer, fetch_body};
@@ -18,7 +18,7 @@ use crate::overlay::{laid_over, path_len};
 use oram_geometry::Device;
 use oram_session::{Link, LinkFault};
 use oram_wire::{GOOD, HostView, REFUSED, is_done};
-use std::alloc::Global;
+use std::alloc::{AllocError, Global};
 use std::marker::Model;
 
 /// A link for one device, over a link that carries batches.
@@ -236,14 +236,6 @@ impl<B> RoundLink<B> {
         &self.stores
     }
 
-    /// Notes that all STOREs that wait are kept, so they leave with the next FETCH. Forgets what went ahead.
-    pub fn keep(&mut self, alloc: Global)
-        ensures { self.new ≡ record self.old { kept = self.old.kept ++ self.old.held; held = []; ahead = [] } }
-    {
-        self.ahead = FetchedAhead::none(alloc); // It lacks what these STOREs change.
-        self.kept = self.stores.len();
-    }
-
     /// Forgets the STOREs that are kept, since the host has carried them out.
     fn forget_kept(&mut self)
         ensures { self.new ≡ record self.old { kept = [] } }
@@ -282,6 +274,24 @@ impl<B> RoundLink<B> {
 }
 
 impl<B: BatchLink> RoundLink<B> {
+    /// Returns the note that the link below wants to have kept.
+    pub fn note(&self, alloc: Global) -> Result<Vec<u8>, AllocError>
+        ensures { IfOk result (λ note. note.items ≡ B.notes self.now.inner) }
+    {
+        self.inner.note(alloc)
+    }
+
+    /// Notes that all STOREs that wait are kept, in a file with the checksum `check`, so they leave with the next FETCH. Forgets
+    /// what went ahead, and tells the link below.
+    pub fn keep(&mut self, alloc: Global, check: u64)
+        ensures kept { self.new ≡ record self.old { inner = self.new.inner; kept = self.old.kept ++ self.old.held; held = []; ahead = [] } }
+        ensures told { B.learns self.old.inner check self.new.inner }
+    {
+        self.ahead = FetchedAhead::none(alloc); // It lacks what these STOREs change.
+        self.kept = self.stores.len();
+        self.inner.learn_kept(check);
+    }
+
     /// Sends FETCHes after the STOREs that are kept, all at once, before the core asks for them. Later calls with these
     /// FETCHes, in this order, are answered from what came. What went ahead before is forgotten. Sends nothing if there are no
     /// FETCHes.

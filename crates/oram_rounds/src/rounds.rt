@@ -1,5 +1,5 @@
 //! A round: commands are kept, and then carried out together.
-ghost use Rattle.std.specs.Prelude.{◌≡◌, ◌⊎◌, [], ◌∷◌, ◌++◌, ℕ, List, All, true, false, length, IfErr, IfOk, IsErrOf, IsOkAnd, OnErr, OnOk};
+ghost use Rattle.std.specs.Prelude.{◌≡◌, ◌⊎◌, [], ◌∷◌, ◌++◌, List, All, true, false, length, IfErr, IfOk, IsErrOf, IsOkAnd, OnErr, OnOk};
 ghost use Rattle.std.specs.List.{flat_map};
 ghost use Rattle.oram_semantics.specs.Progress.Status.{Stalling};
 ghost use Rattle.oram_semantics.specs.State.{status_in};
@@ -8,8 +8,8 @@ ghost use Rattle.oram_core.specs.Core.{IsSameDevice, scheme_of};
 ghost use Rattle.oram_core.specs.PlainSteps.{done};
 ghost use Rattle.oram_session.specs.Honesty.{HasFailed};
 ghost use Rattle.oram_session.specs.CoreWork.{IsBodyOf, HasNoWork, IsUnderWay};
-ghost use Rattle.oram_rounds.specs.Files.{IsFile};
-ghost use Rattle.oram_rounds.specs.Process.{Act, DoesAll, GoesAheadFirst, IsBrokenResumption, IsBrokenRound, IsResumption, IsRound, process, replies_of};
+ghost use Rattle.oram_rounds.specs.Keeping.{DoesAllNoted, IsKeptWithNote, MayBeKeptWithNote};
+ghost use Rattle.oram_rounds.specs.Process.{Act, GoesAheadFirst, IsBrokenResumption, IsBrokenRound, IsResumption, IsRound, process, replies_of};
 ghost use Rattle.oram_rounds.specs.Process.Act.{Keeps};
 ghost use Rattle.oram_rounds.specs.Rounds.{waiting};
 
@@ -25,27 +25,29 @@ use oram_host::ServeFault;
 use oram_session::{has_no_work, reopen};
 use std::alloc::Global;
 
-/// Keeps the core and the STOREs that wait. These may leave from then on.
-pub fn keep<S: Sealer, B, K: Keeper>(
+/// Keeps the core, the STOREs that wait, and the note of the link below. The STOREs may leave from then on, and the link below
+/// learns the checksum of the file that was kept.
+pub fn keep<S: Sealer, B: BatchLink, K: Keeper>(
     alloc: Global,
     core: &Core<S>,
     link: &mut RoundLink<B>,
     keeper: &mut K,
 ) -> Result<(), RoundFault>
-    // Whatever is read back then is the file of the core and of these STOREs.
+    // What is read back then is the file of the core, of these STOREs and of this note.
     ensures ok { let v = scheme_of S.cipher core.now in
-        OnOk result (((bytes : List ℕ) → K.reads_back keeper.new bytes → IsFile v bytes (waiting link.old) core.now.state)
-        × (link.new ≡ record link.old { kept = waiting link.old; held = []; ahead = [] })) }
+        OnOk result (IsKeptWithNote v B.notes B.learns K.reads_back (process core.now.state link.old keeper.old) (process core.now.state link.new keeper.new)
+        × (link.new ≡ record link.old { inner = link.new.inner; kept = waiting link.old; held = []; ahead = [] })) }
     // After a fault it is that file, or what was there before.
     ensures err { let v = scheme_of S.cipher core.now in
-        OnErr result (((bytes : List ℕ) → K.reads_back keeper.new bytes → IsFile v bytes (waiting link.old) core.now.state ⊎ K.reads_back keeper.old bytes)
+        OnErr result (MayBeKeptWithNote v B.notes B.learns K.reads_back (process core.now.state link.old keeper.old) (process core.now.state link.new keeper.new)
         × (link.new ≡ link.old)) }
     ensures memory { IsErrOf result RoundFault.OutOfMemory → keeper.new ≡ keeper.old }
     ensures fault { IfErr result (λ e. (e ≡ RoundFault.NotKept) ⊎ (e ≡ RoundFault.OutOfMemory)) }
 {
-    let file = encode_kept(alloc, link.waiting(), core)?;
-    keeper.keep(&file)?;
-    link.keep(alloc);
+    let note = link.note(alloc)?;
+    let file = encode_kept(alloc, link.waiting(), &note, core)?;
+    keeper.keep(&file.bytes)?;
+    link.keep(alloc, file.check);
     Ok(())
 }
 
@@ -65,7 +67,7 @@ pub fn perform<S: Sealer, B: BatchLink, K: Keeper>(
     ensures kept { IsSameDevice core.old core.new }
     ensures ok { let v = scheme_of S.cipher core.old in
         IfOk result (λ replies. (acts : List Act) × (flat_map replies_of acts ≡ replies.items)
-        × DoesAll v B.batches K.reads_back (process core.old.state link.old keeper.old) (Keeps true ∷ acts)
+        × DoesAllNoted v B.notes B.learns K.reads_back B.batches (process core.old.state link.old keeper.old) (Keeps true ∷ acts)
         (process core.new.state link.new keeper.new)
         × GoesAheadFirst acts) }
     ensures count { IfOk result (λ replies. length replies.items ≡ length core.old.state.queue) }
@@ -76,11 +78,11 @@ pub fn perform<S: Sealer, B: BatchLink, K: Keeper>(
     // FETCHes went ahead first.
     ensures err { let v = scheme_of S.cipher core.old in
         OnErr result ((acts : List Act) × IsBrokenRound acts
-        × DoesAll v B.batches K.reads_back (process core.old.state link.old keeper.old) acts
+        × DoesAllNoted v B.notes B.learns K.reads_back B.batches (process core.old.state link.old keeper.old) acts
         (process core.new.state link.new keeper.new)) }
     ensures not_kept { let v = scheme_of S.cipher core.old in
         IsErrOf result RoundFault.NotKept → (core.new ≡ core.old) × (link.new ≡ link.old)
-        × DoesAll v B.batches K.reads_back (process core.old.state link.old keeper.old) (Keeps false ∷ [])
+        × DoesAllNoted v B.notes B.learns K.reads_back B.batches (process core.old.state link.old keeper.old) (Keeps false ∷ [])
         (process core.new.state link.new keeper.new) }
     ensures stalled { IsErrOf result RoundFault.Stalled → status_in core.new.state ≡ Stalling }
 {
@@ -112,18 +114,18 @@ pub fn resume<S: Sealer, B: BatchLink, K: Keeper>(
     // It was done in a round, which began with the FETCHes.
     ensures ok { let v = scheme_of S.cipher core.old in
         IfOk result (λ replies. (acts : List Act) × (flat_map replies_of acts ≡ replies.items)
-        × DoesAll v B.batches K.reads_back (process core.old.state link.old keeper.old) acts
+        × DoesAllNoted v B.notes B.learns K.reads_back B.batches (process core.old.state link.old keeper.old) acts
         (process core.new.state link.new keeper.new)
         × (¬ HasNoWork core.old.state → IsResumption IsRound acts)) }
     ensures block { IfOk result (λ replies. All (λ reply. IsBodyOf core.old.device reply.body) replies.items) }
     ensures err { let v = scheme_of S.cipher core.old in
         OnErr result ((acts : List Act)
-        × DoesAll v B.batches K.reads_back (process core.old.state link.old keeper.old) acts
+        × DoesAllNoted v B.notes B.learns K.reads_back B.batches (process core.old.state link.old keeper.old) acts
         (process core.new.state link.new keeper.new)
         × IsBrokenResumption acts) }
     ensures not_kept { let v = scheme_of S.cipher core.old in
         IsErrOf result RoundFault.NotKept → (acts : List Act)
-        × DoesAll v B.batches K.reads_back (process core.old.state link.old keeper.old) (acts ++ Keeps false ∷ [])
+        × DoesAllNoted v B.notes B.learns K.reads_back B.batches (process core.old.state link.old keeper.old) (acts ++ Keeps false ∷ [])
         (process core.new.state link.new keeper.new) }
     ensures stalled { IsErrOf result RoundFault.Stalled → status_in core.new.state ≡ Stalling }
 {

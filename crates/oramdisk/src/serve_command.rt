@@ -352,7 +352,7 @@ fn reached<'a, S: Sealer>(
     let alloc = rt.alloc();
     let mut link = link_to(rt, settings, keys)?;
     check_host(alloc, &mut link, settings, &kept.core)?;
-    let KeptCore { stores, core } = kept;
+    let KeptCore { stores, core, .. } = kept;
     let device = core.device().copy();
     match RoundLink::with_kept(alloc, link, device, record_len(&core), stores) {
         Some(link) => Ok((core, link)),

@@ -15,7 +15,7 @@ use std::alloc::Global;
 /// Formats a device over a link, and returns the file from which its first process begins.
 fn formatted_over(alloc: Global, device: Device, link: &mut Direct) -> Result<Vec<u8>, RowFault> {
     match format_device(alloc, device, PlainSeal, link) {
-        Ok(core) => Ok(encode_kept(alloc, &[], &core)?),
+        Ok(core) => Ok(encode_kept(alloc, &[], &[], &core)?.bytes),
         Err(_) => Err(RowFault::OutOfMemory),
     }
 }

@@ -79,7 +79,7 @@ fn begun<'a>(
     place: &'a HostPlace,
     file: &[u8],
 ) -> Result<(Core<PlainSeal>, LifeLink<'a>), RowFault> {
-    let KeptCore { stores, core } = kept_in(alloc, file)?;
+    let KeptCore { stores, core, .. } = kept_in(alloc, file)?;
     match link_for(alloc, place, &core, stores) {
         Some(link) => Ok((core, link)),
         None => Err(RowFault::NoRow),

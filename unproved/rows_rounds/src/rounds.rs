@@ -254,7 +254,8 @@ impl<'a> Rounds<'a> {
     /// `other_sealer`: writes why the file isn't read with another sealer.
     fn file_row(&mut self, alloc: Global, call: &str, page: &mut Page) -> Result<(), RowFault> {
         let life = self.life()?;
-        let file = encode_kept(alloc, life.link.waiting(), &life.core)?;
+        let note = life.link.note(alloc)?;
+        let file = encode_kept(alloc, life.link.waiting(), &note, &life.core)?.bytes;
         match call {
             "file" => page.bytes(&file),
             "fields" => page.bytes(&encode_fields(alloc, &life.core)?),
