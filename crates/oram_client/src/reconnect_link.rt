@@ -53,7 +53,8 @@ impl<W: HostWatch> TroubleReporter<W> {
                     self.watch.full();
                 }
             }
-            Trouble::AnotherDisk | Trouble::NoDisk => {}
+            // The link gives up, and its program says why.
+            _ => {}
         }
     }
 
@@ -264,12 +265,12 @@ impl<D: Dial, W: HostWatch> ReconnectLink<D, W> {
         ensures same { self.new ≡ record self.old { dialer = self.new.dialer; line = self.new.line } }
     {
         let mut line = self.take_line(alloc, left)?;
-        match line.call_all(alloc, first, last) {
+        match self.dialer.carry(alloc, &mut line, first, last) {
             Ok(answers) => {
                 self.line = Some(line);
                 Ok(answers)
             }
-            Err(fault) => Err(Trouble::OutOfReach(fault)),
+            Err(trouble) => Err(trouble),
         }
     }
 
@@ -383,12 +384,13 @@ impl<D: Dial, W: HostWatch> BatchLink for ReconnectLink<D, W> {
         }
     }
 
-    /// Returns no bytes: this link has nothing to remember.
     fn note(&self, alloc: Global) -> Result<Vec<u8>, AllocError> {
-        Ok(Vec::new(alloc))
+        self.dialer.note(alloc)
     }
 
-    fn learn_kept(&mut self, _check: u64) {}
+    fn learn_kept(&mut self, check: u64) {
+        self.dialer.learn_kept(check);
+    }
 
     ghost are_batches = { λ l m bodies o exchanges h.
         reconnects_are_batches (dialer_kind D.opens D.fails D.pauses D.reads D.Line.batches) D.Line.are_batches l m bodies o exchanges h };

@@ -15,6 +15,12 @@ pub enum Mismatch {
     OlderHost,
 }
 
+/// The stamp that a new disk's host has at both places, before the client has kept anything.
+pub const FIRST_STAMP: Stamp = Stamp {
+    number: 0,
+    check: 0,
+};
+
 /// What a client knows of the stamps that its host has.
 #[derive(Debug, Drop)]
 pub struct Known {
@@ -73,15 +79,11 @@ impl Known {
     pub fn fresh(alloc: Global) -> Result<Known, AllocError>
         ensures { IfOk result (λ k. k ≡ settled first_stamp) }
     {
-        let first = Stamp {
-            number: 0,
-            check: 0,
-        };
         Ok(Known {
-            may: vec![in alloc; first]?,
+            may: vec![in alloc; FIRST_STAMP]?,
             begun: 0,
             done: 0,
-            current: first,
+            current: FIRST_STAMP,
         })
     }
 

@@ -14,7 +14,7 @@ mod law;
 mod note;
 mod stamp;
 
-pub use known::{Known, Mismatch};
+pub use known::{FIRST_STAMP, Known, Mismatch};
 pub use law::{life_example, newest_states_pass, older_states_are_refused};
 pub use note::{NoteFault, decode_note, encode_note};
 pub use stamp::{Place, RECORD_LEN, Shown, Stamp, StampKey, decode_shown, encode_record};
