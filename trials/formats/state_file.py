@@ -46,6 +46,7 @@ class State:
     roots: list = field(default_factory=list)
     stashes: list = field(default_factory=list)
     stores: list = field(default_factory=list)
+    note: bytes = b""
     waiting: list = field(default_factory=list)
     outstanding: int = -1
     message: bytes = b""
@@ -54,11 +55,12 @@ class State:
 def read_state(data):
     """The state that a file keeps."""
     head = Reader(data)
-    head.expect(b"VIDLAQE4", "a kept file begins so")
+    head.expect(b"VIDLAQE5", "a kept file begins so")
     salt, check, sealer = head.take(32), head.take(32), head.number(1)
     if siphash(data[head.at : -8]) != int.from_bytes(data[-8:], "big"):
         raise Misread("the checksum")
     stores = [read_store(head.take(head.number(8))) for _ in range(head.number(8))]
+    note = head.take(head.number(8))
     reader = Reader(data[head.at : -8])
     blocks, block_bytes = reader.number(4), reader.number(4)
     leaf_load, slots, table = reader.number(2) + 1, reader.number(2), reader.number(4)
@@ -67,7 +69,7 @@ def read_state(data):
     if overhead != sizes.overhead():
         raise Misread("the bytes that the sealer adds")
     mode = reader.number(1)
-    state = State(salt, check, sizes, lifetime, mode, reader.number(8), reader.number(8), stores=stores)
+    state = State(salt, check, sizes, lifetime, mode, reader.number(8), reader.number(8), stores=stores, note=note)
     if mode != FAILED:
         read_trees(reader, state)
     if mode in AT_WORK:

@@ -32,7 +32,7 @@ def try_wrong_settings(trial):
     trial.check("the state is as it was", state.read_bytes() == kept)
     # A state of an older format is reported as such.
     line = "oramdisk: settings/disk.state is the state of a disk of an older version, and is left as it is: serve it with that version, and copy what is in it to a new disk"
-    for letters in (b"VIDLAQE1", b"VIDLAQE2", b"VIDLAQE3"):
+    for letters in (b"VIDLAQE1", b"VIDLAQE2", b"VIDLAQE3", b"VIDLAQE4"):
         state.write_bytes(letters + kept[8:])
         trial.ends("a state of an older form", disk.start("serve"), NO_STATE, line)
     state.write_bytes(kept)

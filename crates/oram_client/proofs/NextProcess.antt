@@ -3,7 +3,7 @@ use Rattle.std.proofs.Common.{◌≡◌, inl, inr, refl, ℕ, arith, Bool, true,
 use Rattle.std.specs.Prelude.{◌↔◌}
 use Rattle.std.proofs.lemmas.List.{append_cancel_left, drop_at, take_at}
 use Rattle.oram_link_laws.specs.Examples.{new_core, one_block}
-use Rattle.oram_rounds.specs.Files.{IsFile, IsFileOf}
+use Rattle.oram_rounds.specs.Files.{IsFile, IsFileOf, IsFileWith}
 use Rattle.oram_rounds.proofs.KeptText.{one_process}
 use Rattle.oram_rounds.proofs.NewProcess.{new_process_example}
 use Rattle.oram_rounds.proofs.Safety.{begun_is_safe}
@@ -35,7 +35,7 @@ same_sealer ChaCha20 ChaCha20 e = refl
 -- a kept file has one head and one process
 one_head : (h g : Head) (p q : List ℕ) → IsHead h → IsHead g → kept_file h p ≡ kept_file g q → (h ≡ g) × (p ≡ q)
 one_head h g p q is are e =
-    let behind : behind_letters h p ≡ behind_letters g q = append_cancel_left (codes "VIDLAQE4") (behind_letters h p) (behind_letters g q) e in
+    let behind : behind_letters h p ≡ behind_letters g q = append_cancel_left (codes "VIDLAQE5") (behind_letters h p) (behind_letters g q) e in
     let salt = cut h.salt.0 g.salt.0 (h.key_check.0 ++ sealer_byte h.sealer ∷ p) (g.key_check.0 ++ sealer_byte g.sealer ∷ q) (is.salt ∙ sym are.salt) behind in
     let check = cut h.key_check.0 g.key_check.0 (sealer_byte h.sealer ∷ p) (sealer_byte g.sealer ∷ q) (is.key_check ∙ sym are.key_check) salt.1 in
     let byte : sealer_byte h.sealer ≡ sealer_byte g.sealer = ap (λ (l : List ℕ). slice_index l 0) check.1 in
@@ -46,20 +46,21 @@ one_head h g p q is are e =
 
 -- its letters are those of the newest format
 not_older : (h : Head) (p : List ℕ) → IsOlder (kept_file h p) → ⊥
-not_older h p (inl (rest, e)) = let letter : 52 ≡ 49 = ap (λ (l : List ℕ). slice_index l 7) e in omega (arith, letter)
-not_older h p (inr (inl (rest, e))) = let letter : 52 ≡ 50 = ap (λ (l : List ℕ). slice_index l 7) e in omega (arith, letter)
-not_older h p (inr (inr (rest, e))) = let letter : 52 ≡ 51 = ap (λ (l : List ℕ). slice_index l 7) e in omega (arith, letter)
+not_older h p (inl (rest, e)) = let letter : 53 ≡ 49 = ap (λ (l : List ℕ). slice_index l 7) e in omega (arith, letter)
+not_older h p (inr (inl (rest, e))) = let letter : 53 ≡ 50 = ap (λ (l : List ℕ). slice_index l 7) e in omega (arith, letter)
+not_older h p (inr (inr (inl (rest, e)))) = let letter : 53 ≡ 51 = ap (λ (l : List ℕ). slice_index l 7) e in omega (arith, letter)
+not_older h p (inr (inr (inr (rest, e)))) = let letter : 53 ≡ 52 = ap (λ (l : List ℕ). slice_index l 7) e in omega (arith, letter)
 
 one_disk : (disk other : KeptDisk) (file : List ℕ) → TellsOf file disk → other.overhead ≡ disk.overhead → TellsOf file other → other ≡ disk
 one_disk disk other file t overhead u =
     let same = one_head disk.head other.head t.process u.process t.is_head u.is_head (sym t.whole ∙ u.whole) in
-    let theirs : IsFileOf disk.overhead other.device u.process other.stores other.core =
-    subst (λ (n : ℕ). IsFileOf n other.device u.process other.stores other.core) overhead u.decoded in
-    let here : IsFileOf disk.overhead other.device t.process other.stores other.core =
-    subst (λ (b : List ℕ). IsFileOf disk.overhead other.device b other.stores other.core) (sym same.1) theirs in
-    let one = one_process disk.overhead other.device disk.device t.process other.stores disk.stores other.core disk.core here t.decoded in
+    let IsTheirs : ℕ → List ℕ → Type 0 = λ n b. (file : IsFileOf n other.device b other.stores other.core) × (file.note ≡ other.note) in
+    let theirs : IsTheirs disk.overhead u.process = subst (λ (n : ℕ). IsTheirs n u.process) overhead (u.decoded, u.noted) in
+    let here : IsTheirs disk.overhead t.process = subst (IsTheirs disk.overhead) (sym same.1) theirs in
+    let one = one_process disk.overhead other.device disk.device t.process other.stores disk.stores other.core disk.core here.0 t.decoded in
     let head : other.head ≡ disk.head = sym same.0 in
-    λ k. record { head = head k; overhead = overhead k; device = one.1 k; stores = one.0 k; core = one.2 k }
+    let note : other.note ≡ disk.note = sym here.1 ∙ one.3 ∙ t.noted in
+    λ k. record { head = head k; overhead = overhead k; device = one.1 k; stores = one.0 k; note = note k; core = one.2 k }
 
 tells_only : (file : List ℕ) (disk : KeptDisk) → TellsOf file disk → TellsOnlyOf file disk
 tells_only file disk t = record {
@@ -141,8 +142,8 @@ found_may_be_lost p q head sync bytes notes lasts =
 
 -- the example
 
-tells_of_new : (bytes : List ℕ) → IsFile one_block bytes [] new_core → TellsOf (kept_file some_head bytes) new_disk
-tells_of_new bytes file = record { is_head = record { salt = refl; key_check = refl }; process = bytes; whole = refl; decoded = file }
+tells_of_new : (bytes note : List ℕ) → IsFileWith one_block bytes [] note new_core → TellsOf (kept_file some_head bytes) (new_disk note)
+tells_of_new bytes note file = record { is_head = record { salt = refl; key_check = refl }; process = bytes; whole = refl; decoded = file.0; noted = file.1 }
 
 noted_by : (p : FilePlaceState) (deed : FileDeed) (done : Bool) → NotesDeed p deed done (noting deed done p)
 noted_by p deed done = record { name = refl; noted = refl }
@@ -163,11 +164,11 @@ place_after : (p : FilePlaceState) (deed : FileDeed) (d : Bool) (q : FilePlaceSt
 place_after p deed d q notes = possible_after p.notes deed d q.notes notes.noted
 
 pub next_process_example : NextProcessExample
-next_process_example bytes file = (
-  tells_of_new bytes file,
+next_process_example bytes note file = (
+  tells_of_new bytes note file,
   first_kept bytes,
   lasting NotesDeed PlaceMayBe place_after (λ p. some_possible p.notes) (first_keeper empty_place some_head true) (having_kept bytes) bytes refl (first_kept bytes),
   (λ others. record { head = refl; sync = refl; kept = inl (noted_by (place_with bytes) (Writes true (kept_file some_head others)) false, inl refl) }),
   record { name = refl; noted = refl },
-  (λ may_lie. (new_process_example.3 may_lie).kept bytes file),
+  (λ may_lie. (new_process_example.3 may_lie).kept bytes file.0),
 )

@@ -18,7 +18,7 @@ use Rattle.oram_client.proofs.Whole.{files_are_kept, files_outlast_failures}
 pub only_process : (head : Head) (a b : List ℕ) → Some (kept_file head a) ≡ Some (kept_file head b) → a ≡ b
 only_process head a b same =
     let whole : kept_file head a ≡ kept_file head b = ap (λ (file : Option (List ℕ)). unwrap_or file []) same in
-    let behind : behind_letters head a ≡ behind_letters head b = append_cancel_left (codes "VIDLAQE4") _ _ whole in
+    let behind : behind_letters head a ≡ behind_letters head b = append_cancel_left (codes "VIDLAQE5") _ _ whole in
     let check = append_cancel_left head.salt.0 _ _ behind in
     ap (drop 1) (append_cancel_left head.key_check.0 (sealer_byte head.sealer ∷ a) (sealer_byte head.sealer ∷ b) check)
 

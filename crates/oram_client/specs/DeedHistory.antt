@@ -40,7 +40,7 @@ noted_of numbers salt key_check file =
     if slice_index numbers 0 == 6 then Found (Some file)
     else (if slice_index numbers 0 == 7 then Found None
     else Tried (record {
-      deed = deed_of (slice_index numbers 0) (slice_index numbers 2 == 1) (codes "VIDLAQE4" ++ (salt ++ (key_check ++ slice_index numbers 3 ∷ file)));
+      deed = deed_of (slice_index numbers 0) (slice_index numbers 2 == 1) (codes "VIDLAQE5" ++ (salt ++ (key_check ++ slice_index numbers 3 ∷ file)));
       is_done = slice_index numbers 1 == 1;
     }))
 

@@ -15,7 +15,7 @@ behind_letters head process = head.salt.0 ++ (head.key_check.0 ++ sealer_byte he
 
 -- a kept file: the letters and the rest
 abbrev pub kept_file : Head → List ℕ → List ℕ
-kept_file head process = codes "VIDLAQE4" ++ behind_letters head process
+kept_file head process = codes "VIDLAQE5" ++ behind_letters head process
 
 -- The salt and the key check have 32 bytes each.
 pub record IsHead (head : Head) : Type 0 where
@@ -25,7 +25,7 @@ pub record IsHead (head : Head) : Type 0 where
 abbrev pub BeginsWith : List ℕ → List ℕ → Type 0
 BeginsWith letters file = (rest : List ℕ) × (file ≡ letters ++ rest)
 
--- A file of an older format: the first format had no key check and no sealer, the second kept the core alone, and the third had
--- a digest of the core.
+-- A file of an older format: the first format had no key check and no sealer, the second kept the core alone, the third had a
+-- digest of the core, and the fourth had no note of the link.
 abbrev pub IsOlder : List ℕ → Type 0
-IsOlder file = BeginsWith (codes "VIDLAQE1") file ⊎ (BeginsWith (codes "VIDLAQE2") file ⊎ BeginsWith (codes "VIDLAQE3") file)
+IsOlder file = BeginsWith (codes "VIDLAQE1") file ⊎ (BeginsWith (codes "VIDLAQE2") file ⊎ (BeginsWith (codes "VIDLAQE3") file ⊎ BeginsWith (codes "VIDLAQE4") file))

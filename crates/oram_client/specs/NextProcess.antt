@@ -6,7 +6,7 @@ use Rattle.oram_semantics.specs.Scheme.{Scheme}
 use Rattle.oram_semantics.specs.State.{State}
 use Rattle.oram_link_laws.specs.Examples.{new_core, new_host, one_block}
 use Rattle.oram_rounds.specs.Examples.{zero_array}
-use Rattle.oram_rounds.specs.Files.{IsFile, IsFileOf}
+use Rattle.oram_rounds.specs.Files.{IsFile, IsFileOf, IsFileWith}
 use Rattle.oram_rounds.specs.Process.{IsKept, IsSafe, begun}
 use Rattle.oram_cli.specs.declared.file_faults.FileReason.TheVariants as reason
 use Rattle.oram_client.specs.declared.file_step.FileStep.TheVariants as step
@@ -25,6 +25,7 @@ pub record KeptDisk : Type 0 where
   pub overhead : ℕ  -- how many bytes the head's sealer adds to a bucket
   pub device : Sizes
   pub stores : List (List ℕ)  -- those that wait, the oldest first
+  pub note : List ℕ  -- what the link wanted to have kept
   pub core : State
 
 -- A file tells of this disk: `read_kept_file` takes it apart into the head and the bytes after it, and `decode_kept` decodes
@@ -34,6 +35,7 @@ pub record TellsOf (file : List ℕ) (disk : KeptDisk) : Type 0 where
   pub process : List ℕ
   pub whole : file ≡ kept_file disk.head process
   pub decoded : IsFileOf disk.overhead disk.device process disk.stores disk.core
+  pub noted : decoded.note ≡ disk.note
 
 -- A file tells of this disk and of no other, and its format is not an older one.
 pub record TellsOnlyOf (file : List ℕ) (disk : KeptDisk) : Type 0 where
@@ -101,8 +103,8 @@ FoundMayBeLost = (p q : FilePlaceState) (head : Head) (sync : Bool) (bytes : Lis
 abbrev pub some_head : Head
 some_head = record { salt = record { 0 = replicate 32 7 }; key_check = record { 0 = replicate 32 9 }; sealer = Plain }
 
-abbrev pub new_disk : KeptDisk
-new_disk = record { head = some_head; overhead = one_block.cipher.overhead; device = one_block.device; stores = []; core = new_core }
+abbrev pub new_disk : List ℕ → KeptDisk
+new_disk note = record { head = some_head; overhead = one_block.cipher.overhead; device = one_block.device; stores = []; note = note; core = new_core }
 
 abbrev pub empty_place : FilePlaceState
 empty_place = record { name = codes "disk"; notes = Found None ∷ [] }
@@ -132,8 +134,8 @@ next_place bytes = record { name = codes "disk"; notes = Found (Some (kept_file 
 
 -- With the bytes that `encode_kept` makes of this disk, all of these premises hold.
 abbrev pub NextProcessExample : Type 0
-NextProcessExample = (bytes : List ℕ) → IsFile one_block bytes [] new_core
-    → TellsOf (kept_file some_head bytes) new_disk
+NextProcessExample = (bytes note : List ℕ) → IsFileWith one_block bytes [] note new_core
+    → TellsOf (kept_file some_head bytes) (new_disk note)
     × KeepsFile NotesDeed (first_keeper empty_place some_head true) bytes true (having_kept bytes)
     × IsLasting PlaceMayBe (having_kept bytes) bytes
     × ((others : List ℕ) → KeepsFile NotesDeed (having_kept bytes) others false (having_failed bytes others))

@@ -12,7 +12,7 @@ use std::io::Write;
 use thiserror::Error;
 
 /// The letters that each file begins with.
-const LETTERS: &[u8; 8] = b"VIDLAQE4";
+const LETTERS: &[u8; 8] = b"VIDLAQE5";
 
 /// The letters that files of the first format begin with.
 const FIRST_LETTERS: &[u8; 8] = b"VIDLAQE1";
@@ -22,6 +22,9 @@ const SECOND_LETTERS: &[u8; 8] = b"VIDLAQE2";
 
 /// The letters that files of the third format begin with.
 const THIRD_LETTERS: &[u8; 8] = b"VIDLAQE3";
+
+/// The letters that files of the fourth format begin with.
+const FOURTH_LETTERS: &[u8; 8] = b"VIDLAQE4";
 
 /// How the buckets of a disk are sealed.
 #[derive(Clone, Copy, Debug, PartialEq, Eq)]
@@ -83,7 +86,8 @@ impl Head {
 #[derive(Clone, Copy, Debug)]
 pub struct KeptFile<'a> {
     pub head: Head,
-    /// What is kept of the process: the STOREs that wait and the core, as `oram_rounds::encode_kept` writes them.
+    /// What is kept of the process: the STOREs that wait, the note of its link, and the core, as `oram_rounds::encode_kept` writes
+    /// them.
     pub process: &'a [u8],
 }
 
@@ -91,7 +95,7 @@ pub struct KeptFile<'a> {
 #[derive(Clone, Copy, Debug, PartialEq, Eq, Error)]
 pub enum KeptFault {
     /// They have an older format. Files of the first one had no key check and no sealer; files of the second one had no
-    /// STOREs that wait; files of the third one had a digest of the core.
+    /// STOREs that wait; files of the third one had a digest of the core; files of the fourth one had no note of the link.
     #[error("a file of an older disk")]
     Older,
     #[error("no file of a disk")]
@@ -117,6 +121,7 @@ fn is_older(file: &[u8]) -> bool
     file.starts_with(FIRST_LETTERS)
         || file.starts_with(SECOND_LETTERS)
         || file.starts_with(THIRD_LETTERS)
+        || file.starts_with(FOURTH_LETTERS)
 }
 
 /// Reads the head and the process that follow the letters.

@@ -363,6 +363,7 @@ impl<D: Dial, W: HostWatch> ReconnectLink<D, W> {
 }
 
 impl<D: Dial, W: HostWatch> BatchLink for ReconnectLink<D, W> {
+    ghost use Rattle.std.specs.Prelude.{◌≡◌, []};
     ghost use Rattle.std.proofs.Common.{inl};
     ghost use Rattle.oram_client.specs.BatchExchanges.{reconnects_are_batches};
 

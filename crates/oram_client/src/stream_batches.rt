@@ -237,6 +237,7 @@ impl<R: Read, W: Write> StreamBatches<R, W> {
 }
 
 impl<R: Read, W: Write> BatchLink for StreamBatches<R, W> {
+    ghost use Rattle.std.specs.Prelude.{◌≡◌, []};
     ghost use Rattle.std.proofs.Common.{inl};
     ghost use Rattle.oram_client.specs.StreamBatches.{StreamBatch};
     ghost use Rattle.oram_client.specs.BatchExchanges.{streams_are_batches};

@@ -170,6 +170,7 @@ impl<S: Read + Write, C: Clock> TimedLink<S, C> {
 }
 
 impl<S: Read + Write, C: Clock> BatchLink for TimedLink<S, C> {
+    ghost use Rattle.std.specs.Prelude.{◌≡◌, []};
     ghost use Rattle.std.proofs.Common.{inl};
     ghost use Rattle.oram_client.specs.StreamBatches.{StreamBatch};
     ghost use Rattle.oram_client.specs.BatchExchanges.{streams_are_batches};

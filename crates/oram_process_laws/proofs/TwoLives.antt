@@ -22,13 +22,13 @@ use Rattle.oram_process_laws.proofs.Lives.{right_by}
 -- what the processes do
 
 first_goes : DoesSteps one_block DirectBatches reads_kept (process_with new_core new_core) first_steps now
-first_goes = (process_with reading_core new_core, (accepts, refl, refl), (now, (λ bytes back. back, refl, refl), refl))
+first_goes = (process_with reading_core new_core, (accepts, refl, refl), (now, (λ bytes back. back, refl, refl, inl refl), refl))
 
 second_goes : DoesSteps one_block DirectBatches reads_kept now second_steps now
 second_goes = (
   process_with lost_core reading_core,
   ((inl refl, loses, refl), refl),
-  (now, ((inr refl, sends_again, refl), refl), (now, (λ bytes back. back, refl, refl), (now_ahead, ((went, refl), refl), (now, ((fetch_body 0 0, awaits, called, refl), refl), refl)))),
+  (now, ((inr refl, sends_again, refl), refl), (now, (λ bytes back. back, refl, refl, inl refl), (now_ahead, ((went, refl), refl), (now, ((fetch_body 0 0, awaits, called, refl), refl), refl)))),
 )
 
 -- The first process ends while its FETCH goes ahead.

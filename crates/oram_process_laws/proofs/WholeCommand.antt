@@ -84,7 +84,7 @@ safe may_lie =
 acts : DoesAll one_block DirectBatches reads_kept (process_with reading_core new_core) whole_acts whole_process
 acts = (
   now,
-  (λ bytes back. back, refl, refl),
+  (λ bytes back. back, refl, refl, inl refl),
   (
     now_ahead,
     ((went, refl), refl),

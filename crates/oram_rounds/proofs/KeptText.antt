@@ -1,4 +1,4 @@
--- A file has one list of STOREs, and one core after them.
+-- A file has one list of STOREs, and one note and one core after them.
 use Rattle.std.proofs.Common.{◌≡◌, ◌≢◌, ℕ, ◌+◌, ◌-◌, ◌<◌, ◌≤◌, ◌^◌, arith, List, [], ◌∷◌, ◌++◌, length, drop, take, refl, sym, ap, ◌∙◌, subst, append_assoc, length-append}
 use Rattle.std.specs.Int.{w64, from_be_bytes, to_be_bytes}
 use Rattle.std.specs.List.{AllByRecursion, flat_map}
@@ -8,7 +8,7 @@ use Rattle.oram_trace.proofs.Leftover.{append_parts}
 use Rattle.oram_state.specs.DecodedCore.{AreSavedFields}
 use Rattle.oram_state.proofs.Sized.{one_core_bare}
 use Rattle.oram_state.proofs.Tools.{IsBytes, IsBytes-drop, IsBytes-take}
-use Rattle.oram_rounds.specs.Files.{AreCounted, FilesTellOfOneProcess, checksum, kept_text, store_text, stores_text, with_checksum}
+use Rattle.oram_rounds.specs.Files.{AreCounted, FilesTellOfOneProcess, IsShort, checksum, kept_text, sized_text, stores_text, with_checksum}
 
 -- the first eight bytes are those of the number that they are read as
 pub number_front : (bytes number rest : List ℕ) (n : ℕ) → IsBytes bytes → number ≡ take 8 bytes → rest ≡ drop 8 bytes → length rest + 8 ≡ length bytes → n ≡ from_be_bytes w64 number
@@ -58,8 +58,8 @@ number_same m n r t low_m low_n e =
     let parts = append_parts (to_be_bytes w64 m) r (to_be_bytes w64 n) t refl e in
     (sym (from_be_bytes-to_be_bytes_8 m low_m) ∙ ap (from_be_bytes w64) parts.0 ∙ from_be_bytes-to_be_bytes_8 n low_n, parts.1)
 
-store_same : (a b r t : List ℕ) → length a < 2 ^ 64 → length b < 2 ^ 64 → store_text a ++ r ≡ store_text b ++ t → (a ≡ b) × (r ≡ t)
-store_same a b r t low_a low_b e =
+sized_same : (a b r t : List ℕ) → length a < 2 ^ 64 → length b < 2 ^ 64 → sized_text a ++ r ≡ sized_text b ++ t → (a ≡ b) × (r ≡ t)
+sized_same a b r t low_a low_b e =
     let apart : to_be_bytes w64 (length a) ++ (a ++ r) ≡ to_be_bytes w64 (length b) ++ (b ++ t) =
     sym (append_assoc (to_be_bytes w64 (length a)) a r) ∙ e ∙ append_assoc (to_be_bytes w64 (length b)) b t in
     let lengths = number_same (length a) (length b) (a ++ r) (b ++ t) low_a low_b apart in
@@ -69,16 +69,16 @@ store_same a b r t low_a low_b e =
 record GoesOn (xs ys : List (List ℕ)) (r t : List ℕ) : Type 0 where
   more : List (List ℕ)
   all : ys ≡ xs ++ more
-  behind : r ≡ flat_map store_text more ++ t
+  behind : r ≡ flat_map sized_text more ++ t
 
 goes_on : (xs ys : List (List ℕ)) (r t : List ℕ) → AreShort xs → AreShort ys → length xs ≤ length ys
-    → flat_map store_text xs ++ r ≡ flat_map store_text ys ++ t → GoesOn xs ys r t
+    → flat_map sized_text xs ++ r ≡ flat_map sized_text ys ++ t → GoesOn xs ys r t
 goes_on [] ys r t short_x short_y fewer e = record { more = ys; all = refl; behind = e }
 goes_on (x ∷ xs) [] r t short_x short_y fewer e = absurd (omega (arith, fewer))
 goes_on (x ∷ xs) (y ∷ ys) r t short_x short_y fewer e =
-    let f : List ℕ = flat_map store_text xs in
-    let g : List ℕ = flat_map store_text ys in
-    let one = store_same x y (f ++ r) (g ++ t) short_x.0 short_y.0 (sym (append_assoc (store_text x) f r) ∙ e ∙ append_assoc (store_text y) g t) in
+    let f : List ℕ = flat_map sized_text xs in
+    let g : List ℕ = flat_map sized_text ys in
+    let one = sized_same x y (f ++ r) (g ++ t) short_x.0 short_y.0 (sym (append_assoc (sized_text x) f r) ∙ e ∙ append_assoc (sized_text y) g t) in
     let rest = goes_on xs ys r t short_x.1 short_y.1 (omega (arith, fewer)) one.1 in
     record {
       more = rest.more;
@@ -92,15 +92,15 @@ none_left xs (m ∷ more) same = absurd (omega (arith, same, length-append xs (m
 
 pub texts_same : (xs ys : List (List ℕ)) (r t : List ℕ) → AreCounted xs → AreCounted ys → stores_text xs ++ r ≡ stores_text ys ++ t → (xs ≡ ys) × (r ≡ t)
 texts_same xs ys r t counted_x counted_y e =
-    let f : List ℕ = flat_map store_text xs in
-    let g : List ℕ = flat_map store_text ys in
+    let f : List ℕ = flat_map sized_text xs in
+    let g : List ℕ = flat_map sized_text ys in
     let apart : to_be_bytes w64 (length xs) ++ (f ++ r) ≡ to_be_bytes w64 (length ys) ++ (g ++ t) =
     sym (append_assoc (to_be_bytes w64 (length xs)) f r) ∙ e ∙ append_assoc (to_be_bytes w64 (length ys)) g t in
     let count = number_same (length xs) (length ys) (f ++ r) (g ++ t) counted_x.0 counted_y.0 apart in
     let on = goes_on xs ys r t counted_x.1 counted_y.1 (omega (arith, count.0)) count.1 in
     let none : on.more ≡ [] = none_left xs on.more (sym (ap length on.all) ∙ sym count.0) in (
       sym (on.all ∙ ap (λ (bs : List (List ℕ)). xs ++ bs) none ∙ nothing_more xs),
-      on.behind ∙ ap (λ (bs : List (List ℕ)). flat_map store_text bs ++ t) none,
+      on.behind ∙ ap (λ (bs : List (List ℕ)). flat_map sized_text bs ++ t) none,
     )
   where
     nothing_more : (zs : List (List ℕ)) → zs ++ [] ≡ zs
@@ -109,23 +109,23 @@ texts_same xs ys r t counted_x counted_y e =
 
 -- if no STORE follows the first ones, and these are fewer than announced, the text is that of no list
 pub torn_here : (bytes : List ℕ) (count : ℕ) (stores : List (List ℕ)) (rest : List ℕ) → count < 2 ^ 64
-    → bytes ≡ to_be_bytes w64 count ++ (flat_map store_text stores ++ rest) → AreShort stores → length stores < count
-    → ((s r : List ℕ) → length s < 2 ^ 64 → rest ≢ store_text s ++ r)
+    → bytes ≡ to_be_bytes w64 count ++ (flat_map sized_text stores ++ rest) → AreShort stores → length stores < count
+    → ((s r : List ℕ) → length s < 2 ^ 64 → rest ≢ sized_text s ++ r)
     → (others : List (List ℕ)) (t : List ℕ) → AreCounted others → bytes ≢ stores_text others ++ t
 torn_here bytes count stores rest low is short fewer none others t counted e =
-    let f : List ℕ = flat_map store_text stores in
-    let g : List ℕ = flat_map store_text others in
+    let f : List ℕ = flat_map sized_text stores in
+    let g : List ℕ = flat_map sized_text others in
     let apart : to_be_bytes w64 count ++ (f ++ rest) ≡ to_be_bytes w64 (length others) ++ (g ++ t) =
     sym is ∙ e ∙ append_assoc (to_be_bytes w64 (length others)) g t in
     let same = number_same count (length others) (f ++ rest) (g ++ t) low counted.0 apart in
     let on = goes_on stores others rest t short counted.1 (omega (arith, fewer, same.0)) same.1 in
     by on.more on.all on.behind same.0
   where
-    by : (more : List (List ℕ)) → others ≡ stores ++ more → rest ≡ flat_map store_text more ++ t → count ≡ length others → ⊥
+    by : (more : List (List ℕ)) → others ≡ stores ++ more → rest ≡ flat_map sized_text more ++ t → count ≡ length others → ⊥
     by [] all behind same = omega (arith, fewer, same, ap length all, length-append stores [])
     by (m ∷ more) all behind same =
         let low_m : length m < 2 ^ 64 = (short_end stores m more (subst AreShort all counted.1)).0 in
-        none m (flat_map store_text more ++ t) low_m (behind ∙ append_assoc (store_text m) (flat_map store_text more) t)
+        none m (flat_map sized_text more ++ t) low_m (behind ∙ append_assoc (sized_text m) (flat_map sized_text more) t)
       where
         short_end : (front : List (List ℕ)) (b : List ℕ) (back : List (List ℕ)) → AreShort (front ++ b ∷ back) → (length b < 2 ^ 64) × AreShort back
         short_end [] b back all = all
@@ -136,16 +136,34 @@ short_more [] b short low = (low, tt)
 short_more (x ∷ front) b short low = (short.0, short_more front b short.1 low)
 
 -- what a file is written from
-pub kept_by : (stores : List (List ℕ)) (start text summed file fields number : List ℕ) (check : ℕ) → start ≡ [] → text ≡ start ++ stores_text stores → summed ≡ text ++ fields → check ≡ checksum summed
-    → number ≡ to_be_bytes w64 check → file ≡ summed ++ number → file ≡ kept_text stores fields
-kept_by stores start text summed file fields number check none pushed adds sum is all =
-    let same : summed ≡ stores_text stores ++ fields = adds ∙ ap (λ (b : List ℕ). b ++ fields) (pushed ∙ ap (λ (b : List ℕ). b ++ stores_text stores) none) in
-    all ∙ ap (λ (b : List ℕ). summed ++ b) (is ∙ ap (to_be_bytes w64) sum) ∙ ap with_checksum same
+pub summed_by : (stores : List (List ℕ)) (note start text noted summed fields : List ℕ) → start ≡ [] → text ≡ start ++ stores_text stores → noted ≡ text ++ sized_text note → summed ≡ noted ++ fields
+    → summed ≡ stores_text stores ++ (sized_text note ++ fields)
+summed_by stores note start text noted summed fields none pushed notes adds =
+    let same : text ≡ stores_text stores = pushed ∙ ap (λ (b : List ℕ). b ++ stores_text stores) none in
+    adds ∙ ap (λ (b : List ℕ). b ++ fields) (notes ∙ ap (λ (b : List ℕ). b ++ sized_text note) same) ∙ append_assoc (stores_text stores) (sized_text note) fields
+
+pub checked_by : (text summed number file : List ℕ) (check : ℕ) → summed ≡ text → check ≡ checksum summed → number ≡ to_be_bytes w64 check → file ≡ summed ++ number
+    → (file ≡ with_checksum text) × (check ≡ checksum text)
+checked_by text summed number file check same sum is all =
+    (all ∙ ap (λ (b : List ℕ). summed ++ b) (is ∙ ap (to_be_bytes w64) sum) ∙ ap with_checksum same, sum ∙ ap checksum same)
 
 -- two files that are equal
-pub kept_same : (xs ys : List (List ℕ)) (fields other : List ℕ) → AreCounted xs → AreCounted ys → kept_text xs fields ≡ kept_text ys other → (xs ≡ ys) × (fields ≡ other)
-kept_same xs ys fields other counted_x counted_y e =
-    texts_same xs ys fields other counted_x counted_y (sums_same (stores_text xs ++ fields) (stores_text ys ++ other) e)
+pub kept_same : (xs ys : List (List ℕ)) (a b fields other : List ℕ) → AreCounted xs → AreCounted ys → IsShort a → IsShort b → kept_text xs a fields ≡ kept_text ys b other
+    → (xs ≡ ys) × (a ≡ b) × (fields ≡ other)
+kept_same xs ys a b fields other counted_x counted_y short_a short_b e =
+    let first = texts_same xs ys (sized_text a ++ fields) (sized_text b ++ other) counted_x counted_y
+        (sums_same (stores_text xs ++ (sized_text a ++ fields)) (stores_text ys ++ (sized_text b ++ other)) e) in
+    let second = sized_same a b fields other short_a short_b first.1 in
+    (first.0, second.0, second.1)
+
+-- where no note follows the STOREs, the file is that of no process
+pub no_note : (file text rest : List ℕ) (read : List (List ℕ)) → file ≡ with_checksum text → text ≡ stores_text read ++ rest → AreCounted read
+    → ((sized behind : List ℕ) → IsShort sized → rest ≢ sized_text sized ++ behind)
+    → (stores : List (List ℕ)) (note fields : List ℕ) → AreCounted stores → IsShort note → file ≢ kept_text stores note fields
+no_note file text rest read whole is counted none stores note fields counted_too short e =
+    let same = texts_same read stores rest (sized_text note ++ fields) counted counted_too
+        (sym is ∙ sums_same text (stores_text stores ++ (sized_text note ++ fields)) (sym whole ∙ e)) in
+    none note fields short same.1
 
 pub longer : (text : List ℕ) (n : ℕ) → 8 ≤ length (text ++ to_be_bytes w64 n)
 longer text n =
@@ -154,6 +172,6 @@ longer text n =
 
 pub one_process : FilesTellOfOneProcess
 one_process overhead d d' bytes stores stores' core core' f g =
-    let same = kept_same stores stores' f.fields g.fields f.counted g.counted (sym f.all ∙ g.all) in
-    let again : AreSavedFields f.fields overhead d' core' = subst (λ (text : List ℕ). AreSavedFields text overhead d' core') (sym same.1) g.saved in
-    let one = one_core_bare f.fields overhead d d' core core' f.saved again in (same.0, one.0, one.1)
+    let same = kept_same stores stores' f.note g.note f.fields g.fields f.counted g.counted f.short g.short (sym f.all ∙ g.all) in
+    let again : AreSavedFields f.fields overhead d' core' = subst (λ (text : List ℕ). AreSavedFields text overhead d' core') (sym same.2) g.saved in
+    let one = one_core_bare f.fields overhead d d' core core' f.saved again in (same.0, one.0, one.1, same.1)

@@ -19,6 +19,7 @@ pub mod Replies
 pub mod AheadInTurn
 pub mod Start
 pub mod Talk
+pub mod Noted
 pub mod Results
 pub mod FailedReplies
 pub mod NewProcess

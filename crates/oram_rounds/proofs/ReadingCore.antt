@@ -131,7 +131,7 @@ saved = record {
 }
 
 abbrev pub file_bytes : List ℕ
-file_bytes = kept_text [] fields
+file_bytes = kept_text [] [] fields
 
 pub is_file : IsFile one_block file_bytes [] reading_core
-is_file = record { counted = (omega arith, tt); fields = fields; saved = saved; all = refl }
+is_file = record { counted = (omega arith, tt); note = []; short = omega arith; fields = fields; saved = saved; all = refl }

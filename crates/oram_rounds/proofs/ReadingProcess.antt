@@ -153,7 +153,7 @@ acts_done : DoesAll one_block DirectBatches reads_kept (process_with reading_cor
 acts_done = (
   process_with lost_core new_core,
   ((inl refl, loses, refl), refl),
-  (process_with reading_core new_core, ((inr refl, sends_again, refl), refl), (now, (λ bytes back. back, refl, refl), (now_ahead, ((went, refl), refl), (now, ((fetch_body 0 0, awaits, called, refl), refl), refl)))),
+  (process_with reading_core new_core, ((inr refl, sends_again, refl), refl), (now, (λ bytes back. back, refl, refl, inl refl), (now_ahead, ((went, refl), refl), (now, ((fetch_body 0 0, awaits, called, refl), refl), refl)))),
 )
 
 served : IsServed one_block reading_core new_host zero_array

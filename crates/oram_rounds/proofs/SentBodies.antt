@@ -96,13 +96,13 @@ pub declines : {B : Type 0} (batches : B → List (List ℕ) → BatchOutcome �
 declines batches l body fault why = ([], inr (inr (inl (record { fault = fault; why = why; answer = refl; none = refl; same = refl; kept = refl; held = refl; ahead = refl }))))
 
 -- all STOREs are kept now
-pub marked : {B : Type 0} (i l : Round B) (is : i ≡ l) (kept held : List (List ℕ)) (ahead : List Exchange) → kept ≡ i.kept ++ i.held → held ≡ [] → ahead ≡ []
-    → (let now : Round B = record i { kept = kept; held = held; ahead = ahead } in let then : Round B = record l { kept = l.kept ++ l.held; held = []; ahead = [] } in now ≡ then)
-marked {B} i l is kept held ahead whole none nothing =
-    ap (λ (k : List (List ℕ)). let r : Round B = record i { kept = k; held = held; ahead = ahead } in r) whole
-    ∙ ap (λ (h : List (List ℕ)). let r : Round B = record i { kept = i.kept ++ i.held; held = h; ahead = ahead } in r) none
-    ∙ ap (λ (a : List Exchange). let r : Round B = record i { kept = i.kept ++ i.held; held = []; ahead = a } in r) nothing
-    ∙ ap (λ (r : Round B). let q : Round B = record r { kept = r.kept ++ r.held; held = []; ahead = [] } in q) is
+pub marked : {B : Type 0} (i l : Round B) (is : i ≡ l) (inner : B) (kept held : List (List ℕ)) (ahead : List Exchange) → kept ≡ i.kept ++ i.held → held ≡ [] → ahead ≡ []
+    → (let now : Round B = record i { inner = inner; kept = kept; held = held; ahead = ahead } in let then : Round B = record l { inner = inner; kept = l.kept ++ l.held; held = []; ahead = [] } in now ≡ then)
+marked {B} i l is inner kept held ahead whole none nothing =
+    ap (λ (k : List (List ℕ)). let r : Round B = record i { inner = inner; kept = k; held = held; ahead = ahead } in r) whole
+    ∙ ap (λ (h : List (List ℕ)). let r : Round B = record i { inner = inner; kept = i.kept ++ i.held; held = h; ahead = ahead } in r) none
+    ∙ ap (λ (a : List Exchange). let r : Round B = record i { inner = inner; kept = i.kept ++ i.held; held = []; ahead = a } in r) nothing
+    ∙ ap (λ (r : Round B). let q : Round B = record r { inner = inner; kept = r.kept ++ r.held; held = []; ahead = [] } in q) is
 
 -- of what went ahead, by what the batch gave
 module _ {B : Type 0} (batches : B → List (List ℕ) → BatchOutcome → List Exchange → B → Type 0) (i l : Round B) (is : i ≡ l) (fetches : List (List ℕ)) (inner : B) (exchanges : List Exchange) (answers acks given : List (List ℕ))

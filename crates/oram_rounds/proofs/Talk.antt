@@ -19,7 +19,7 @@ use Rattle.oram_session.proofs.Honesty.{waits_by}
 use Rattle.oram_link_laws.specs.Runs.{Exchange}
 use Rattle.oram_link_laws.proofs.Exchanged.{folds_join}
 use Rattle.oram_rounds.specs.Batches.{BatchOutcome}
-use Rattle.oram_rounds.specs.Process.{Act, Does, DoesAll, HasTalked, Process, Talks, TalksAll, replies_of}
+use Rattle.oram_rounds.specs.Process.{Act, HasTalked, KeepsNothing, Talks, TalksAll, replies_of}
 use Rattle.oram_rounds.specs.Process.Act.{Calls, GoesAhead, Hears, Keeps, Misses}
 use Rattle.oram_rounds.specs.Rounds.{IsCounted, Round}
 
@@ -116,20 +116,14 @@ module _ {B : Type 0} (batches : B → List (List ℕ) → BatchOutcome → List
         | inr after ↦ (x.replies, delivered x.stalls x.last p.0 q.0 p.1 q.1 x.message x.replies waits.0 cut.message cut.stalls cut.link after)
       ]
 
-  -- the keeper of the process stays as it is
-  pub talks_beside : {K : Type 0} (reads_back : K → List ℕ → Type 0) (keeper : K) (acts : List Act) (p q : Side) → TalksAll v batches p acts q
-      → DoesAll v batches reads_back (record { core = p.0; link = p.1; keeper = keeper }) acts (record { core = q.0; link = q.1; keeper = keeper })
-  talks_beside {K} reads_back keeper [] p q all =
-      ap (λ (r : Side). let w : Process B K = record { core = r.0; link = r.1; keeper = keeper } in w) all
-  talks_beside reads_back keeper (Hears event x ∷ acts) p q all =
-      (record { core = all.0.0; link = all.0.1; keeper = keeper }, (all.1, refl), talks_beside reads_back keeper acts all.0 q all.2)
-  talks_beside reads_back keeper (Calls o exchanges x ∷ acts) p q all =
-      (record { core = all.0.0; link = all.0.1; keeper = keeper }, (all.1, refl), talks_beside reads_back keeper acts all.0 q all.2)
-  talks_beside reads_back keeper (Misses o exchanges ∷ acts) p q all =
-      (record { core = all.0.0; link = all.0.1; keeper = keeper }, (all.1, refl), talks_beside reads_back keeper acts all.0 q all.2)
-  talks_beside reads_back keeper (GoesAhead exchanges ∷ acts) p q all =
-      (record { core = all.0.0; link = all.0.1; keeper = keeper }, (all.1, refl), talks_beside reads_back keeper acts all.0 q all.2)
-  talks_beside reads_back keeper (Keeps done ∷ acts) p q all = absurd all.1
+  -- the keeper isn't asked to keep anything
+  pub talks_keep_nothing : (acts : List Act) (p q : Side) → TalksAll v batches p acts q → KeepsNothing acts
+  talks_keep_nothing [] p q all = tt
+  talks_keep_nothing (Hears event x ∷ acts) p q all = talks_keep_nothing acts all.0 q all.2
+  talks_keep_nothing (Calls o exchanges x ∷ acts) p q all = talks_keep_nothing acts all.0 q all.2
+  talks_keep_nothing (Misses o exchanges ∷ acts) p q all = talks_keep_nothing acts all.0 q all.2
+  talks_keep_nothing (GoesAhead exchanges ∷ acts) p q all = talks_keep_nothing acts all.0 q all.2
+  talks_keep_nothing (Keeps done ∷ acts) p q all = absurd all.1
 
   -- a core that was reopened, and has sent its message again or not
 
@@ -158,30 +152,3 @@ module _ {B : Type 0} (batches : B → List (List ℕ) → BatchOutcome → List
     },
     refl,
   )
-
-  -- what a process does after its core and its link have talked without a reply
-  pub done_after : {K : Type 0} (reads_back : K → List ℕ → Type 0) (keeper : K) (u : Scheme) (p q : Side) (r : Process B K) (acts : List Act) → u ≡ v → (talk : HasTalked v batches p [] q)
-      → DoesAll u batches reads_back (record { core = q.0; link = q.1; keeper = keeper }) acts r
-      → (all : List Act) × (flat_map replies_of all ≡ flat_map replies_of acts) × DoesAll v batches reads_back (record { core = p.0; link = p.1; keeper = keeper }) all r
-      × (all ≡ talk.acts ++ acts)
-  done_after {K} reads_back keeper u p q r acts same talk does =
-      let start : Process B K = record { core = p.0; link = p.1; keeper = keeper } in
-      let mid : Process B K = record { core = q.0; link = q.1; keeper = keeper } in
-      let first : DoesAll v batches reads_back start talk.acts mid = talks_beside reads_back keeper talk.acts p q talk.talks in
-      let second : DoesAll v batches reads_back mid acts r = subst (λ (w : Scheme). DoesAll w batches reads_back mid acts r) same does in (
-        talk.acts ++ acts,
-        flat_map-append replies_of talk.acts acts ∙ ap (λ (rs : List Reply). rs ++ flat_map replies_of acts) talk.replied,
-        folds_join {P = Process B K} {A = Act} (Does v batches reads_back) start mid r talk.acts acts first second,
-        refl,
-      )
-
-  -- the keeper fails after that
-  pub kept_not : {K : Type 0} (reads_back : K → List ℕ → Type 0) (keeper : K) (u : Scheme) (p q : Side) (r : Process B K) → u ≡ v → HasTalked v batches p [] q
-      → DoesAll u batches reads_back (record { core = q.0; link = q.1; keeper = keeper }) (Keeps false ∷ []) r
-      → (acts : List Act) × DoesAll v batches reads_back (record { core = p.0; link = p.1; keeper = keeper }) (acts ++ Keeps false ∷ []) r
-  kept_not {K} reads_back keeper u p q r same talk does =
-      let start : Process B K = record { core = p.0; link = p.1; keeper = keeper } in
-      let mid : Process B K = record { core = q.0; link = q.1; keeper = keeper } in
-      let first : DoesAll v batches reads_back start talk.acts mid = talks_beside reads_back keeper talk.acts p q talk.talks in
-      let second : DoesAll v batches reads_back mid (Keeps false ∷ []) r = subst (λ (w : Scheme). DoesAll w batches reads_back mid (Keeps false ∷ []) r) same does in
-      (talk.acts, folds_join {P = Process B K} {A = Act} (Does v batches reads_back) start mid r talk.acts (Keeps false ∷ []) first second)

@@ -9,7 +9,7 @@ use Rattle.std.proofs.lemmas.List.{drop_all, get_or_default, length-map, take_al
 use Rattle.oram_geometry.specs.declared.Sizes.{Sizes}
 use Rattle.oram_link_laws.specs.Repair.{IsAmong}
 use Rattle.oram_rounds.specs.Batches.{texts}
-use Rattle.oram_rounds.specs.Files.{store_text}
+use Rattle.oram_rounds.specs.Files.{sized_text}
 use Rattle.oram_rounds.specs.PathMessages.{ArePathStores}
 
 module _ (xs : List (Vec ℕ)) (i : ℕ) (x : Vec ℕ) (low : i < length xs) (is : x ≡ get_or xs i x) where
@@ -92,14 +92,14 @@ paths_whole d len xs n m all first second =
     subst (ArePathStores d len) (texts_whole xs n m all) (paths_join d len (texts (take n xs)) (texts (drop n xs)) first second)
 
 -- one more STORE at the end of a file
-pub written_more : (start count : List ℕ) (front : List (List ℕ)) (body file new : List ℕ) → file ≡ start ++ (count ++ flat_map store_text front) → new ≡ file ++ store_text body
-    → new ≡ start ++ (count ++ flat_map store_text (front ++ body ∷ []))
+pub written_more : (start count : List ℕ) (front : List (List ℕ)) (body file new : List ℕ) → file ≡ start ++ (count ++ flat_map sized_text front) → new ≡ file ++ sized_text body
+    → new ≡ start ++ (count ++ flat_map sized_text (front ++ body ∷ []))
 written_more start count front body file new before is =
-    let f : List ℕ = flat_map store_text front in
-    let more : f ++ store_text body ≡ flat_map store_text (front ++ body ∷ []) =
-    sym (flat_map-append store_text front (body ∷ []) ∙ ap (λ (t : List ℕ). f ++ t) (append-nil (store_text body))) in
-    is ∙ ap (λ (t : List ℕ). t ++ store_text body) before ∙ append_assoc start (count ++ f) (store_text body)
-    ∙ ap (λ (t : List ℕ). start ++ t) (append_assoc count f (store_text body)) ∙ ap (λ (t : List ℕ). start ++ (count ++ t)) more
+    let f : List ℕ = flat_map sized_text front in
+    let more : f ++ sized_text body ≡ flat_map sized_text (front ++ body ∷ []) =
+    sym (flat_map-append sized_text front (body ∷ []) ∙ ap (λ (t : List ℕ). f ++ t) (append-nil (sized_text body))) in
+    is ∙ ap (λ (t : List ℕ). t ++ sized_text body) before ∙ append_assoc start (count ++ f) (sized_text body)
+    ∙ ap (λ (t : List ℕ). start ++ t) (append_assoc count f (sized_text body)) ∙ ap (λ (t : List ℕ). start ++ (count ++ t)) more
 
 pub some_texts : (vecs : List (Vec ℕ)) → ((vecs ≡ []) → ⊥) → texts vecs ≡ [] → ⊥
 some_texts [] some none = some refl

@@ -37,6 +37,7 @@ fn call_each<L: Link>(
 }
 
 impl<L: Link> BatchLink for OneByOne<L> {
+    ghost use Rattle.std.specs.Prelude.{◌≡◌, []};
     ghost use Rattle.std.proofs.Common.{inl};
     ghost use Rattle.oram_link_laws.specs.Runs.{LinkRun};
     ghost use Rattle.oram_rounds.specs.Batches.{IsBatch};

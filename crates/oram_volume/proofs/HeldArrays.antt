@@ -86,7 +86,7 @@ module _ {B K : Type 0} (batches : B → List (List ℕ) → BatchOutcome → Li
   forgotten (Calls o exchanges x ∷ acts) p q does = (does.0, does.1, forgotten acts does.0 q does.2)
   forgotten (Misses o exchanges ∷ acts) p q does = (does.0, does.1, forgotten acts does.0 q does.2)
   forgotten (GoesAhead exchanges ∷ acts) p q does = (does.0, does.1, forgotten acts does.0 q does.2)
-  forgotten (Keeps true ∷ acts) p q does = (does.0, (λ bytes back. absurd back, does.1.1, does.1.2), forgotten acts does.0 q does.2)
+  forgotten (Keeps true ∷ acts) p q does = (does.0, (λ bytes back. absurd back, does.1.1, does.1.2, does.1.3), forgotten acts does.0 q does.2)
   forgotten (Keeps false ∷ acts) p q does = (does.0, (λ bytes back. absurd back, does.1.1, does.1.2), forgotten acts does.0 q does.2)
 
   -- acts are steps of the process, and so are submissions

@@ -1,7 +1,7 @@
 //! Rows of files of a process that aren't whole.
 
 use oram_bucket::{ChaChaSeal, PlainSeal};
-use oram_rounds::{KeptCoreFault, decode_kept};
+use oram_rounds::{KeptCore, KeptCoreFault, ProcessFile, decode_kept};
 use oram_state::{StateFault, decode_fields};
 use rows::{Page, RowFault};
 use std::alloc::Global;
@@ -41,6 +41,30 @@ impl Tally {
         page.word("taken");
         page.number(self.taken);
     }
+}
+
+/// Reads a file, and writes how many STOREs it has, its note, and whether its checksum is the one that its writer gave.
+pub(crate) fn tell_read_file(
+    alloc: Global,
+    file: &ProcessFile,
+    page: &mut Page,
+) -> Result<(), RowFault> {
+    let KeptCore {
+        stores,
+        note,
+        check,
+        ..
+    } = match decode_kept(alloc, PlainSeal, &file.bytes) {
+        Ok(kept) => kept,
+        Err(_) => return Err(RowFault::NoRow),
+    };
+    page.word("stores");
+    page.number(stores.len());
+    page.word("note");
+    page.bytes(&note);
+    page.word("checksum");
+    page.flag(check == file.check);
+    Ok(())
 }
 
 /// Reads the file cut short at each length.

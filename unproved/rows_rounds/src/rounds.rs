@@ -3,7 +3,9 @@
 use crate::devices::{new_device, standing};
 use crate::hosts::{HostPlace, Sent, Way};
 use crate::keepers::{MemoryKeeper, Room};
-use crate::kept_files::{tell_cut_fields, tell_cut_files, tell_flipped_files, tell_other_sealer};
+use crate::kept_files::{
+    tell_cut_fields, tell_cut_files, tell_flipped_files, tell_other_sealer, tell_read_file,
+};
 use crate::lives::{Life, link_for};
 use crate::plain_arrays::{many_commands, right_replies};
 use oram_bytes::Bytes;
@@ -57,6 +59,7 @@ impl<'a> Rounds<'a> {
             "faults" => self.faults(page),
             "order" => self.order(page),
             "takes" => self.takes(alloc, words, page),
+            "noted" => self.noted(alloc, words, page),
             _ => self.file_row(alloc, call, page),
         }
     }
@@ -247,6 +250,20 @@ impl<'a> Rounds<'a> {
         let link = link_for(alloc, place, &self.life()?.core, words.bodies(alloc));
         page.flag(link.is_some());
         Ok(())
+    }
+
+    /// `noted NOTE`: writes the file of the process with this note, and what is read back of it.
+    fn noted(
+        &mut self,
+        alloc: Global,
+        words: &mut RowWords,
+        page: &mut Page,
+    ) -> Result<(), RowFault> {
+        let life = self.life()?;
+        let note = words.bytes(alloc);
+        let file = encode_kept(alloc, life.link.waiting(), &note, &life.core)?;
+        page.bytes(&file.bytes);
+        tell_read_file(alloc, &file, page)
     }
 
     /// `file`: writes the file of the process as it is now. `fields`: writes the fields of its core alone. `cut_files`,

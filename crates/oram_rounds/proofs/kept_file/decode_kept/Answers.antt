@@ -6,17 +6,17 @@ use Rattle.oram_rounds.proofs.kept_file.decode_kept.Goals as goal
 
 pub returns-in-Ok-clause-same : goal.returns-in-Ok-clause-same
 returns-in-Ok-clause-same g c = λ d stores core f.
-    let read = c.in_ok-stores.ensures in
-    let same = kept_same (texts c.in_ok-stores.stores.items) stores c.in_ok-stores.fields.now f.fields read.counted f.counted (sym read.ok ∙ f.all) in
-    let again : AreSavedFields c.in_ok-stores.fields.now (g.S.Sealer.cipher c.args.sealer).overhead d core =
-    subst (λ (text : List ℕ). AreSavedFields text (g.S.Sealer.cipher c.args.sealer).overhead d core) (sym same.1) f.saved in
+    let read = c.in_ok-parts.ensures in
+    let same = kept_same (texts c.in_ok-parts.parts.stores.items) stores c.in_ok-parts.parts.note.now f.note c.in_ok-parts.parts.fields.now f.fields read.counted f.counted read.short f.short (sym read.ok ∙ f.all) in
+    let again : AreSavedFields c.in_ok-parts.parts.fields.now (g.S.Sealer.cipher c.args.sealer).overhead d core =
+    subst (λ (text : List ℕ). AreSavedFields text (g.S.Sealer.cipher c.args.sealer).overhead d core) (sym same.2) f.saved in
     let one = c.in-Ok.ensures.same d core again in
-    (same.0, one.0, one.1)
+    (same.0, one.0, one.1, c.in_ok-note.ensures ∙ same.1)
 
 pub returns-in-Err-clause-only : goal.returns-in-Err-clause-only
 returns-in-Err-clause-only g c = λ d stores core f.
-    let read = c.in_ok-stores.ensures in
-    let same = kept_same (texts c.in_ok-stores.stores.items) stores c.in_ok-stores.fields.now f.fields read.counted f.counted (sym read.ok ∙ f.all) in
-    let again : AreSavedFields c.in_ok-stores.fields.now (g.S.Sealer.cipher c.args.sealer).overhead d core =
-    subst (λ (text : List ℕ). AreSavedFields text (g.S.Sealer.cipher c.args.sealer).overhead d core) (sym same.1) f.saved in
+    let read = c.in_ok-parts.ensures in
+    let same = kept_same (texts c.in_ok-parts.parts.stores.items) stores c.in_ok-parts.parts.note.now f.note c.in_ok-parts.parts.fields.now f.fields read.counted f.counted read.short f.short (sym read.ok ∙ f.all) in
+    let again : AreSavedFields c.in_ok-parts.parts.fields.now (g.S.Sealer.cipher c.args.sealer).overhead d core =
+    subst (λ (text : List ℕ). AreSavedFields text (g.S.Sealer.cipher c.args.sealer).overhead d core) (sym same.2) f.saved in
     c.from.ensures.0 (c.in-Err.ensures.only d core again)

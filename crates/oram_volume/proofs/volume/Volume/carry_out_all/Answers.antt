@@ -7,6 +7,7 @@ use Rattle.oram_nbd.proofs.Saving.{part_weaker}
 use Rattle.oram_core.specs.Core.{scheme_of}
 use Rattle.oram_rounds.specs.Process.{process}
 use Rattle.oram_rounds.specs.Process.Act.{Keeps}
+use Rattle.oram_rounds.proofs.Noted.{noted_does}
 use Rattle.oram_volume.specs.HeldArrays.{HoldsArray, running}
 use Rattle.oram_volume.proofs.Answered.{NoneFailed}
 use Rattle.oram_volume.proofs.Carried.{all_done, asked_round, first_none, front_of, has_failed_by, lied, lies_if, none_begun, performed_done, performed_left, performed_stops, some_left, submitted_done}
@@ -73,10 +74,13 @@ returns-in_default-clause-stopped g c = λ e.
 pub returns-in-Ok-clause-goes : goal.returns-in-Ok-clause-goes
 returns-in-Ok-clause-goes g c =
     let k = c.in-Ok.ensures.ok in
+    let does = noted_does g.B.BatchLink.batches g.B.BatchLink.notes g.B.BatchLink.learns g.K.Keeper.reads_back (scheme_of g.S.Sealer.cipher c.submit_all.new.core) (Keeps true ∷ k.0)
+        (process c.submit_all.new.core.state c.resume.new.self.link c.resume.new.self.keeper)
+        (process c.perform-performed.new.core.state c.perform-performed.new.link c.perform-performed.new.keeper) k.2 in
     let lives = none_by c.resume.new.self.core.state.failure (ap is_some (sym c.failure.ensures) ∙ sym c.is_some.ensures ∙ c.if-is_some.false) in
     weaker (lied g.S.Sealer.cipher g.T.Tape.words g.B.BatchLink.batches g.K.Keeper.reads_back g.met.B.BatchLink.are_batches c.args.self.now c.resume.new.self c.resume.ensures.kept c.resume.ensures.tape
     c.resume.ensures.goes c.args.commands.items c.requires c.submit_all.new.core c.submit_all.new.tape c.submit_all.ensures.kept c.submit_all.ensures.tape
-    c.perform-performed.new.core c.perform-performed.new.link c.perform-performed.new.keeper c.perform-performed.ensures.kept (Keeps true ∷ k.0) k.2 c.in_ok-begun.field-0.notes.items c.in_ok-begun.ensures.ok
+    c.perform-performed.new.core c.perform-performed.new.link c.perform-performed.new.keeper c.perform-performed.ensures.kept (Keeps true ∷ k.0) does c.in_ok-begun.field-0.notes.items c.in_ok-begun.ensures.ok
     c.in_ok-resume.ensures.no_work lives c.in-Ok.replies.items k.1 c.in-Ok.ensures.count k.0 refl
     (λ none. c.has_failure.ensures.yes c.if-has_failure.true (subst NoneFailed (sym c.deref.ensures.value) none)))
     (λ may_lie world old new h step. (step.0.0, λ e. step.1, step.0.1))
@@ -88,10 +92,13 @@ returns-in-Ok-clause-failing g c = λ e.
 pub returns-in-Ok-2-clause-goes : goal.returns-in-Ok-2-clause-goes
 returns-in-Ok-2-clause-goes g c =
     let k = c.in-Ok-2.ensures.ok in
+    let does = noted_does g.B.BatchLink.batches g.B.BatchLink.notes g.B.BatchLink.learns g.K.Keeper.reads_back (scheme_of g.S.Sealer.cipher c.submit_all.new.core) (Keeps true ∷ k.0)
+        (process c.submit_all.new.core.state c.resume.new.self.link c.resume.new.self.keeper)
+        (process c.perform-performed.new.core.state c.perform-performed.new.link c.perform-performed.new.keeper) k.2 in
     let lives = none_by c.resume.new.self.core.state.failure (ap is_some (sym c.failure.ensures) ∙ sym c.is_some.ensures ∙ c.if-is_some.false) in
     weaker (performed_done g.S.Sealer.cipher g.T.Tape.words g.B.BatchLink.batches g.K.Keeper.reads_back g.met.B.BatchLink.are_batches c.args.self.now c.resume.new.self c.resume.ensures.kept c.resume.ensures.tape
     c.resume.ensures.goes c.args.commands.items c.requires c.submit_all.new.core c.submit_all.new.tape c.submit_all.ensures.kept c.submit_all.ensures.tape
-    c.perform-performed.new.core c.perform-performed.new.link c.perform-performed.new.keeper c.perform-performed.ensures.kept (Keeps true ∷ k.0) k.2
+    c.perform-performed.new.core c.perform-performed.new.link c.perform-performed.new.keeper c.perform-performed.ensures.kept (Keeps true ∷ k.0) does
     (front_of g.S.Sealer.cipher g.T.Tape.words g.B.BatchLink.batches g.K.Keeper.reads_back g.met.B.BatchLink.are_batches c.args.self.now c.resume.new.self c.resume.ensures.kept c.resume.ensures.tape
     c.resume.ensures.goes c.args.commands.items c.requires c.submit_all.new.core c.submit_all.new.tape c.submit_all.ensures.kept c.submit_all.ensures.tape c.in_ok-begun.field-0.notes.items c.in_ok-begun.ensures.ok)
     c.in_ok-resume.ensures.no_work lives (kept_then (Keeps true ∷ k.0) k.0 refl) (λ rests. inr (kept_first k.0)))
@@ -100,39 +107,48 @@ returns-in-Ok-2-clause-goes g c =
 pub returns-in-Ok-2-clause-stopped : goal.returns-in-Ok-2-clause-stopped
 returns-in-Ok-2-clause-stopped g c = λ e.
     let k = c.in-Ok-2.ensures.ok in
+    let does = noted_does g.B.BatchLink.batches g.B.BatchLink.notes g.B.BatchLink.learns g.K.Keeper.reads_back (scheme_of g.S.Sealer.cipher c.submit_all.new.core) (Keeps true ∷ k.0)
+        (process c.submit_all.new.core.state c.resume.new.self.link c.resume.new.self.keeper)
+        (process c.perform-performed.new.core.state c.perform-performed.new.link c.perform-performed.new.keeper) k.2 in
     let size : c.len-count.result ≡ length c.args.commands.items = search rules in
     let fewer : length c.in-Ok-2.replies.items < c.len-count.result = search rules in
     performed_stops g.S.Sealer.cipher g.T.Tape.words g.B.BatchLink.batches g.K.Keeper.reads_back g.met.B.BatchLink.are_batches c.args.self.now c.resume.new.self c.resume.ensures.kept c.resume.ensures.tape
     c.resume.ensures.goes c.args.commands.items c.requires c.submit_all.new.core c.submit_all.new.tape c.submit_all.ensures.kept c.submit_all.ensures.tape
-    c.perform-performed.new.core c.perform-performed.new.link c.perform-performed.new.keeper c.perform-performed.ensures.kept (Keeps true ∷ k.0) k.2 c.in_ok-begun.field-0.notes.items c.in_ok-begun.ensures.ok
+    c.perform-performed.new.core c.perform-performed.new.link c.perform-performed.new.keeper c.perform-performed.ensures.kept (Keeps true ∷ k.0) does c.in_ok-begun.field-0.notes.items c.in_ok-begun.ensures.ok
     (omega (arith, size, fewer, c.in-Ok-2.ensures.count, c.in_ok-begun.ensures.count))
 
 pub returns-in-Ok-3-clause-goes : goal.returns-in-Ok-3-clause-goes
 returns-in-Ok-3-clause-goes g c =
     let k = c.in-Ok.ensures.ok in
+    let does = noted_does g.B.BatchLink.batches g.B.BatchLink.notes g.B.BatchLink.learns g.K.Keeper.reads_back (scheme_of g.S.Sealer.cipher c.submit_all.new.core) (Keeps true ∷ k.0)
+        (process c.submit_all.new.core.state c.resume.new.self.link c.resume.new.self.keeper)
+        (process c.perform-performed.new.core.state c.perform-performed.new.link c.perform-performed.new.keeper) k.2 in
     let lives = none_by c.resume.new.self.core.state.failure (ap is_some (sym c.failure.ensures) ∙ sym c.is_some.ensures ∙ c.if-is_some.false) in
     let size : c.len-count.result ≡ length c.args.commands.items = search rules in
     let enough : c.len-count.result ≤ length c.in-Ok.replies.items = search rules in
     let none : NoneFailed c.in-Ok.replies.items = subst NoneFailed c.deref.ensures.value (c.has_failure.ensures.no c.if-has_failure.false) in
     weaker (all_done g.S.Sealer.cipher g.T.Tape.words g.B.BatchLink.batches g.K.Keeper.reads_back g.met.B.BatchLink.are_batches c.args.self.now c.resume.new.self c.resume.ensures.kept c.resume.ensures.tape
     c.resume.ensures.goes c.args.commands.items c.requires c.submit_all.new.core c.submit_all.new.tape c.submit_all.ensures.kept c.submit_all.ensures.tape
-    c.perform-performed.new.core c.perform-performed.new.link c.perform-performed.new.keeper c.perform-performed.ensures.kept (Keeps true ∷ k.0) k.2 c.in_ok-begun.field-0.notes.items c.in_ok-begun.ensures.ok
+    c.perform-performed.new.core c.perform-performed.new.link c.perform-performed.new.keeper c.perform-performed.ensures.kept (Keeps true ∷ k.0) does c.in_ok-begun.field-0.notes.items c.in_ok-begun.ensures.ok
     c.in_ok-resume.ensures.no_work lives c.in-Ok.replies.items k.1 c.in-Ok.ensures.count k.0 refl none (omega (arith, size, enough)) c.in_ok-begun.ensures.count)
     (λ may_lie world old new h step. ((step.0, step.1), λ e. cc, record { either = inl step.2 }))
 
 pub returns-in-Err-clause-goes : goal.returns-in-Err-clause-goes
 returns-in-Err-clause-goes g c =
     let k = c.in-Err.ensures.err in
+    let does = noted_does g.B.BatchLink.batches g.B.BatchLink.notes g.B.BatchLink.learns g.K.Keeper.reads_back (scheme_of g.S.Sealer.cipher c.submit_all.new.core) k.0
+        (process c.submit_all.new.core.state c.resume.new.self.link c.resume.new.self.keeper)
+        (process c.perform-performed.new.core.state c.perform-performed.new.link c.perform-performed.new.keeper) k.2 in
     let lives = none_by c.resume.new.self.core.state.failure (ap is_some (sym c.failure.ensures) ∙ sym c.is_some.ensures ∙ c.if-is_some.false) in
     weaker (performed_done g.S.Sealer.cipher g.T.Tape.words g.B.BatchLink.batches g.K.Keeper.reads_back g.met.B.BatchLink.are_batches c.args.self.now c.resume.new.self c.resume.ensures.kept c.resume.ensures.tape
     c.resume.ensures.goes c.args.commands.items c.requires c.submit_all.new.core c.submit_all.new.tape c.submit_all.ensures.kept c.submit_all.ensures.tape
-    c.perform-performed.new.core c.perform-performed.new.link c.perform-performed.new.keeper c.perform-performed.ensures.kept k.0 k.2
+    c.perform-performed.new.core c.perform-performed.new.link c.perform-performed.new.keeper c.perform-performed.ensures.kept k.0 does
     (front_of g.S.Sealer.cipher g.T.Tape.words g.B.BatchLink.batches g.K.Keeper.reads_back g.met.B.BatchLink.are_batches c.args.self.now c.resume.new.self c.resume.ensures.kept c.resume.ensures.tape
     c.resume.ensures.goes c.args.commands.items c.requires c.submit_all.new.core c.submit_all.new.tape c.submit_all.ensures.kept c.submit_all.ensures.tape c.in_ok-begun.field-0.notes.items c.in_ok-begun.ensures.ok)
     c.in_ok-resume.ensures.no_work lives (broken_round_sends k.0 k.1)
     (broken_round_keeps g.B.BatchLink.batches g.K.Keeper.reads_back (scheme_of g.S.Sealer.cipher c.submit_all.new.core) k.0
     (process c.submit_all.new.core.state c.resume.new.self.link c.resume.new.self.keeper)
-    (process c.perform-performed.new.core.state c.perform-performed.new.link c.perform-performed.new.keeper) k.1 k.2))
+    (process c.perform-performed.new.core.state c.perform-performed.new.link c.perform-performed.new.keeper) k.1 does))
     (λ may_lie world old new h some. (some.0, λ e. absurd (c.disk_fault.ensures.failed cc), some.1))
 
 pub returns-in-Err-clause-stopped : goal.returns-in-Err-clause-stopped
@@ -140,16 +156,22 @@ returns-in-Err-clause-stopped g c = λ e.
     elim (c.disk_fault.ensures.stopped cc) [
       | inl stalled ↦
           let k = c.in-Err.ensures.err in
+          let does = noted_does g.B.BatchLink.batches g.B.BatchLink.notes g.B.BatchLink.learns g.K.Keeper.reads_back (scheme_of g.S.Sealer.cipher c.submit_all.new.core) k.0
+              (process c.submit_all.new.core.state c.resume.new.self.link c.resume.new.self.keeper)
+              (process c.perform-performed.new.core.state c.perform-performed.new.link c.perform-performed.new.keeper) k.2 in
           performed_left g.S.Sealer.cipher g.T.Tape.words g.B.BatchLink.batches g.K.Keeper.reads_back g.met.B.BatchLink.are_batches c.args.self.now c.resume.new.self c.resume.ensures.kept c.resume.ensures.tape
           c.resume.ensures.goes c.args.commands.items c.requires c.submit_all.new.core c.submit_all.new.tape c.submit_all.ensures.kept c.submit_all.ensures.tape
-          c.perform-performed.new.core c.perform-performed.new.link c.perform-performed.new.keeper c.perform-performed.ensures.kept k.0 k.2
+          c.perform-performed.new.core c.perform-performed.new.link c.perform-performed.new.keeper c.perform-performed.ensures.kept k.0 does
           (front_of g.S.Sealer.cipher g.T.Tape.words g.B.BatchLink.batches g.K.Keeper.reads_back g.met.B.BatchLink.are_batches c.args.self.now c.resume.new.self c.resume.ensures.kept c.resume.ensures.tape
           c.resume.ensures.goes c.args.commands.items c.requires c.submit_all.new.core c.submit_all.new.tape c.submit_all.ensures.kept c.submit_all.ensures.tape c.in_ok-begun.field-0.notes.items c.in_ok-begun.ensures.ok) (inl (c.in-Err.ensures.stalled cc))
       | inr not_kept ↦
           let k = c.in-Err.ensures.not_kept cc in
+          let does = noted_does g.B.BatchLink.batches g.B.BatchLink.notes g.B.BatchLink.learns g.K.Keeper.reads_back (scheme_of g.S.Sealer.cipher c.submit_all.new.core) (Keeps false ∷ [])
+              (process c.submit_all.new.core.state c.resume.new.self.link c.resume.new.self.keeper)
+              (process c.perform-performed.new.core.state c.perform-performed.new.link c.perform-performed.new.keeper) k.2 in
           performed_left g.S.Sealer.cipher g.T.Tape.words g.B.BatchLink.batches g.K.Keeper.reads_back g.met.B.BatchLink.are_batches c.args.self.now c.resume.new.self c.resume.ensures.kept c.resume.ensures.tape
           c.resume.ensures.goes c.args.commands.items c.requires c.submit_all.new.core c.submit_all.new.tape c.submit_all.ensures.kept c.submit_all.ensures.tape
-          c.perform-performed.new.core c.perform-performed.new.link c.perform-performed.new.keeper c.perform-performed.ensures.kept (Keeps false ∷ []) k.2
+          c.perform-performed.new.core c.perform-performed.new.link c.perform-performed.new.keeper c.perform-performed.ensures.kept (Keeps false ∷ []) does
           (front_of g.S.Sealer.cipher g.T.Tape.words g.B.BatchLink.batches g.K.Keeper.reads_back g.met.B.BatchLink.are_batches c.args.self.now c.resume.new.self c.resume.ensures.kept c.resume.ensures.tape
           c.resume.ensures.goes c.args.commands.items c.requires c.submit_all.new.core c.submit_all.new.tape c.submit_all.ensures.kept c.submit_all.ensures.tape c.in_ok-begun.field-0.notes.items c.in_ok-begun.ensures.ok) (inr ([], refl))
     ]
@@ -169,7 +191,10 @@ returns-in_default-clause-asks g c =
 pub returns-in-Ok-3-clause-asks : goal.returns-in-Ok-3-clause-asks
 returns-in-Ok-3-clause-asks g c =
     let k = c.in-Ok.ensures.ok in
+    let does = noted_does g.B.BatchLink.batches g.B.BatchLink.notes g.B.BatchLink.learns g.K.Keeper.reads_back (scheme_of g.S.Sealer.cipher c.submit_all.new.core) (Keeps true ∷ k.0)
+        (process c.submit_all.new.core.state c.resume.new.self.link c.resume.new.self.keeper)
+        (process c.perform-performed.new.core.state c.perform-performed.new.link c.perform-performed.new.keeper) k.2 in
     let w = c.resume.ensures.takes_none in
     asked_round g.S.Sealer.cipher g.T.Tape.words g.B.BatchLink.batches g.K.Keeper.reads_back g.met.B.BatchLink.are_batches c.args.self.now c.resume.new.self c.resume.ensures.kept c.resume.ensures.tape
     c.resume.ensures.goes c.args.commands.items c.requires c.submit_all.new.core c.submit_all.new.tape c.submit_all.ensures.kept c.submit_all.ensures.tape
-    c.perform-performed.new.core c.perform-performed.new.link c.perform-performed.new.keeper c.perform-performed.ensures.kept (Keeps true ∷ k.0) k.2 w.0 w.1 c.in_ok-begun.field-0.notes.items c.in_ok-begun.ensures.ok
+    c.perform-performed.new.core c.perform-performed.new.link c.perform-performed.new.keeper c.perform-performed.ensures.kept (Keeps true ∷ k.0) does w.0 w.1 c.in_ok-begun.field-0.notes.items c.in_ok-begun.ensures.ok

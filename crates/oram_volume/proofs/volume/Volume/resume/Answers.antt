@@ -8,6 +8,7 @@ use Rattle.oram_rounds.specs.Process.{Act, process}
 use Rattle.oram_rounds.specs.ProcessSteps.{ProcessStep}
 use Rattle.oram_rounds.specs.ProcessSteps.ProcessStep.{Acts}
 use Rattle.oram_rounds.specs.Process.Act.{Keeps}
+use Rattle.oram_rounds.proofs.Noted.{noted_does}
 use Rattle.oram_nbd.specs.declared.faults.DiskFault.TheVariants.{Stopped}
 use Rattle.oram_volume.specs.CarriedOut.{Had, Stops, TakesSteps}
 use Rattle.oram_volume.specs.HeldArrays.{HostHears, HoldsArray, KeepsArray, running}
@@ -32,9 +33,12 @@ returns-clause-goes g c =
     (elim c.match-resume.branch [
       | in-Ok w ↦
           let k = w.in-Ok.ensures.ok in
-          let r = resumed_acts batches back v k.0 p q (λ idle. let s = w.in-Ok.ensures.none idle in same_process s.1 s.2 s.3) k.3 k.2 in
+          let r = resumed_acts batches back v k.0 p q (λ idle. let s = w.in-Ok.ensures.none idle in same_process s.1 s.2 s.3) k.3 (noted_does batches g.B.BatchLink.notes g.B.BatchLink.learns back v k.0 p q k.2) in
           acts_go_on batches back g.met.B.BatchLink.are_batches v words r.0 p q r.1 r.2 r.3
-      | in-Err w ↦ let k = w.in-Err.ensures.err in acts_go_on batches back g.met.B.BatchLink.are_batches v words k.0 p q k.1 (broken_resumption_sends k.0 k.2) (resumption_keeps batches back v k.0 p q (λ works. k.2) k.1)
+      | in-Err w ↦
+          let k = w.in-Err.ensures.err in
+          let does = noted_does batches g.B.BatchLink.notes g.B.BatchLink.learns back v k.0 p q k.1 in
+          acts_go_on batches back g.met.B.BatchLink.are_batches v words k.0 p q does (broken_resumption_sends k.0 k.2) (resumption_keeps batches back v k.0 p q (λ works. k.2) does)
     ])
 
 pub returns-clause-takes_none : goal.returns-clause-takes_none
@@ -50,8 +54,8 @@ returns-clause-takes_none g c =
     subst (λ (u : Scheme). (acts : List Act) × TakesSteps batches back (running g.S.Sealer.cipher g.T.Tape.words old) (map {B = ProcessStep} Acts acts) (record { scheme = u; words = words; process = q }))
     (sym (same_scheme g.S.Sealer.cipher old.core c.resume.new.core c.resume.ensures.kept))
     (elim c.match-resume.branch [
-      | in-Ok w ↦ let k = w.in-Ok.ensures.ok in (k.0, acts_taken batches back are v words k.0 p q k.2)
-      | in-Err w ↦ let k = w.in-Err.ensures.err in (k.0, acts_taken batches back are v words k.0 p q k.1)
+      | in-Ok w ↦ let k = w.in-Ok.ensures.ok in (k.0, acts_taken batches back are v words k.0 p q (noted_does batches g.B.BatchLink.notes g.B.BatchLink.learns back v k.0 p q k.2))
+      | in-Err w ↦ let k = w.in-Err.ensures.err in (k.0, acts_taken batches back are v words k.0 p q (noted_does batches g.B.BatchLink.notes g.B.BatchLink.learns back v k.0 p q k.1))
     ])
 
 pub returns-clause-stopped : goal.returns-clause-stopped
@@ -71,7 +75,7 @@ returns-clause-stopped g c =
       | in-Err w ↦
           let is : w.disk_fault.result ≡ Stopped = (let same = w.result-is in cc) in
           elim (w.disk_fault.ensures.stopped is) [
-            | inl stalled ↦ let k = w.in-Err.ensures.err in acts_stop batches back are v words k.0 p q k.1 (inl (w.in-Err.ensures.stalled cc))
-            | inr not_kept ↦ let k = w.in-Err.ensures.not_kept cc in acts_stop batches back are v words (k.0 ++ Keeps false ∷ []) p q k.1 (inr (k.0, refl))
+            | inl stalled ↦ let k = w.in-Err.ensures.err in acts_stop batches back are v words k.0 p q (noted_does batches g.B.BatchLink.notes g.B.BatchLink.learns back v k.0 p q k.1) (inl (w.in-Err.ensures.stalled cc))
+            | inr not_kept ↦ let k = w.in-Err.ensures.not_kept cc in acts_stop batches back are v words (k.0 ++ Keeps false ∷ []) p q (noted_does batches g.B.BatchLink.notes g.B.BatchLink.learns back v (k.0 ++ Keeps false ∷ []) p q k.1) (inr (k.0, refl))
           ]
     ])
