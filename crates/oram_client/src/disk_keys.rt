@@ -4,7 +4,8 @@ ghost use Rattle.oram_client.specs.Keys as spec;
 
 use crate::kept_file::Head;
 use crate::keys::{
-    DiskKey, Identity, SealerKey, TapeKey, disk_identity, key_check, sealer_key, stamp_key, tape_key,
+    DiskKey, Identity, SealerKey, TapeKey, disk_identity, key_check, sealer_key, stamp_key,
+    tape_key,
 };
 use oram_stamps::StampKey;
 use thiserror::Error;

@@ -2,6 +2,7 @@
 ghost use Rattle.std.specs.Prelude.{◌≡◌, ◌↔◌, [], ◌∷◌, IfErr, IfOk, IsTrue, OnOk};
 ghost use Rattle.oram_wire.specs.HostMessages.{fetch_body, payload_answer, put_body, shape_body};
 ghost use Rattle.oram_client.specs.Ahead.{AreTaken, AreUntaken, HasAnswer};
+ghost use Rattle.oram_client.specs.StampMessages.{stamp_messages, stamp_node, stamp_put, stamps_shape_body};
 ghost use Rattle.oram_client.specs.Identity.{AreUntakenInTurn, IsUnnamed, IsUnrecognized, identity_messages};
 
 use crate::ahead::{Ahead, Progress};

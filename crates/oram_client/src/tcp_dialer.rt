@@ -1,6 +1,11 @@
 //! Connections to the host of a disk, over TCP or over a Unix socket.
-ghost use Rattle.std.specs.Prelude.{◌≡◌, OnOk, IfOk, IfErr, string_bytes};
-ghost use Rattle.oram_wire.specs.HostMessages.{answer_body};
+ghost use Rattle.std.specs.Prelude.{◌≡◌, ◌≢◌, ◌+◌, ◌<◌, ◌++◌, List, OnOk, IfOk, IfErr, MatchBool, string_bytes, vec_len};
+ghost use Rattle.oram_link_laws.specs.Runs.{Exchange};
+ghost use Rattle.oram_rounds.specs.Batches.{texts};
+ghost use Rattle.oram_stamps.specs.Stamps.{shown_text};
+ghost use Rattle.oram_client.specs.Attempts.{attempt_of};
+ghost use Rattle.oram_client.specs.Stamped.{CarriesStamped, GivesNoStamps, GivesStamps, ShowsNoStamps, TakesStamps};
+ghost use Rattle.oram_wire.specs.HostMessages.{answer_body, no_room_answer, payload_answer};
 ghost use Rattle.oram_client.specs.Dialer as spec;
 ghost use Rattle.oram_wire.specs.declared.host_messages.HostAnswer.TheVariants.{Payload};
 ghost use Rattle.oram_client.specs.Dialer.{Shows, IsGreetedOver, IsUngreetedOver};
@@ -200,7 +205,9 @@ impl<R> TcpDialer<R> {
         line: &mut TimedLink<S, C>,
         first: &[Vec<u8>],
         last: &[Vec<u8>],
-    ) -> Result<Vec<Vec<u8>>, Trouble> {
+    ) -> Result<Vec<Vec<u8>>, Trouble>
+        ensures { (exchanges : List Exchange) × CarriesStamped S.remaining S.contents self.old line.old (texts first.now ++ texts last.now) (attempt_of result) exchanges self.new line.new }
+    {
         let stamp = self.known.current();
         let begun = [stamp_message(alloc, &self.key, Place::Begun, &stamp)?];
         let done = [stamp_message(alloc, &self.key, Place::Done, &stamp)?];
@@ -218,7 +225,9 @@ impl<R> TcpDialer<R> {
 
 impl<R: Net + Clock + Copy> Dial for TcpDialer<R> {
     ghost use Rattle.std.specs.Prelude.{◌≡◌};
-    ghost use Rattle.oram_client.specs.Stamped.{CarriesStamped, FailsToOpen, Opens, carries_are_batches};
+    ghost use Rattle.oram_client.specs.Stamped.{CarriesStamped, FailsToOpen, Opens};
+    ghost use Rattle.oram_client.specs.StampedBatches.{carries_are_batches};
+    ghost use Rattle.oram_client.specs.Dialer.{Destination};
     ghost use Rattle.oram_stamps.specs.Known.{kept};
     ghost use Rattle.oram_stamps.specs.Note.{note_text};
     ghost use Rattle.oram_sockets.specs.Connections.{bytes_of};
