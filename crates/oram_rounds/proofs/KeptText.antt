@@ -152,7 +152,7 @@ pub kept_same : (xs ys : List (List ℕ)) (a b fields other : List ℕ) → AreC
     → (xs ≡ ys) × (a ≡ b) × (fields ≡ other)
 kept_same xs ys a b fields other counted_x counted_y short_a short_b e =
     let first = texts_same xs ys (sized_text a ++ fields) (sized_text b ++ other) counted_x counted_y
-        (sums_same (stores_text xs ++ (sized_text a ++ fields)) (stores_text ys ++ (sized_text b ++ other)) e) in
+    (sums_same (stores_text xs ++ (sized_text a ++ fields)) (stores_text ys ++ (sized_text b ++ other)) e) in
     let second = sized_same a b fields other short_a short_b first.1 in
     (first.0, second.0, second.1)
 
@@ -162,7 +162,7 @@ pub no_note : (file text rest : List ℕ) (read : List (List ℕ)) → file ≡ 
     → (stores : List (List ℕ)) (note fields : List ℕ) → AreCounted stores → IsShort note → file ≢ kept_text stores note fields
 no_note file text rest read whole is counted none stores note fields counted_too short e =
     let same = texts_same read stores rest (sized_text note ++ fields) counted counted_too
-        (sym is ∙ sums_same text (stores_text stores ++ (sized_text note ++ fields)) (sym whole ∙ e)) in
+    (sym is ∙ sums_same text (stores_text stores ++ (sized_text note ++ fields)) (sym whole ∙ e)) in
     none note fields short same.1
 
 pub longer : (text : List ℕ) (n : ℕ) → 8 ≤ length (text ++ to_be_bytes w64 n)

@@ -1,7 +1,6 @@
 -- A process that keeps itself, together with the note of its link.
 use Rattle.std.specs.Prelude.{◌≡◌, ◌⊎◌, ℕ, true, false, List, ⊤}
 use Rattle.std.specs.List.{FoldsTo}
-use Rattle.oram_semantics.specs.Run.{Shown}
 use Rattle.oram_semantics.specs.Scheme.{Scheme}
 use Rattle.oram_link_laws.specs.Runs.{Exchange}
 use Rattle.oram_rounds.specs.Batches.{BatchOutcome}

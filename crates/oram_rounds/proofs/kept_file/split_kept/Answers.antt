@@ -1,15 +1,19 @@
-use Rattle.std.proofs.Common.{sym, ap, ◌∙◌, ◌++◌}
+use Rattle.std.proofs.Common.{List, ℕ, Err, sym, ap, ◌∙◌, ◌++◌}
+use Rattle.oram_core.proofs.Fits.{at_err}
 use Rattle.oram_rounds.specs.Batches.{texts}
-use Rattle.oram_rounds.specs.Files.{sized_text, stores_text, with_checksum}
+use Rattle.oram_rounds.specs.Files.{sized_text, stores_text}
+use Rattle.oram_rounds.specs.declared.kept_file.KeptCoreFault.TheVariants as KeptCoreFault
 use Rattle.oram_rounds.proofs.KeptText.{no_note, sums_same}
 use Rattle.oram_rounds.proofs.kept_file.split_kept.Goals as goal
 
-pub returns-in_default-checked-clause-torn : goal.returns-in_default-checked-clause-torn
-returns-in_default-checked-clause-torn c = λ e stores note fields counted short is. c.in_default-checked.ensures.none cc (stores_text stores ++ (sized_text note ++ fields)) is
+pub returns-in_default-clause-torn : goal.returns-in_default-clause-torn
+returns-in_default-clause-torn c = λ e stores note fields counted short is. c.in_default.ensures.none (cc) (stores_text stores ++ (sized_text note ++ fields)) is
 
 pub returns-in_err-stores-clause-torn : goal.returns-in_err-stores-clause-torn
 returns-in_err-stores-clause-torn c = λ e stores note fields counted short is.
-    c.read_stores.ensures.torn e stores (sized_text note ++ fields) counted (sums_same c.in-Some.text.now (stores_text stores ++ (sized_text note ++ fields)) (sym c.in-Some.ensures.some ∙ is))
+    let text : List ℕ = stores_text stores ++ (sized_text note ++ fields) in
+    let torn = ap Err (sym (at_err c.from_residual.result _ KeptCoreFault.Torn e c.from_residual.ensures.1)) in
+    c.in_err-stores.ensures.torn torn stores (sized_text note ++ fields) counted (sums_same c.in-Some.text.now text (sym c.in-Some.ensures.some ∙ is))
 
 pub returns-in_default-next_sized-clause-torn : goal.returns-in_default-next_sized-clause-torn
 returns-in_default-next_sized-clause-torn c = λ e stores note fields counted short is.
