@@ -56,7 +56,7 @@ pub record TakesStamps {A : Type 0} (answers : List (List ℕ)) (count : ℕ) (r
 
 -- the messages of a batch between its stamps
 abbrev pub between : List ℕ → List (List ℕ) → List ℕ → List (List ℕ) → List (List ℕ)
-between begun first done last = (begun ∷ []) ++ first ++ (done ∷ []) ++ last
+between begun first done last = ((begun ∷ []) ++ first) ++ ((done ∷ []) ++ last)
 
 -- a message that puts a record into the stamps' tree
 abbrev pub IsStampPut : List ℕ → Type 0

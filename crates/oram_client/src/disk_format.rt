@@ -9,7 +9,7 @@ ghost use Rattle.oram_client.specs.Formatting.{AreSeen, AreTreesMade, AreTreesMa
 
 use crate::ahead::{Ahead, Progress};
 use crate::faults::FormattingFault;
-use crate::identity::{check_identity, put_identity, put_stamps};
+use crate::identity::{check_identity, put_own};
 use crate::keys::Identity;
 use oram_bucket::Sealer;
 use oram_core::Core;
@@ -112,14 +112,13 @@ pub fn format_ahead<S: Sealer, R: Read, W: Write, P: Progress>(
     ensures device { IfOk result (λ c. c.device ≡ device) }
     ensures sealer { IfOk result (λ c. c.sealer ≡ sealer) }
     ensures made { let v = scheme_with S.cipher device sealer in
-        IfOk result (λ c. IsFormattedAhead R.remaining W.contents v identity.now.0 ahead.old c.state ahead.new) }
+        IfOk result (λ c. IsFormattedAhead R.remaining W.contents v identity.now.0 stamps.now.0 ahead.old c.state ahead.new) }
 
     // What was written and read up to a fault, and which fault it is.
     ensures broken_off { let v = scheme_with S.cipher device sealer in
-        IfErr result (λ fault. IsFormattedInPart R.remaining W.contents v identity.now.0 ahead.old fault ahead.new) }
+        IfErr result (λ fault. IsFormattedInPart R.remaining W.contents v identity.now.0 stamps.now.0 ahead.old fault ahead.new) }
 {
-    put_identity(alloc, identity, ahead)?;
-    put_stamps(alloc, stamps, ahead)?;
+    put_own(alloc, identity, stamps, ahead)?;
     let core = format_trees(alloc, device, sealer, ahead)?;
     check_identity(identity, ahead)?;
     Ok(core)

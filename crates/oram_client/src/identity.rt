@@ -3,7 +3,7 @@ ghost use Rattle.std.specs.Prelude.{◌≡◌, ◌↔◌, [], ◌∷◌, IfErr, 
 ghost use Rattle.oram_wire.specs.HostMessages.{fetch_body, payload_answer, put_body, shape_body};
 ghost use Rattle.oram_client.specs.Ahead.{AreTaken, AreUntaken, HasAnswer};
 ghost use Rattle.oram_client.specs.StampMessages.{stamp_messages, stamp_node, stamp_put, stamps_shape_body};
-ghost use Rattle.oram_client.specs.Identity.{AreUntakenInTurn, IsUnnamed, IsUnrecognized, identity_messages};
+ghost use Rattle.oram_client.specs.Identity.{AreUntakenInTurn, AreUntakenThree, IsUnnamed, IsUnowned, IsUnrecognized, IsUnstamped, identity_messages, own_messages};
 
 use crate::ahead::{Ahead, Progress};
 use crate::faults::FormattingFault;
@@ -81,6 +81,7 @@ fn put_three_in_turn<R: Read, W: Write, P: Progress>(
     third: &[u8],
 ) -> Result<(), SinkFault>
     ensures ok { OnOk result (AreTaken R.remaining W.contents ahead.old (first.now ∷ second.now ∷ third.now ∷ []) ahead.new) }
+    ensures err { IfErr result (λ fault. AreUntakenThree R.remaining W.contents ahead.old first.now second.now third.now fault ahead.new) }
 {
     put_in_turn(ahead, first, second)?;
     put_alone(ahead, third)
@@ -126,12 +127,13 @@ fn stamps_shape(alloc: Global) -> Result<Vec<u8>, AllocError>
 }
 
 /// Puts a disk's first stamp at both of the host's places.
-pub(crate) fn put_stamps<R: Read, W: Write, P: Progress>(
+fn put_stamps<R: Read, W: Write, P: Progress>(
     alloc: Global,
     key: &StampKey,
     ahead: &mut Ahead<R, W, P>,
 ) -> Result<(), FormattingFault>
     ensures ok { OnOk result (AreTaken R.remaining W.contents ahead.old (stamp_messages key.now.0) ahead.new) }
+    ensures err { IfErr result (λ fault. IsUnstamped R.remaining W.contents key.now.0 ahead.old fault ahead.new) }
 {
     let shape = stamps_shape(alloc)?;
     let begun = stamp_message(alloc, key, Place::Begun, &FIRST_STAMP)?;
@@ -144,7 +146,7 @@ pub(crate) fn put_stamps<R: Read, W: Write, P: Progress>(
 
 /// Puts a disk's identity at the host. The host is first asked to make the identity's tree, which it refuses if it keeps a
 /// disk already. Nothing else is sent before it has made that tree.
-pub(crate) fn put_identity<R: Read, W: Write, P: Progress>(
+fn put_identity<R: Read, W: Write, P: Progress>(
     alloc: Global,
     identity: &Identity,
     ahead: &mut Ahead<R, W, P>,
@@ -158,6 +160,20 @@ pub(crate) fn put_identity<R: Read, W: Write, P: Progress>(
         Ok(()) => Ok(()),
         Err(fault) => Err(ahead.formatting_fault(fault)),
     }
+}
+
+/// Puts what a host keeps of a disk beside the device's trees: first the disk's identity, and then its first stamps.
+pub(crate) fn put_own<R: Read, W: Write, P: Progress>(
+    alloc: Global,
+    identity: &Identity,
+    key: &StampKey,
+    ahead: &mut Ahead<R, W, P>,
+) -> Result<(), FormattingFault>
+    ensures ok { OnOk result (AreTaken R.remaining W.contents ahead.old (own_messages identity.now.0 key.now.0) ahead.new) }
+    ensures err { IfErr result (λ fault. IsUnowned R.remaining W.contents identity.now.0 key.now.0 ahead.old fault ahead.new) }
+{
+    put_identity(alloc, identity, ahead)?;
+    put_stamps(alloc, key, ahead)
 }
 
 /// Returns whether an answer gives back the bytes `kept`.

@@ -96,6 +96,17 @@ fn add_frames(frames: &mut Vec<u8>, bodies: &[Vec<u8>]) -> Result<(), LinkFault>
     Ok(())
 }
 
+/// Adds each of the bodies of both lists as a frame. Fails with `TooLong` or `OutOfMemory`.
+fn add_both(frames: &mut Vec<u8>, first: &[Vec<u8>], last: &[Vec<u8>]) -> Result<(), LinkFault>
+    ensures fit { OnOk result (All IsBody (texts first.now ++ texts last.now)) }
+    ensures ok { OnOk result (frames.new.items ≡ frames.old.items ++ flat_map frame (texts first.now ++ texts last.now)) }
+    ensures err { IfErr result (λ fault. AreUnframed (texts first.now ++ texts last.now) fault) }
+{
+    add_frames(frames, first)?;
+    add_frames(frames, last)?;
+    Ok(())
+}
+
 /// Returns the frames of the bodies of all four lists, in this order and in one piece.
 fn framed(
     alloc: Global,
@@ -104,19 +115,17 @@ fn framed(
     between: &[Vec<u8>],
     last: &[Vec<u8>],
 ) -> Result<Vec<u8>, LinkFault>
-    ensures fit { OnOk result (All IsBody (texts before.now ++ texts first.now ++ texts between.now ++ texts last.now)) }
-    ensures ok { IfOk result (λ frames. frames.items ≡ flat_map frame (texts before.now ++ texts first.now ++ texts between.now ++ texts last.now)) }
-    ensures err { IfErr result (λ fault. AreUnframed (texts before.now ++ texts first.now ++ texts between.now ++ texts last.now) fault) }
+    ensures fit { OnOk result (All IsBody ((texts before.now ++ texts first.now) ++ (texts between.now ++ texts last.now))) }
+    ensures ok { IfOk result (λ frames. frames.items ≡ flat_map frame ((texts before.now ++ texts first.now) ++ (texts between.now ++ texts last.now))) }
+    ensures err { IfErr result (λ fault. AreUnframed ((texts before.now ++ texts first.now) ++ (texts between.now ++ texts last.now)) fault) }
 {
     let len = frames_len(before)
         .saturating_add(frames_len(first))
         .saturating_add(frames_len(between))
         .saturating_add(frames_len(last));
     let mut frames = Vec::with_capacity(alloc, len)?;
-    add_frames(&mut frames, before)?;
-    add_frames(&mut frames, first)?;
-    add_frames(&mut frames, between)?;
-    add_frames(&mut frames, last)?;
+    add_both(&mut frames, before, first)?;
+    add_both(&mut frames, between, last)?;
     Ok(frames)
 }
 
@@ -130,8 +139,8 @@ fn send_all<W: Write>(
     between: &[Vec<u8>],
     last: &[Vec<u8>],
 ) -> Result<(), LinkFault>
-    ensures ok { OnOk result (AreSent W.contents writer.old (texts before.now ++ texts first.now ++ texts between.now ++ texts last.now) writer.new) }
-    ensures err { IfErr result (λ fault. FailsToSendAll W.contents writer.old (texts before.now ++ texts first.now ++ texts between.now ++ texts last.now) fault writer.new) }
+    ensures ok { OnOk result (AreSent W.contents writer.old ((texts before.now ++ texts first.now) ++ (texts between.now ++ texts last.now)) writer.new) }
+    ensures err { IfErr result (λ fault. FailsToSendAll W.contents writer.old ((texts before.now ++ texts first.now) ++ (texts between.now ++ texts last.now)) fault writer.new) }
 {
     let frames = framed(alloc, before, first, between, last)?;
     if let Err(WriteFault) = write(writer, &frames) {
@@ -196,7 +205,7 @@ fn carry<R: Read, W: Write>(
     last: &[Vec<u8>],
 ) -> Result<Vec<Vec<u8>>, LinkFault>
     ensures { (exchanges : List Exchange) × Carries R.remaining W.contents
-        reader.old writer.old (texts before.now ++ texts first.now ++ texts between.now ++ texts last.now) (batch_outcome_of result) exchanges reader.new writer.new }
+        reader.old writer.old ((texts before.now ++ texts first.now) ++ (texts between.now ++ texts last.now)) (batch_outcome_of result) exchanges reader.new writer.new }
 {
     send_all(alloc, writer, before, first, between, last)?;
     receive_all(
@@ -217,7 +226,7 @@ impl<R: Read, W: Write> StreamBatches<R, W> {
         last: &[Vec<u8>],
     ) -> Result<Vec<Vec<u8>>, LinkFault>
         ensures { (exchanges : List Exchange) × StreamBatch R.remaining W.contents self.old
-            (texts before.now ++ texts first.now ++ texts between.now ++ texts last.now) (batch_outcome_of result) exchanges self.new }
+            ((texts before.now ++ texts first.now) ++ (texts between.now ++ texts last.now)) (batch_outcome_of result) exchanges self.new }
     {
         if self.is_closed() {
             return Err(LinkFault::Closed);

@@ -1,10 +1,10 @@
 //! Connections to the host of a disk, over TCP or over a Unix socket.
 ghost use Rattle.std.specs.Prelude.{◌≡◌, ◌≢◌, ◌+◌, ◌<◌, ◌++◌, List, OnOk, IfOk, IfErr, MatchBool, string_bytes, vec_len};
 ghost use Rattle.oram_link_laws.specs.Runs.{Exchange};
-ghost use Rattle.oram_rounds.specs.Batches.{texts};
+ghost use Rattle.oram_rounds.specs.Batches.{batch_outcome_of, texts};
 ghost use Rattle.oram_stamps.specs.Stamps.{shown_text};
 ghost use Rattle.oram_client.specs.Attempts.{attempt_of};
-ghost use Rattle.oram_client.specs.Stamped.{CarriesStamped, GivesNoStamps, GivesStamps, ShowsNoStamps, TakesStamps};
+ghost use Rattle.oram_client.specs.Stamped.{CarriesStamped, ComesTo, GivesNoStamps, GivesStamps, ShowsNoStamps, TakesStamps};
 ghost use Rattle.oram_wire.specs.HostMessages.{answer_body, no_room_answer, payload_answer};
 ghost use Rattle.oram_client.specs.Dialer as spec;
 ghost use Rattle.oram_wire.specs.declared.host_messages.HostAnswer.TheVariants.{Payload};
@@ -197,6 +197,26 @@ fn take_stamps(answers: &mut Vec<Vec<u8>>, count: usize) -> Result<(), Trouble>
 }
 
 impl<R> TcpDialer<R> {
+    /// Learns what a batch between its stamps has come to, and returns what its caller receives: all answers but those to the two
+    /// stamps. `count` messages went between the stamps.
+    fn learn_outcome(
+        &mut self,
+        outcome: Result<Vec<Vec<u8>>, LinkFault>,
+        count: usize,
+    ) -> Result<Vec<Vec<u8>>, Trouble>
+        requires { IfOk outcome (λ answers. count + 1 < vec_len answers) }
+        ensures { ComesTo self.old self.old.known count (batch_outcome_of outcome) (attempt_of result) self.new }
+    {
+        match outcome {
+            Ok(mut answers) => {
+                take_stamps(&mut answers, count)?;
+                self.known.settle();
+                Ok(answers)
+            }
+            Err(fault) => Err(Trouble::OutOfReach(fault)),
+        }
+    }
+
     /// Sends a batch between the messages that put the stamp of the last keeping at both of the host's places. All answers but those to
     /// these two are returned.
     fn carry_stamped<S: Read + Write, C: Clock>(
@@ -209,17 +229,11 @@ impl<R> TcpDialer<R> {
         ensures { (exchanges : List Exchange) × CarriesStamped S.remaining S.contents self.old line.old (texts first.now ++ texts last.now) (attempt_of result) exchanges self.new line.new }
     {
         let stamp = self.known.current();
-        let begun = [stamp_message(alloc, &self.key, Place::Begun, &stamp)?];
-        let done = [stamp_message(alloc, &self.key, Place::Done, &stamp)?];
+        let begun = stamp_message(alloc, &self.key, Place::Begun, &stamp)?;
+        let done = stamp_message(alloc, &self.key, Place::Done, &stamp)?;
         self.known.send(alloc)?;
-        match line.call_between(alloc, &begun, first, &done, last) {
-            Ok(mut answers) => {
-                take_stamps(&mut answers, first.len())?;
-                self.known.settle();
-                Ok(answers)
-            }
-            Err(fault) => Err(Trouble::OutOfReach(fault)),
-        }
+        let outcome = line.call_between(alloc, &[begun], first, &[done], last);
+        self.learn_outcome(outcome, first.len())
     }
 }
 

@@ -162,7 +162,7 @@ impl<S: Read + Write, C: Clock> TimedLink<S, C> {
         last: &[Vec<u8>],
     ) -> Result<Vec<Vec<u8>>, LinkFault>
         ensures { (exchanges : List Exchange) × StreamBatch S.remaining S.contents self.old
-            (texts before.now ++ texts first.now ++ texts between.now ++ texts last.now) (batch_outcome_of result) exchanges self.new }
+            ((texts before.now ++ texts first.now) ++ (texts between.now ++ texts last.now)) (batch_outcome_of result) exchanges self.new }
     {
         self.begin_batch();
         self.line.call_between(alloc, before, first, between, last)
