@@ -20,5 +20,5 @@ pub returns-clause-kept : goal.returns-clause-kept
 returns-clause-kept g c =
     let i = c.self.inside in
     let all : c.len-self-inside.result ≡ length i.stores.items = omega (arith, c.len-self-inside.ensures) in
-    marked _ c.args.self.now c.self.view_is c.learn_kept.new.self (texts (take c.len-self-inside.result i.stores.items)) (texts (drop c.len-self-inside.result i.stores.items)) _
+    marked _ c.args.self.now c.self.view_is _ (texts (take c.len-self-inside.result i.stores.items)) (texts (drop c.len-self-inside.result i.stores.items)) _
     (sym (texts_whole i.stores.items i.kept c.len-self-inside.result all)) (texts_none i.stores.items c.len-self-inside.result all) c.none.ensures

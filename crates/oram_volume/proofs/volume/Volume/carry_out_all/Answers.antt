@@ -75,8 +75,8 @@ pub returns-in-Ok-clause-goes : goal.returns-in-Ok-clause-goes
 returns-in-Ok-clause-goes g c =
     let k = c.in-Ok.ensures.ok in
     let does = noted_does g.B.BatchLink.batches g.B.BatchLink.notes g.B.BatchLink.learns g.K.Keeper.reads_back (scheme_of g.S.Sealer.cipher c.submit_all.new.core) (Keeps true ∷ k.0)
-        (process c.submit_all.new.core.state c.resume.new.self.link c.resume.new.self.keeper)
-        (process c.perform-performed.new.core.state c.perform-performed.new.link c.perform-performed.new.keeper) k.2 in
+    (process c.submit_all.new.core.state c.resume.new.self.link c.resume.new.self.keeper)
+    (process c.perform-performed.new.core.state c.perform-performed.new.link c.perform-performed.new.keeper) k.2 in
     let lives = none_by c.resume.new.self.core.state.failure (ap is_some (sym c.failure.ensures) ∙ sym c.is_some.ensures ∙ c.if-is_some.false) in
     weaker (lied g.S.Sealer.cipher g.T.Tape.words g.B.BatchLink.batches g.K.Keeper.reads_back g.met.B.BatchLink.are_batches c.args.self.now c.resume.new.self c.resume.ensures.kept c.resume.ensures.tape
     c.resume.ensures.goes c.args.commands.items c.requires c.submit_all.new.core c.submit_all.new.tape c.submit_all.ensures.kept c.submit_all.ensures.tape
@@ -93,8 +93,8 @@ pub returns-in-Ok-2-clause-goes : goal.returns-in-Ok-2-clause-goes
 returns-in-Ok-2-clause-goes g c =
     let k = c.in-Ok-2.ensures.ok in
     let does = noted_does g.B.BatchLink.batches g.B.BatchLink.notes g.B.BatchLink.learns g.K.Keeper.reads_back (scheme_of g.S.Sealer.cipher c.submit_all.new.core) (Keeps true ∷ k.0)
-        (process c.submit_all.new.core.state c.resume.new.self.link c.resume.new.self.keeper)
-        (process c.perform-performed.new.core.state c.perform-performed.new.link c.perform-performed.new.keeper) k.2 in
+    (process c.submit_all.new.core.state c.resume.new.self.link c.resume.new.self.keeper)
+    (process c.perform-performed.new.core.state c.perform-performed.new.link c.perform-performed.new.keeper) k.2 in
     let lives = none_by c.resume.new.self.core.state.failure (ap is_some (sym c.failure.ensures) ∙ sym c.is_some.ensures ∙ c.if-is_some.false) in
     weaker (performed_done g.S.Sealer.cipher g.T.Tape.words g.B.BatchLink.batches g.K.Keeper.reads_back g.met.B.BatchLink.are_batches c.args.self.now c.resume.new.self c.resume.ensures.kept c.resume.ensures.tape
     c.resume.ensures.goes c.args.commands.items c.requires c.submit_all.new.core c.submit_all.new.tape c.submit_all.ensures.kept c.submit_all.ensures.tape
@@ -108,8 +108,8 @@ pub returns-in-Ok-2-clause-stopped : goal.returns-in-Ok-2-clause-stopped
 returns-in-Ok-2-clause-stopped g c = λ e.
     let k = c.in-Ok-2.ensures.ok in
     let does = noted_does g.B.BatchLink.batches g.B.BatchLink.notes g.B.BatchLink.learns g.K.Keeper.reads_back (scheme_of g.S.Sealer.cipher c.submit_all.new.core) (Keeps true ∷ k.0)
-        (process c.submit_all.new.core.state c.resume.new.self.link c.resume.new.self.keeper)
-        (process c.perform-performed.new.core.state c.perform-performed.new.link c.perform-performed.new.keeper) k.2 in
+    (process c.submit_all.new.core.state c.resume.new.self.link c.resume.new.self.keeper)
+    (process c.perform-performed.new.core.state c.perform-performed.new.link c.perform-performed.new.keeper) k.2 in
     let size : c.len-count.result ≡ length c.args.commands.items = search rules in
     let fewer : length c.in-Ok-2.replies.items < c.len-count.result = search rules in
     performed_stops g.S.Sealer.cipher g.T.Tape.words g.B.BatchLink.batches g.K.Keeper.reads_back g.met.B.BatchLink.are_batches c.args.self.now c.resume.new.self c.resume.ensures.kept c.resume.ensures.tape
@@ -121,8 +121,8 @@ pub returns-in-Ok-3-clause-goes : goal.returns-in-Ok-3-clause-goes
 returns-in-Ok-3-clause-goes g c =
     let k = c.in-Ok.ensures.ok in
     let does = noted_does g.B.BatchLink.batches g.B.BatchLink.notes g.B.BatchLink.learns g.K.Keeper.reads_back (scheme_of g.S.Sealer.cipher c.submit_all.new.core) (Keeps true ∷ k.0)
-        (process c.submit_all.new.core.state c.resume.new.self.link c.resume.new.self.keeper)
-        (process c.perform-performed.new.core.state c.perform-performed.new.link c.perform-performed.new.keeper) k.2 in
+    (process c.submit_all.new.core.state c.resume.new.self.link c.resume.new.self.keeper)
+    (process c.perform-performed.new.core.state c.perform-performed.new.link c.perform-performed.new.keeper) k.2 in
     let lives = none_by c.resume.new.self.core.state.failure (ap is_some (sym c.failure.ensures) ∙ sym c.is_some.ensures ∙ c.if-is_some.false) in
     let size : c.len-count.result ≡ length c.args.commands.items = search rules in
     let enough : c.len-count.result ≤ length c.in-Ok.replies.items = search rules in
@@ -137,8 +137,8 @@ pub returns-in-Err-clause-goes : goal.returns-in-Err-clause-goes
 returns-in-Err-clause-goes g c =
     let k = c.in-Err.ensures.err in
     let does = noted_does g.B.BatchLink.batches g.B.BatchLink.notes g.B.BatchLink.learns g.K.Keeper.reads_back (scheme_of g.S.Sealer.cipher c.submit_all.new.core) k.0
-        (process c.submit_all.new.core.state c.resume.new.self.link c.resume.new.self.keeper)
-        (process c.perform-performed.new.core.state c.perform-performed.new.link c.perform-performed.new.keeper) k.2 in
+    (process c.submit_all.new.core.state c.resume.new.self.link c.resume.new.self.keeper)
+    (process c.perform-performed.new.core.state c.perform-performed.new.link c.perform-performed.new.keeper) k.2 in
     let lives = none_by c.resume.new.self.core.state.failure (ap is_some (sym c.failure.ensures) ∙ sym c.is_some.ensures ∙ c.if-is_some.false) in
     weaker (performed_done g.S.Sealer.cipher g.T.Tape.words g.B.BatchLink.batches g.K.Keeper.reads_back g.met.B.BatchLink.are_batches c.args.self.now c.resume.new.self c.resume.ensures.kept c.resume.ensures.tape
     c.resume.ensures.goes c.args.commands.items c.requires c.submit_all.new.core c.submit_all.new.tape c.submit_all.ensures.kept c.submit_all.ensures.tape
@@ -157,8 +157,8 @@ returns-in-Err-clause-stopped g c = λ e.
       | inl stalled ↦
           let k = c.in-Err.ensures.err in
           let does = noted_does g.B.BatchLink.batches g.B.BatchLink.notes g.B.BatchLink.learns g.K.Keeper.reads_back (scheme_of g.S.Sealer.cipher c.submit_all.new.core) k.0
-              (process c.submit_all.new.core.state c.resume.new.self.link c.resume.new.self.keeper)
-              (process c.perform-performed.new.core.state c.perform-performed.new.link c.perform-performed.new.keeper) k.2 in
+          (process c.submit_all.new.core.state c.resume.new.self.link c.resume.new.self.keeper)
+          (process c.perform-performed.new.core.state c.perform-performed.new.link c.perform-performed.new.keeper) k.2 in
           performed_left g.S.Sealer.cipher g.T.Tape.words g.B.BatchLink.batches g.K.Keeper.reads_back g.met.B.BatchLink.are_batches c.args.self.now c.resume.new.self c.resume.ensures.kept c.resume.ensures.tape
           c.resume.ensures.goes c.args.commands.items c.requires c.submit_all.new.core c.submit_all.new.tape c.submit_all.ensures.kept c.submit_all.ensures.tape
           c.perform-performed.new.core c.perform-performed.new.link c.perform-performed.new.keeper c.perform-performed.ensures.kept k.0 does
@@ -167,8 +167,8 @@ returns-in-Err-clause-stopped g c = λ e.
       | inr not_kept ↦
           let k = c.in-Err.ensures.not_kept cc in
           let does = noted_does g.B.BatchLink.batches g.B.BatchLink.notes g.B.BatchLink.learns g.K.Keeper.reads_back (scheme_of g.S.Sealer.cipher c.submit_all.new.core) (Keeps false ∷ [])
-              (process c.submit_all.new.core.state c.resume.new.self.link c.resume.new.self.keeper)
-              (process c.perform-performed.new.core.state c.perform-performed.new.link c.perform-performed.new.keeper) k.2 in
+          (process c.submit_all.new.core.state c.resume.new.self.link c.resume.new.self.keeper)
+          (process c.perform-performed.new.core.state c.perform-performed.new.link c.perform-performed.new.keeper) k.2 in
           performed_left g.S.Sealer.cipher g.T.Tape.words g.B.BatchLink.batches g.K.Keeper.reads_back g.met.B.BatchLink.are_batches c.args.self.now c.resume.new.self c.resume.ensures.kept c.resume.ensures.tape
           c.resume.ensures.goes c.args.commands.items c.requires c.submit_all.new.core c.submit_all.new.tape c.submit_all.ensures.kept c.submit_all.ensures.tape
           c.perform-performed.new.core c.perform-performed.new.link c.perform-performed.new.keeper c.perform-performed.ensures.kept (Keeps false ∷ []) does
@@ -192,8 +192,8 @@ pub returns-in-Ok-3-clause-asks : goal.returns-in-Ok-3-clause-asks
 returns-in-Ok-3-clause-asks g c =
     let k = c.in-Ok.ensures.ok in
     let does = noted_does g.B.BatchLink.batches g.B.BatchLink.notes g.B.BatchLink.learns g.K.Keeper.reads_back (scheme_of g.S.Sealer.cipher c.submit_all.new.core) (Keeps true ∷ k.0)
-        (process c.submit_all.new.core.state c.resume.new.self.link c.resume.new.self.keeper)
-        (process c.perform-performed.new.core.state c.perform-performed.new.link c.perform-performed.new.keeper) k.2 in
+    (process c.submit_all.new.core.state c.resume.new.self.link c.resume.new.self.keeper)
+    (process c.perform-performed.new.core.state c.perform-performed.new.link c.perform-performed.new.keeper) k.2 in
     let w = c.resume.ensures.takes_none in
     asked_round g.S.Sealer.cipher g.T.Tape.words g.B.BatchLink.batches g.K.Keeper.reads_back g.met.B.BatchLink.are_batches c.args.self.now c.resume.new.self c.resume.ensures.kept c.resume.ensures.tape
     c.resume.ensures.goes c.args.commands.items c.requires c.submit_all.new.core c.submit_all.new.tape c.submit_all.ensures.kept c.submit_all.ensures.tape
