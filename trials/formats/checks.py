@@ -5,7 +5,7 @@ import hashlib
 from trials.formats.ciphers import Tape, derived
 from trials.formats.host_files import opened, read_buckets
 from trials.formats.reader import Reader
-from trials.formats.sizes import IDENTITY_TREE, node_of
+from trials.formats.sizes import IDENTITY_TREE, STAMP_TREE, node_of
 
 LIFETIME = 2**40
 
@@ -60,7 +60,7 @@ class Reading:
         """Each tree has the shape that follows from the sizes, and its cells lie apart."""
         shapes = self.buckets.shapes
         wanted = {tree: (depth, self.sizes.record_len()) for tree, depth in enumerate(self.sizes.depths())}
-        wanted[IDENTITY_TREE] = (0, 32)
+        wanted[STAMP_TREE], wanted[IDENTITY_TREE] = (1, 48), (0, 32)
         self.check("its shapes", {tree: (shape.depth, shape.record_len) for tree, shape in shapes.items()} == wanted, shapes)
         inside = sorted((shape.place, shape.end()) for shape in shapes.values())
         self.check("its places", inside[0][0] == 8192 and all(place % 2 == 0 for place, _ in inside), inside)

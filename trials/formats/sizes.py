@@ -2,8 +2,8 @@
 
 from dataclasses import dataclass
 
-# The tree in whose record a host keeps the identity of its disk.
-IDENTITY_TREE = 255
+# The trees in whose records a host keeps the stamps and the identity of its disk.
+STAMP_TREE, IDENTITY_TREE = 254, 255
 
 
 @dataclass(frozen=True)

@@ -11,8 +11,8 @@ from trials.nbd_client import EIO, FLUSH, READ, TRIM, WRITE, ZEROES
 from trials.processes import end_of
 from trials.statuses import DISK_FAILED, NOT_FAILED
 
-# The tree in whose record a host keeps the identity of its disk.
-IDENTITY_TREE = 255
+# The trees in whose records a host keeps the stamps and the identity of its disk.
+STAMP_TREE, IDENTITY_TREE = 254, 255
 
 
 def tamper(file, level=None):
@@ -22,7 +22,7 @@ def tamper(file, level=None):
     for tree, (depth, _, _) in buckets.trees().items():
         for node in range((2 << depth) - 1):
             at = (node + 1).bit_length() - 1
-            if tree < IDENTITY_TREE and (level is None or (tree, at) == (0, level)):
+            if tree < STAMP_TREE and (level is None or (tree, at) == (0, level)):
                 buckets.flip(tree, node)
 
 
@@ -111,18 +111,3 @@ def failure_of(trial, disk, what):
     trial.check(f"{what}: a READ", client.ask(READ, 0, SMALL) == (EIO, b""))
     disk.end(client)
     return disk.status().get("state", "")
-
-
-def try_older_file(trial):
-    """An older file of buckets that is put back fails the disk."""
-    disk = Disk(trial, "older", table=16).formatted()
-    disk.host.stop()
-    before = disk.host_files()
-    disk.start_host()
-    array = DiskArray()
-    client = disk.serve().client()
-    make_requests(trial, client, array, 10)
-    disk.end(client)
-    disk.put_host_files(before)
-    reason = failure_of(trial, disk, "an older file")
-    trial.check("an older file: why", is_failure(reason), reason)

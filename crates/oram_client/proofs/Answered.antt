@@ -1,5 +1,5 @@
 -- Messages that were sent ahead of their answers, by the bytes that were written and read.
-use Rattle.std.proofs.Common.{◌≡◌, ℕ, ◌+◌, ◌<◌, List, [], ◌∷◌, ◌++◌, length, Option, refl, sym, ap, ◌∙◌, subst, arith}
+use Rattle.std.proofs.Common.{◌≡◌, ℕ, ◌+◌, ◌<◌, List, [], ◌∷◌, ◌++◌, length, length-append, Option, refl, sym, ap, ◌∙◌, subst, arith}
 use Rattle.std.specs.Prelude.{replicate}
 use Rattle.std.proofs.lemmas.Grind.{flat_map-append}
 use Rattle.std.proofs.lemmas.List.{append-nil, replicate-append-replicate}
@@ -75,6 +75,19 @@ module _ {R W : Type 0} (remaining : R → Option (List ℕ)) (contents : W → 
         subst (λ (n : ℕ). Consumes (remaining a.reader) (remaining c.reader) (dones n)) all
         (subst (Consumes (remaining a.reader) (remaining c.reader)) (dones_more put.count b.due)
         (Consumes-trans (remaining a.reader) (remaining b.reader) (remaining c.reader) (dones put.count) (dones b.due) put.read drained.read)));
+  }
+
+  -- messages that were put once the host was done with those before them
+  pub taken_both : (a b c : ToHost R W) (first second : List (List ℕ)) → AreTaken remaining contents a first b → AreTaken remaining contents b second c
+      → AreTaken remaining contents a (first ++ second) c
+  taken_both a b c first second one two = record {
+    due = two.due;
+    wrote = subst (Appends (contents a.writer) (contents c.writer)) (sym (flat_map-append frame first second))
+        (Appends-trans (contents a.writer) (contents b.writer) (contents c.writer) (flat_map frame first) (flat_map frame second) one.wrote two.wrote);
+    read = (let all : (a.due + length first) + (b.due + length second) ≡ a.due + length (first ++ second) = (let e = one.due in omega (arith, length-append first second)) in
+        subst (λ (n : ℕ). Consumes (remaining a.reader) (remaining c.reader) (dones n)) all
+        (subst (Consumes (remaining a.reader) (remaining c.reader)) (dones_more (a.due + length first) (b.due + length second))
+        (Consumes-trans (remaining a.reader) (remaining b.reader) (remaining c.reader) (dones (a.due + length first)) (dones (b.due + length second)) one.read two.read)));
   }
 
   -- two messages, the second of which was put once the host was done with the first

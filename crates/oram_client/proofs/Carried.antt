@@ -13,6 +13,10 @@ pub count_both : (first last : List (Vec ℕ)) → length first + length last �
 count_both first last =
     omega (arith, length-append (texts first) (texts last), length-map first (λ (v : Vec ℕ). v.items), length-map last (λ (v : Vec ℕ). v.items))
 
+-- how many messages four lists have
+pub count_four : (a b c d : List (Vec ℕ)) → length a + length b + length c + length d ≡ length ((texts a ++ texts b) ++ (texts c ++ texts d))
+count_four a b c d = omega (arith, length-append (texts a ++ texts b) (texts c ++ texts d), count_both a b, count_both c d)
+
 module _ {R W : Type 0} (remaining : R → Option (List ℕ)) (contents : W → Option (List ℕ)) where
   pub carried : (result : Result (Vec (Vec ℕ)) LinkFault) (bodies : List (List ℕ)) (count : ℕ) (reader reader' : R) (writer writer' : W) → count ≡ length bodies
       → AreSent contents writer bodies writer' → IfOk result (λ answers. length (texts answers.items) ≡ count)

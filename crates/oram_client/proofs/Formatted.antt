@@ -30,7 +30,7 @@ use Rattle.oram_client.specs.declared.refusals.Refusal.{Refusal}
 use Rattle.oram_client.specs.Ahead.{ToHost, ArePut, AreTaken, HasAnswer, IsDrained, IsPut, IsStopped, IsUnput, dones}
 use Rattle.oram_client.specs.Formatting.{Collects, AreGenuine, AreSeen, AreTreesMade, AreTreesMadeInPart, IsFormattedAhead, IsUnheld, IsUnseen, fetches, paths}
 use Rattle.oram_client.specs.Faults.{trees_fault, formatting_fault}
-use Rattle.oram_client.specs.Identity.{identity_messages}
+use Rattle.oram_client.specs.Identity.{own_messages}
 use Rattle.oram_client.proofs.Answered.{dones_more, puts_all}
 
 -- The root digest of a tree is that of its parts.
@@ -179,10 +179,10 @@ module _ {R W : Type 0} (remaining : R → Option (List ℕ)) (contents : W → 
       record { messages = made.0; mid = b; put = made.2; ended = inr (s, made.1, inr (c, drained, there)) }
 
   -- The identity was put, the trees were made, and the host gave back the identity.
-  pub formatted_ahead : (v : Scheme) (identity : List ℕ) (a b c d : ToHost R W) (s : State) → AreTaken remaining contents a (identity_messages identity) b → AreTreesMade remaining contents v b s c
-      → HasAnswer remaining contents c (fetch_body IDENTITY_TREE 0) (128 ∷ identity) d → IsFormattedAhead remaining contents v identity a s d
-  formatted_ahead v identity a b c d s named made fetched =
-      let ids = identity_messages identity in
+  pub formatted_ahead : (v : Scheme) (identity key : List ℕ) (a b c d : ToHost R W) (s : State) → AreTaken remaining contents a (own_messages identity key) b → AreTreesMade remaining contents v b s c
+      → HasAnswer remaining contents c (fetch_body IDENTITY_TREE 0) (128 ∷ identity) d → IsFormattedAhead remaining contents v identity key a s d
+  formatted_ahead v identity key a b c d s named made fetched =
+      let ids = own_messages identity key in
       let asking = frame (fetch_body IDENTITY_TREE 0) in
       let giving = frame (128 ∷ identity) in
       let messages = flat_map frame made.messages in

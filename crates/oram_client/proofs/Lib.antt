@@ -16,3 +16,4 @@ pub mod NamesNow
 pub mod ReadBack
 pub mod NextProcess
 pub mod FolderExample
+pub mod Between

@@ -10,13 +10,14 @@ use Rattle.oram_link_laws.proofs.Exchanged.{folds_join, folds_split}
 use Rattle.oram_rounds.specs.Batches.{BatchOutcome, IsBatch, answered}
 use Rattle.oram_rounds.specs.CatchUp.{IsPlainCall, PlainRun}
 use Rattle.oram_client.specs.OneHost.{AnswersAreTheHosts, AreTries, ExchangesAreOfTheTries, FaultsAreOfMemory, TriesRun}
-use Rattle.oram_client.specs.Reconnect.{Attempt, DialerKind, IsDelayed, IsGivenUp, IsTried, IsTroubleIn, MakesTries, NextTry, ReconnectState, VainTry, link_outcome}
+use Rattle.oram_client.specs.Attempts.{Attempt, link_outcome}
+use Rattle.oram_client.specs.Reconnect.{DialerKind, IsDelayed, IsGivenUp, IsTried, IsTroubleIn, MakesTries, NextTry, ReconnectState, VainTry}
 use Rattle.oram_session.specs.declared.link.LinkFault.{LinkFault}
 use Rattle.oram_session.specs.declared.link.LinkFault.TheVariants.{Io, Closed, TooLong, TooLarge, OutOfMemory}
 use Rattle.oram_client.specs.Dialer.{fault_of, lacks_memory}
 use Rattle.oram_client.specs.declared.dialer.Limits.{Limits}
 use Rattle.oram_client.specs.declared.dialer.Trouble.{Trouble}
-use Rattle.oram_client.specs.declared.dialer.Trouble.TheVariants.{OutOfReach, NoRoom, AnotherDisk, NoDisk}
+use Rattle.oram_client.specs.declared.dialer.Trouble.TheVariants.{OutOfReach, NoRoom, AnotherDisk, NoDisk, OlderState, OlderHost, NoStamps}
 use Rattle.oram_client.specs.BatchExchanges.{reconnects_are_batches}
 
 module _ (may_lie : Bool) (v : Scheme) where
@@ -64,6 +65,9 @@ memory_fault (OutOfReach OutOfMemory) fault e lacks = e
 memory_fault NoRoom fault e lacks = cc
 memory_fault AnotherDisk fault e lacks = cc
 memory_fault NoDisk fault e lacks = cc
+memory_fault OlderState fault e lacks = cc
+memory_fault OlderHost fault e lacks = cc
+memory_fault NoStamps fault e lacks = cc
 
 unretried : (came : Attempt) (fault : LinkFault) (trouble : Option Trouble) → (let o : BatchOutcome = Err fault in o) ≡ link_outcome came → IsTroubleIn came trouble → trouble ≡ None
     → fault ≡ OutOfMemory
@@ -73,16 +77,16 @@ unretried (Err why) fault (Some trouble) says shows none = cc
 
 module _ {D L : Type 0} (kind : DialerKind D L) where
   one_try : (dialer dialer' : D) (line line' : Option L) (limits : Limits) (bodies : List (List ℕ)) (came : Attempt) (exchanges : List Exchange)
-      → IsTried kind.opens kind.fails kind.batches dialer line limits bodies came exchanges dialer' line' → AreTries kind.batches bodies (exchanges ∷ [])
+      → IsTried kind.opens kind.fails kind.carries dialer line limits bodies came exchanges dialer' line' → AreTries kind.carries bodies (exchanges ∷ [])
   one_try dialer dialer' line line' limits bodies came exchanges (inl unopened) = (inl unopened.unsent, tt)
-  one_try dialer dialer' line line' limits bodies came exchanges (inr called) = (inr (called.way, called.way', called.outcome, called.called), tt)
+  one_try dialer dialer' line line' limits bodies came exchanges (inr called) = (inr (called.mid, dialer', called.way, called.way', came, called.called), tt)
 
-  tries_more : (bodies : List (List ℕ)) (first second : List (List Exchange)) → AreTries kind.batches bodies first → AreTries kind.batches bodies second → AreTries kind.batches bodies (first ++ second)
+  tries_more : (bodies : List (List ℕ)) (first second : List (List Exchange)) → AreTries kind.carries bodies first → AreTries kind.carries bodies second → AreTries kind.carries bodies (first ++ second)
   tries_more bodies [] second one two = two
   tries_more bodies (xs ∷ first) second one two = (one.0, tries_more bodies first second one.1 two)
 
   vain_tries : (reconnect_timeout : ℕ) (begin : Option ℕ) (bodies : List (List ℕ)) (w x : NextTry D L) (vain : List VainTry)
-      → FoldsTo (IsDelayed kind reconnect_timeout begin bodies) w vain x → AreTries kind.batches bodies (lists_of vain)
+      → FoldsTo (IsDelayed kind reconnect_timeout begin bodies) w vain x → AreTries kind.carries bodies (lists_of vain)
   vain_tries reconnect_timeout begin bodies w x [] folds = tt
   vain_tries reconnect_timeout begin bodies w x (v ∷ vain) folds =
       let one = folds.1 in
@@ -91,7 +95,7 @@ module _ {D L : Type 0} (kind : DialerKind D L) where
 
   -- the exchanges are those of the tries
   abbrev Divided : List (List ℕ) → List Exchange → Type 0
-  Divided bodies exchanges = (tries : List (List Exchange)) × AreTries kind.batches bodies tries × (exchanges ≡ flat_map (λ (xs : List Exchange). xs) tries)
+  Divided bodies exchanges = (tries : List (List Exchange)) × AreTries kind.carries bodies tries × (exchanges ≡ flat_map (λ (xs : List Exchange). xs) tries)
 
   divided : (gave_up : Option Trouble) (l m : ReconnectState D L) (bodies : List (List ℕ)) (o : BatchOutcome) (exchanges : List Exchange)
       → MatchOption gave_up (MakesTries kind l bodies o exchanges m) (λ why. IsGivenUp kind l o exchanges m)

@@ -8,7 +8,8 @@ use Rattle.oram_link_laws.proofs.Exchanged.{folds_join}
 use Rattle.oram_rounds.specs.Batches.{BatchOutcome}
 use Rattle.oram_rounds.specs.CatchUp.{IsPlainCall, PlainRun}
 use Rattle.oram_client.specs.OneHost.{ExchangesAreOfOneHost, LeadToOneHost}
-use Rattle.oram_client.specs.Reconnect.{Attempt, DialerKind, HasLine, IsDelayed, IsGivenUp, IsTimedOut, IsTried, MakesTries, NextTry, ReconnectState, VainTry}
+use Rattle.oram_client.specs.Attempts.{Attempt}
+use Rattle.oram_client.specs.Reconnect.{DialerKind, HasLine, IsDelayed, IsGivenUp, IsTimedOut, IsTried, MakesTries, NextTry, ReconnectState, VainTry}
 use Rattle.oram_client.specs.declared.dialer.Limits.{Limits}
 use Rattle.oram_client.specs.declared.dialer.Trouble.{Trouble}
 use Rattle.oram_client.specs.declared.dialer.Trouble.TheVariants.{OutOfReach}
@@ -31,25 +32,24 @@ module _ {D L : Type 0} (kind : DialerKind D L)
   none_heard : (host : Host) (exchanges : List Exchange) → exchanges ≡ [] → PlainRun may_lie v host exchanges host
   none_heard host exchanges unsent = subst (λ (es : List Exchange). PlainRun may_lie v host es host) (sym unsent) refl
 
-  has_line : (line : Option L) (dialer dialer' : D) (limits : Limits) (way : L) (host : Host) → host_of dialer line ≡ Some host → HasLine kind.opens kind.fails kind.batches dialer line limits way dialer'
+  has_line : (line : Option L) (dialer dialer' : D) (limits : Limits) (way : L) (host : Host) → host_of dialer line ≡ Some host → HasLine kind.opens kind.fails kind.carries dialer line limits way dialer'
       → host_of dialer' (Some way) ≡ Some host
   has_line None dialer dialer' limits way host is had = law.opened dialer dialer' limits way host is had
   has_line (Some held) dialer dialer' limits way host is had =
       ap (λ (d : D). host_of d (Some way)) had.1 ∙ ap (λ (l : L). host_of dialer (Some l)) had.0 ∙ is
 
-  called_over : (outcome : BatchOutcome) (dialer : D) (way way' : L) (line' : Option L) (came : Attempt) (exchanges : List Exchange) (host : Host) → host_of dialer (Some way) ≡ Some host
-      → kind.batches way bodies outcome exchanges way'
-      → MatchResult outcome (λ answers. (came ≡ Ok answers) × (line' ≡ Some way')) (λ fault. (came ≡ Err (OutOfReach fault)) × (line' ≡ None))
-      → Reached host exchanges dialer line'
-  called_over (Ok answers) dialer way way' line' came exchanges host is called after =
-      let done = law.answered_over dialer way way' answers exchanges host is called in
-      (done.0, done.1, ap (λ (l : Option L). host_of dialer l) after.1 ∙ done.2)
-  called_over (Err fault) dialer way way' line' came exchanges host is called after =
-      let done = law.broken_off dialer way way' fault exchanges host is called in
-      (done.0, done.1, ap (λ (l : Option L). host_of dialer l) after.1 ∙ done.2)
+  called_over : (came : Attempt) (dialer dialer' : D) (way way' : L) (line' : Option L) (exchanges : List Exchange) (host : Host) → host_of dialer (Some way) ≡ Some host
+      → kind.carries dialer way bodies came exchanges dialer' way' → MatchResult came (λ answers. line' ≡ Some way') (λ trouble. line' ≡ None)
+      → Reached host exchanges dialer' line'
+  called_over (Ok answers) dialer dialer' way way' line' exchanges host is called after =
+      let done = law.answered_over dialer dialer' way way' answers exchanges host is called in
+      (done.0, done.1, ap (λ (l : Option L). host_of dialer' l) after ∙ done.2)
+  called_over (Err trouble) dialer dialer' way way' line' exchanges host is called after =
+      let done = law.broken_off dialer dialer' way way' trouble exchanges host is called in
+      (done.0, done.1, ap (λ (l : Option L). host_of dialer' l) after ∙ done.2)
 
   tried_once : (dialer dialer' : D) (line line' : Option L) (limits : Limits) (came : Attempt) (exchanges : List Exchange) (host : Host) → host_of dialer line ≡ Some host
-      → IsTried kind.opens kind.fails kind.batches dialer line limits bodies came exchanges dialer' line' → Reached host exchanges dialer' line'
+      → IsTried kind.opens kind.fails kind.carries dialer line limits bodies came exchanges dialer' line' → Reached host exchanges dialer' line'
   tried_once dialer dialer' line line' limits came exchanges host is (inl unopened) =
       let before : host_of dialer None ≡ Some host = ap (λ (l : Option L). host_of dialer l) (sym unopened.none) ∙ is in (
         host,
@@ -57,8 +57,8 @@ module _ {D L : Type 0} (kind : DialerKind D L)
         ap (λ (l : Option L). host_of dialer' l) unopened.still_none ∙ law.unopened dialer dialer' limits unopened.why host before unopened.failed,
       )
   tried_once dialer dialer' line line' limits came exchanges host is (inr called) =
-      called_over called.outcome dialer' called.way called.way' line' came exchanges host
-      (has_line line dialer dialer' limits called.way host is called.had) called.called called.after
+      called_over came called.mid dialer' called.way called.way' line' exchanges host
+      (has_line line dialer called.mid limits called.way host is called.had) called.called called.after
 
   joined : (first second : List Exchange) (host mid after : Host) → PlainRun may_lie v host first mid → PlainRun may_lie v mid second after → PlainRun may_lie v host (first ++ second) after
   joined first second host mid after one two = folds_join {P = Host} {A = Exchange} Calls host mid after first second one two

@@ -6,7 +6,8 @@ use Rattle.std.proofs.lemmas.Fn.{FoldsTo-push}
 use Rattle.oram_link_laws.specs.Runs.{Exchange}
 use Rattle.oram_rounds.specs.Batches.{BatchOutcome}
 use Rattle.oram_client.specs.declared.dialer.Trouble.{Trouble}
-use Rattle.oram_client.specs.Reconnect.{Attempt, DialerKind, IsDelayed, IsPaused, IsTimedOut, IsTried, IsTroubleIn, MakesTries, NextTry, ReconnectState, VainTry, first_pause, limits, link_outcome}
+use Rattle.oram_client.specs.Attempts.{Attempt, link_outcome}
+use Rattle.oram_client.specs.Reconnect.{DialerKind, IsDelayed, IsPaused, IsTimedOut, IsTried, IsTroubleIn, MakesTries, NextTry, ReconnectState, VainTry, first_pause, limits}
 
 module _ {D L : Type 0} (kind : DialerKind D L) where
   -- the tries so far
@@ -31,7 +32,7 @@ module _ {D L : Type 0} (kind : DialerKind D L) where
   -- One more try: the link `a` becomes `b` by trying, `t` by reporting the trouble, and `w` by pausing.
   pub delayed_more : (reconnect_timeout : ℕ) (begin : Option ℕ) (bodies : List (List ℕ)) (first : D) (line : Option L) (a b t w : ReconnectState D L) (pause left pause' left' : ℕ)
       (came : Attempt) (heard : List Exchange) (trouble : Trouble) → Delayed reconnect_timeout begin bodies first line a.dialer a.line pause left → a.reconnect_timeout ≡ reconnect_timeout
-      → IsTried kind.opens kind.fails kind.batches a.dialer a.line (limits a.reconnect_timeout left) bodies came heard b.dialer b.line → b ≡ record a { dialer = b.dialer; line = b.line }
+      → IsTried kind.opens kind.fails kind.carries a.dialer a.line (limits a.reconnect_timeout left) bodies came heard b.dialer b.line → b ≡ record a { dialer = b.dialer; line = b.line }
       → IsTroubleIn came (Some trouble) → t ≡ b → IsPaused kind.pauses kind.reads t.reconnect_timeout begin t.dialer pause left trouble w.dialer pause' left' → w ≡ record t { dialer = w.dialer }
       → Delayed reconnect_timeout begin bodies first line w.dialer w.line pause' left'
   delayed_more reconnect_timeout begin bodies first line a b t w pause left pause' left' came heard trouble (vain, before) whole tried after shows told_of paused later = (
@@ -39,9 +40,9 @@ module _ {D L : Type 0} (kind : DialerKind D L) where
     FoldsTo-push (IsDelayed kind reconnect_timeout begin bodies) _ vain _ (record { trouble = trouble; exchanges = heard }) _ before (record {
       came = came;
       mid = b.dialer;
-      tried = subst (λ (o : Option L). IsTried kind.opens kind.fails kind.batches a.dialer a.line (limits reconnect_timeout left) bodies came heard b.dialer o)
+      tried = subst (λ (o : Option L). IsTried kind.opens kind.fails kind.carries a.dialer a.line (limits reconnect_timeout left) bodies came heard b.dialer o)
           (sym (ap (λ (p : ReconnectState D L). p.line) later ∙ ap (λ (p : ReconnectState D L). p.line) told_of))
-          (subst (λ (n : ℕ). IsTried kind.opens kind.fails kind.batches a.dialer a.line (limits n left) bodies came heard b.dialer b.line) whole tried);
+          (subst (λ (n : ℕ). IsTried kind.opens kind.fails kind.carries a.dialer a.line (limits n left) bodies came heard b.dialer b.line) whole tried);
       shows = shows;
       paused = subst (λ (n : ℕ). IsPaused kind.pauses kind.reads n begin b.dialer pause left trouble w.dialer pause' left') (ap (λ (p : ReconnectState D L). p.reconnect_timeout) after ∙ whole)
           (subst (λ (p : ReconnectState D L). IsPaused kind.pauses kind.reads p.reconnect_timeout begin p.dialer pause left trouble w.dialer pause' left') told_of paused);
@@ -60,7 +61,7 @@ module _ {D L : Type 0} (kind : DialerKind D L) where
   -- Answers end the tries.
   pub answered_behind : (begin : Option ℕ) (bodies : List (List ℕ)) (first : D) (l a b m : ReconnectState D L) (pause left : ℕ) (came : Attempt) (heard : List Exchange) (outcome : BatchOutcome)
       → kind.reads l.dialer begin first → Delayed l.reconnect_timeout begin bodies first l.line a.dialer a.line pause left → a.reconnect_timeout ≡ l.reconnect_timeout → a.trouble ≡ None
-      → IsTried kind.opens kind.fails kind.batches a.dialer a.line (limits a.reconnect_timeout left) bodies came heard b.dialer b.line → b ≡ record a { dialer = b.dialer; line = b.line }
+      → IsTried kind.opens kind.fails kind.carries a.dialer a.line (limits a.reconnect_timeout left) bodies came heard b.dialer b.line → b ≡ record a { dialer = b.dialer; line = b.line }
       → IsTroubleIn came None → m ≡ b → outcome ≡ link_outcome came → (exchanges : List Exchange) × MakesTries kind l bodies outcome exchanges m
   answered_behind begin bodies first l a b m pause left came heard outcome read (vain, before) whole none tried after shows told_of says =
       let none_here : m.trouble ≡ None = ap (λ (p : ReconnectState D L). p.trouble) told_of ∙ ap (λ (p : ReconnectState D L). p.trouble) after ∙ none in (
@@ -75,9 +76,9 @@ module _ {D L : Type 0} (kind : DialerKind D L) where
           came = came;
           heard = heard;
           mid = b.dialer;
-          tried = subst (λ (o : Option L). IsTried kind.opens kind.fails kind.batches a.dialer a.line (limits l.reconnect_timeout left) bodies came heard b.dialer o)
+          tried = subst (λ (o : Option L). IsTried kind.opens kind.fails kind.carries a.dialer a.line (limits l.reconnect_timeout left) bodies came heard b.dialer o)
               (ap (λ (p : ReconnectState D L). p.line) (sym told_of))
-              (subst (λ (n : ℕ). IsTried kind.opens kind.fails kind.batches a.dialer a.line (limits n left) bodies came heard b.dialer b.line) whole tried);
+              (subst (λ (n : ℕ). IsTried kind.opens kind.fails kind.carries a.dialer a.line (limits n left) bodies came heard b.dialer b.line) whole tried);
           shows = subst (λ (o : Option Trouble). IsTroubleIn came o) (sym none_here) shows;
           ends = subst (λ (o : Option Trouble). MatchOption o (m.dialer ≡ b.dialer) (λ trouble. IsTimedOut kind.pauses kind.reads l.reconnect_timeout begin b.dialer left trouble m.dialer))
               (sym none_here) (ap (λ (p : ReconnectState D L). p.dialer) told_of);
@@ -90,7 +91,7 @@ module _ {D L : Type 0} (kind : DialerKind D L) where
   -- clock, and gives up.
   pub given_up_behind : (begin : Option ℕ) (bodies : List (List ℕ)) (first : D) (l a b t w m : ReconnectState D L) (pause left : ℕ) (came : Attempt) (heard : List Exchange) (trouble : Trouble) (outcome : BatchOutcome)
       → kind.reads l.dialer begin first → Delayed l.reconnect_timeout begin bodies first l.line a.dialer a.line pause left → a.reconnect_timeout ≡ l.reconnect_timeout
-      → IsTried kind.opens kind.fails kind.batches a.dialer a.line (limits a.reconnect_timeout left) bodies came heard b.dialer b.line → b ≡ record a { dialer = b.dialer; line = b.line }
+      → IsTried kind.opens kind.fails kind.carries a.dialer a.line (limits a.reconnect_timeout left) bodies came heard b.dialer b.line → b ≡ record a { dialer = b.dialer; line = b.line }
       → IsTroubleIn came (Some trouble) → t ≡ b → IsTimedOut kind.pauses kind.reads t.reconnect_timeout begin t.dialer left trouble w.dialer → w ≡ record t { dialer = w.dialer }
       → m ≡ record w { trouble = Some trouble } → outcome ≡ link_outcome came → (exchanges : List Exchange) × MakesTries kind l bodies outcome exchanges m
   given_up_behind begin bodies first l a b t w m pause left came heard trouble outcome read (vain, before) whole tried after shows told_of used later is says =
@@ -109,9 +110,9 @@ module _ {D L : Type 0} (kind : DialerKind D L) where
           came = came;
           heard = heard;
           mid = b.dialer;
-          tried = subst (λ (o : Option L). IsTried kind.opens kind.fails kind.batches a.dialer a.line (limits l.reconnect_timeout left) bodies came heard b.dialer o)
+          tried = subst (λ (o : Option L). IsTried kind.opens kind.fails kind.carries a.dialer a.line (limits l.reconnect_timeout left) bodies came heard b.dialer o)
               (sym (ap (λ (p : ReconnectState D L). p.line) is ∙ ap (λ (p : ReconnectState D L). p.line) later ∙ ap (λ (p : ReconnectState D L). p.line) told_of))
-              (subst (λ (n : ℕ). IsTried kind.opens kind.fails kind.batches a.dialer a.line (limits n left) bodies came heard b.dialer b.line) whole tried);
+              (subst (λ (n : ℕ). IsTried kind.opens kind.fails kind.carries a.dialer a.line (limits n left) bodies came heard b.dialer b.line) whole tried);
           shows = subst (λ (o : Option Trouble). IsTroubleIn came o) (ap (λ (p : ReconnectState D L). p.trouble) (sym is)) shows;
           ends = subst (λ (o : Option Trouble). MatchOption o (m.dialer ≡ b.dialer) (λ why. IsTimedOut kind.pauses kind.reads l.reconnect_timeout begin b.dialer left why m.dialer))
               (ap (λ (p : ReconnectState D L). p.trouble) (sym is)) used_here;

@@ -26,7 +26,9 @@ use Rattle.oram_rounds.proofs.KeptPaths.{serves_fetch}
 use Rattle.oram_client.specs.OneHost.{AnswersFirst, Bytes, LeadToOneHost, LeadsToHost, NeverFails, OpensNext, PausesBetween, ReadsNoClock, TwoTriesExample, comes_over, done_frame, done_link, emptied, fresh, host_after, host_now, host_over, messages, ones, ones_host, path_frame, two_tries}
 use Rattle.oram_client.specs.Reconnect.{IsDelayed, ReconnectBatch, dialer_kind, first_pause}
 use Rattle.oram_client.specs.StreamBatches.{StreamBatch, connection}
+use Rattle.oram_client.specs.Attempts.{Attempt, Plainly, attempt_for}
 use Rattle.oram_client.specs.declared.dialer.Limits.{Limits}
+use Rattle.oram_client.specs.declared.dialer.Trouble.{Trouble}
 use Rattle.oram_client.specs.declared.dialer.Trouble.TheVariants.{OutOfReach}
 use Rattle.oram_client.proofs.OneHostTries.{plain_run}
 use Rattle.oram_client.proofs.Reached.{stream_batches_reach_the_host}
@@ -158,6 +160,15 @@ emptied_over count closed unread unclosed all =
     let none : unread ≡ [] = ap (λ (o : Option (List ℕ)). unwrap_or o []) all in
     ap (λ (b : Bool). host_over count b unread) unclosed ∙ ap (λ (l : List ℕ). host_over count false l) none
 
+-- what the outcome of a batch was, by the attempt that it came to
+plain_ok : (o : BatchOutcome) (answers : List (List ℕ)) → (let came : Attempt = Ok answers in came) ≡ attempt_for o → o ≡ Ok answers
+plain_ok (Ok others) answers e = cc
+plain_ok (Err fault) answers e = cc
+
+plain_err : (o : BatchOutcome) (trouble : Trouble) → (let came : Attempt = Err trouble in came) ≡ attempt_for o → (fault : LinkFault) × (o ≡ Err fault)
+plain_err (Ok others) trouble e = absurd cc
+plain_err (Err fault) trouble e = (fault, refl)
+
 module _ (may_lie : Bool) where
   answered_over : (count : ℕ) (line way : Bytes) (answers : List (List ℕ)) (exchanges : List Exchange) (host : Host) → host_now count (Some line) ≡ Some host
       → StreamBatch known known line messages (Ok answers) exchanges way
@@ -180,16 +191,31 @@ module _ (may_lie : Bool) where
       let run = over count line way (Err fault) exchanges host e batch in
       (host_after (suc count), plain_run may_lie one_block exchanges host (host_after (suc count)) run.0, refl)
 
+  answered_plainly : (count more : ℕ) (line way : Bytes) (answers : List (List ℕ)) (exchanges : List Exchange) (host : Host) → host_now count (Some line) ≡ Some host
+      → Plainly (StreamBatch known known) count line messages (Ok answers) exchanges more way
+      → (after : Host) × PlainRun may_lie one_block host exchanges after × (host_now more (Some way) ≡ Some after)
+  answered_plainly count more line way answers exchanges host e (o, called, came, same) =
+      let done = answered_over count line way answers exchanges host e (subst (λ (k : BatchOutcome). StreamBatch known known line messages k exchanges way) (plain_ok o answers came) called) in
+      (done.0, done.1, ap (λ (n : ℕ). host_now n (Some way)) same ∙ done.2)
+
+  broken_plainly : (count more : ℕ) (line way : Bytes) (trouble : Trouble) (exchanges : List Exchange) (host : Host) → host_now count (Some line) ≡ Some host
+      → Plainly (StreamBatch known known) count line messages (Err trouble) exchanges more way
+      → (after : Host) × PlainRun may_lie one_block host exchanges after × (host_now more None ≡ Some after)
+  broken_plainly count more line way trouble exchanges host e (o, called, came, same) =
+      let fault = plain_err o trouble came in
+      let done = broken_off count line way fault.0 exchanges host e (subst (λ (k : BatchOutcome). StreamBatch known known line messages k exchanges way) fault.1 called) in
+      (done.0, done.1, ap (λ (n : ℕ). host_now n None) same ∙ done.2)
+
   opened : (count more : ℕ) (limits : Limits) (line : Bytes) (host : Host) → host_now count None ≡ Some host → OpensNext count limits line more → host_now more (Some line) ≡ Some host
   opened count more limits line host e opens =
       ap (λ (n : ℕ). host_now n (Some line)) opens.1 ∙ ap (λ (l : Bytes). host_over count l.closed l.reader) opens.0 ∙ opened_over count ∙ e
 
-  one_host : LeadToOneHost (dialer_kind OpensNext NeverFails PausesBetween ReadsNoClock (StreamBatch known known)) may_lie one_block messages host_now
+  one_host : LeadToOneHost (dialer_kind OpensNext NeverFails PausesBetween ReadsNoClock (Plainly (StreamBatch known known))) may_lie one_block messages host_now
   one_host = record {
     opened = opened;
     unopened = λ d e limits trouble host is failed. absurd failed;
-    answered_over = answered_over;
-    broken_off = broken_off;
+    answered_over = answered_plainly;
+    broken_off = broken_plainly;
     paused = λ d e line milliseconds host is same. ap (λ (n : ℕ). host_now n line) same ∙ is;
     clock_read = λ d e line now host is read. ap (λ (n : ℕ). host_now n line) read.1 ∙ is;
   }
@@ -248,7 +274,7 @@ second_batch = record {
   );
 }
 
-first_try : IsDelayed (dialer_kind OpensNext NeverFails PausesBetween ReadsNoClock (StreamBatch known known)) 1000 None messages
+first_try : IsDelayed (dialer_kind OpensNext NeverFails PausesBetween ReadsNoClock (Plainly (StreamBatch known known))) 1000 None messages
     (record { dialer = 0; line = None; pause = first_pause; left = 1000 })
     (record { trouble = OutOfReach Closed; exchanges = first_exchanges })
     (record { dialer = 1; line = None; pause = 200; left = 900 })
@@ -256,12 +282,12 @@ first_try = record {
   came = Err (OutOfReach Closed);
   mid = 1;
   tried = inr (record {
+    mid = 1;
     way = first_line;
     had = (refl, refl);
-    outcome = Err Closed;
     way' = first_done;
-    called = first_batch;
-    after = (refl, refl);
+    called = (Err Closed, first_batch, refl, refl);
+    after = refl;
   });
   shows = (refl, refl);
   paused = record {
@@ -280,7 +306,7 @@ not_full (inl e) = cc
 not_full (inr (inl e)) = cc
 not_full (inr (inr none)) = none
 
-batch : ReconnectBatch (dialer_kind OpensNext NeverFails PausesBetween ReadsNoClock (StreamBatch known known)) fresh messages (Ok (done_answer ∷ payload_answer ones ∷ [])) two_tries done_link
+batch : ReconnectBatch (dialer_kind OpensNext NeverFails PausesBetween ReadsNoClock (Plainly (StreamBatch known known))) fresh messages (Ok (done_answer ∷ payload_answer ones ∷ [])) two_tries done_link
 batch = record {
   passed = record {
     begin = None;
@@ -293,12 +319,12 @@ batch = record {
     heard = second_exchanges;
     mid = 2;
     tried = inr (record {
+      mid = 2;
       way = second_line;
       had = (refl, refl);
-      outcome = Ok (done_answer ∷ payload_answer ones ∷ []);
       way' = emptied;
-      called = second_batch;
-      after = (refl, refl);
+      called = (Ok (done_answer ∷ payload_answer ones ∷ []), second_batch, refl, refl);
+      after = refl;
     });
     shows = not_full;
     ends = refl;

@@ -6,14 +6,14 @@ use Rattle.std.specs.Prelude.{MatchBool}
 use Rattle.oram_session.specs.declared.link.LinkFault.{LinkFault}
 use Rattle.oram_link_laws.specs.Repair.{AreAmong, IsAmong}
 use Rattle.oram_link_laws.specs.Runs.{Exchange, bodies_of}
-use Rattle.oram_rounds.specs.Batches.{BatchOutcome, IsBatch, answered}
-use Rattle.oram_rounds.specs.Law.{AreBatches}
+use Rattle.oram_rounds.specs.Batches.{BatchOutcome, IsBatch, SendsNothing, answered}
+use Rattle.oram_client.specs.Attempts.{Attempt, DialersAreBatches, link_outcome}
 use Rattle.oram_session.specs.declared.link.LinkFault.TheVariants.{Closed}
 use Rattle.oram_client.specs.Dialer.{fault_of}
 use Rattle.oram_client.specs.declared.dialer.Limits.{Limits}
 use Rattle.oram_client.specs.declared.dialer.Trouble.{Trouble}
 use Rattle.oram_client.specs.declared.dialer.Trouble.TheVariants.{OutOfReach}
-use Rattle.oram_client.specs.Reconnect.{Attempt, DialerKind, IsDelayed, IsGivenUp, IsTried, MakesTries, NextTry, ReconnectBatch, ReconnectState, VainTry, link_outcome}
+use Rattle.oram_client.specs.Reconnect.{DialerKind, IsDelayed, IsGivenUp, IsTried, LinkBatch, LinkLearns, MakesTries, NextTry, ReconnectBatch, ReconnectState, VainTry}
 use Rattle.oram_client.specs.StreamBatches.{Carries, Connection, IsClosed, StreamBatch, cut_short}
 
 -- if the messages of two lists of exchanges are among these bodies, so are those of both lists together
@@ -59,13 +59,13 @@ module _ {R W : Type 0} (remaining : R → Option (List ℕ)) (contents : W → 
       → StreamBatch remaining contents l bodies o exchanges m → IsBatch bodies o exchanges
   streams_are_batches l m bodies o exchanges h = carried l.closed l m bodies o exchanges h.carried
 
-module _ {D L : Type 0} (kind : DialerKind D L) (law : AreBatches kind.batches) where
+module _ {D L : Type 0} (kind : DialerKind D L) (law : DialersAreBatches kind.carries) where
   tried_among : (dialer dialer' : D) (line line' : Option L) (limits : Limits) (bodies : List (List ℕ)) (came : Attempt) (exchanges : List Exchange)
-      → IsTried kind.opens kind.fails kind.batches dialer line limits bodies came exchanges dialer' line' → AreAmong (bodies_of exchanges) bodies
+      → IsTried kind.opens kind.fails kind.carries dialer line limits bodies came exchanges dialer' line' → AreAmong (bodies_of exchanges) bodies
   tried_among dialer dialer' line line' limits bodies came exchanges (inl unopened) =
       subst (λ (es : List Exchange). AreAmong (bodies_of es) bodies) (sym unopened.unsent) tt
   tried_among dialer dialer' line line' limits bodies came exchanges (inr called) =
-      batch_among bodies called.outcome exchanges (law called.way called.way' bodies called.outcome exchanges called.called)
+      batch_among bodies (link_outcome came) exchanges (law called.mid dialer' called.way called.way' bodies came exchanges called.called)
 
   -- the messages of all tries that failed
   pub vain_among : (reconnect_timeout : ℕ) (begin : Option ℕ) (bodies : List (List ℕ)) (w x : NextTry D L) (vain : List VainTry)
@@ -78,21 +78,17 @@ module _ {D L : Type 0} (kind : DialerKind D L) (law : AreBatches kind.batches) 
       (vain_among reconnect_timeout begin bodies folds.0 x vain folds.2)
 
   -- the last try, after tries that failed with these exchanges
-  last_try : (bodies : List (List ℕ)) (o outcome : BatchOutcome) (came : Attempt) (before heard exchanges : List Exchange) (line' : Option L) (way' : L)
-      → AreAmong (bodies_of before) bodies → IsBatch bodies outcome heard
-      → MatchResult outcome (λ answers. (came ≡ Ok answers) × (line' ≡ Some way')) (λ fault. (came ≡ Err (OutOfReach fault)) × (line' ≡ None))
+  last_try : (bodies : List (List ℕ)) (o : BatchOutcome) (came : Attempt) (before heard exchanges : List Exchange) → AreAmong (bodies_of before) bodies → IsBatch bodies (link_outcome came) heard
       → o ≡ link_outcome came → exchanges ≡ before ++ heard → IsBatch bodies o exchanges
-  last_try bodies o (Ok answers) came before heard exchanges line' way' among batch after says all =
-      let answers_are : o ≡ Ok answers = says ∙ ap link_outcome after.0 in
-      subst (λ (k : BatchOutcome). IsBatch bodies k exchanges) (sym answers_are) (
+  last_try bodies o (Ok answers) before heard exchanges among batch says all =
+      subst (λ (k : BatchOutcome). IsBatch bodies k exchanges) (sym says) (
         batch.0,
         before ++ batch.1,
         among_both bodies before batch.1 among batch.2,
         all ∙ ap (λ (es : List Exchange). before ++ es) batch.3 ∙ sym (append_assoc before batch.1 (answered bodies answers)),
       )
-  last_try bodies o (Err fault) came before heard exchanges line' way' among batch after says all =
-      let fault_is : o ≡ Err fault = says ∙ ap link_outcome after.0 in
-      faulty bodies o fault exchanges (before ++ heard) fault_is all (among_both bodies before heard among batch)
+  last_try bodies o (Err trouble) before heard exchanges among batch says all =
+      faulty bodies o (fault_of trouble) exchanges (before ++ heard) says all (among_both bodies before heard among batch)
 
   made : (l m : ReconnectState D L) (bodies : List (List ℕ)) (o : BatchOutcome) (exchanges : List Exchange)
       → MakesTries kind l bodies o exchanges m → IsBatch bodies o exchanges
@@ -104,8 +100,7 @@ module _ {D L : Type 0} (kind : DialerKind D L) (law : AreBatches kind.batches) 
             faulty bodies o (fault_of unopened.why) exchanges (before ++ h.heard) (h.says ∙ ap link_outcome unopened.says) h.all
             (among_both bodies before h.heard among (subst (λ (es : List Exchange). AreAmong (bodies_of es) bodies) (sym unopened.unsent) tt))
         | inr called ↦
-            last_try bodies o called.outcome h.came before h.heard exchanges m.line called.way' among
-            (law called.way called.way' bodies called.outcome h.heard called.called) called.after h.says h.all
+            last_try bodies o h.came before h.heard exchanges among (law called.mid h.mid called.way called.way' bodies h.came h.heard called.called) h.says h.all
       ]
 
   passed : (gave_up : Option Trouble) (l m : ReconnectState D L) (bodies : List (List ℕ)) (o : BatchOutcome) (exchanges : List Exchange)
@@ -118,3 +113,15 @@ module _ {D L : Type 0} (kind : DialerKind D L) (law : AreBatches kind.batches) 
   pub reconnects_are_batches : (l m : ReconnectState D L) (bodies : List (List ℕ)) (o : BatchOutcome) (exchanges : List Exchange)
       → ReconnectBatch kind l bodies o exchanges m → IsBatch bodies o exchanges
   reconnects_are_batches l m bodies o exchanges h = passed l.trouble l m bodies o exchanges h.passed
+
+  -- A link that learns that its process was kept has no exchanges.
+  pub links_are_batches : (learns : D → ℕ → D → Type 0) (l m : ReconnectState D L) (bodies : List (List ℕ)) (o : BatchOutcome) (exchanges : List Exchange)
+      → LinkBatch kind learns l bodies o exchanges m → IsBatch bodies o exchanges
+  links_are_batches learns l m bodies o exchanges (inl h) = reconnects_are_batches l m bodies o exchanges h
+  links_are_batches learns l m bodies o exchanges (inr h) =
+      subst (λ (k : BatchOutcome). IsBatch bodies k exchanges) (sym h.no_answers)
+      (subst (λ (bs : List (List ℕ)). IsBatch bs (Ok []) exchanges) (sym h.no_bodies) (refl, [], tt, h.unsent))
+
+-- What a link does when it learns that its process was kept is a batch of no messages.
+pub learnt_nothing_sent : {D L : Type 0} (kind : DialerKind D L) (learns : D → ℕ → D → Type 0) (l m : ReconnectState D L) (check : ℕ) → LinkLearns learns l check m → SendsNothing (LinkBatch kind learns) l m
+learnt_nothing_sent kind learns l m check learnt = inr (inr (record { no_bodies = refl; no_answers = refl; unsent = refl; check = check; learnt = learnt }))

@@ -2,17 +2,18 @@
 use Rattle.std.specs.Prelude.{◌≡◌, ◌≢◌, ℕ, Bool, true, false, List, [], ◌∷◌, Option, Ok, Some, None, MatchResult, ◌⊎◌}
 use Rattle.oram_wire.specs.HostMessages.{fetch_body, no_room_answer, payload_answer}
 use Rattle.oram_wire.specs.declared.host_messages.TheConstants.{GOOD, REFUSED}
-use Rattle.oram_cli.specs.declared.hosts.HostFault.{HostFault}
-use Rattle.oram_cli.specs.declared.hosts.HostFault.TheVariants as host
 use Rattle.oram_cli.specs.declared.sockets.SocketFault.{SocketFault}
 use Rattle.oram_cli.specs.declared.sockets.SocketFault.TheVariants as socket
+use Rattle.oram_stamps.specs.Known.{Stamps}
+use Rattle.oram_stamps.specs.declared.known.Mismatch.{Mismatch}
+use Rattle.oram_stamps.specs.declared.known.Mismatch.TheVariants as mismatch
 use Rattle.oram_session.specs.declared.link.LinkFault.{LinkFault}
 use Rattle.oram_session.specs.declared.link.LinkFault.TheVariants.{Io, Closed, TooLong, TooLarge, OutOfMemory}
 use Rattle.oram_link_laws.specs.Runs.{Exchange}
 use Rattle.oram_rounds.specs.Batches.{BatchOutcome}
 use Rattle.oram_client.specs.StreamBatches.{Connection, StreamBatch, connection}
 use Rattle.oram_client.specs.declared.dialer.Trouble.{Trouble}
-use Rattle.oram_client.specs.declared.dialer.Trouble.TheVariants.{OutOfReach, NoRoom, AnotherDisk, NoDisk}
+use Rattle.oram_client.specs.declared.dialer.Trouble.TheVariants.{OutOfReach, NoRoom, AnotherDisk, NoDisk, OlderState, OlderHost, NoStamps}
 
 -- whether a trouble may pass while one waits
 abbrev pub may_pass : Trouble → Bool
@@ -20,6 +21,9 @@ may_pass (OutOfReach fault) = true
 may_pass NoRoom = true
 may_pass AnotherDisk = false
 may_pass NoDisk = false
+may_pass OlderState = false
+may_pass OlderHost = false
+may_pass NoStamps = false
 
 -- the link's fault for a socket that can't be used
 abbrev pub link_fault : SocketFault → LinkFault
@@ -36,6 +40,9 @@ lacks_memory (OutOfReach OutOfMemory) = true
 lacks_memory NoRoom = false
 lacks_memory AnotherDisk = false
 lacks_memory NoDisk = false
+lacks_memory OlderState = false
+lacks_memory OlderHost = false
+lacks_memory NoStamps = false
 
 -- the fault that a link reports to its caller for a trouble
 abbrev pub fault_of : Trouble → LinkFault
@@ -43,23 +50,29 @@ fault_of (OutOfReach fault) = fault
 fault_of NoRoom = Closed
 fault_of AnotherDisk = Closed
 fault_of NoDisk = Closed
+fault_of OlderState = Closed
+fault_of OlderHost = Closed
+fault_of NoStamps = Closed
 
--- what is wrong with a host after the link to it has given up with this last trouble
-abbrev pub given_up : Option Trouble → HostFault
-given_up (Some (OutOfReach fault)) = host.OutOfReach
-given_up (Some NoRoom) = host.NoRoom
-given_up (Some AnotherDisk) = host.AnotherDisk
-given_up (Some NoDisk) = host.NoDisk
-given_up None = host.OutOfReach
+-- the trouble with a host whose stamps don't fit what is known of them
+abbrev pub mismatch_trouble : Mismatch → Trouble
+mismatch_trouble mismatch.OlderState = OlderState
+mismatch_trouble mismatch.OlderHost = OlderHost
 
--- the address of a disk's host, and the identity of the disk that it has to keep
+-- the address of a disk's host, the identity of the disk that it has to keep, the key of that disk's stamps, and what is known of them
 pub record Destination : Type 0 where
   pub address : List ℕ
   pub identity : List ℕ
+  pub key : List ℕ
+  pub known : Stamps
 
 -- the message that asks for a disk's identity: the one record of tree 255
 abbrev pub greeting : List ℕ
 greeting = fetch_body 255 0
+
+-- the message that asks for a host's stamps: the records of tree 254
+abbrev pub stamps_question : List ℕ
+stamps_question = fetch_body 254 0
 
 -- what is wrong with the answer to the greeting
 abbrev pub Shows : List ℕ → List ℕ → Trouble → Type 0
@@ -67,6 +80,9 @@ Shows identity answer (OutOfReach fault) = (fault ≡ Io) × (answer ≡ [] ⊎ 
 Shows identity answer NoRoom = answer ≡ no_room_answer
 Shows identity answer AnotherDisk = (other : List ℕ) × (answer ≡ payload_answer other) × (other ≢ identity)
 Shows identity answer NoDisk = (rest : List ℕ) × (answer ≡ REFUSED ∷ rest) × (answer ≢ no_room_answer)
+Shows identity answer OlderState = ⊥
+Shows identity answer OlderHost = ⊥
+Shows identity answer NoStamps = ⊥
 
 -- for streams whose bytes `remaining` and `contents` give
 module _ {S : Type 0} (remaining contents : S → Option (List ℕ)) where

@@ -17,7 +17,7 @@ use Rattle.oram_client.specs.declared.faults.FormattingFault.TheVariants.{NotSto
 use Rattle.oram_client.specs.declared.identity.TheConstants.{IDENTITY_TREE}
 use Rattle.oram_client.specs.Ahead.{ToHost, ArePut, AreTaken, HasAnswer, HasNoAnswer, IsDrained, IsStopped, IsUnput, dones}
 use Rattle.oram_client.specs.Faults.{formatting_fault}
-use Rattle.oram_client.specs.Identity.{IsUnnamed, IsUnrecognized, identity_messages}
+use Rattle.oram_client.specs.Identity.{IsUnowned, IsUnrecognized, own_messages}
 
 -- one more message
 abbrev pub Collects : List (List ℕ) → List ℕ → List (List ℕ) → Type 0
@@ -102,24 +102,24 @@ module _ {R W : Type 0} (remaining : R → Option (List ℕ)) (contents : W → 
     pub put : ArePut remaining contents a messages mid
     pub ended : IsUnmade v messages mid fault b ⊎ ((s : State) × IsNew v Collects [] s messages × IsUnchecked v s mid fault b)
 
-  -- The messages of the identity were written, then those that make the device's trees, those that fetch a path of
+  -- The messages of the identity and of the stamps were written, then those that make the device's trees, those that fetch a path of
   -- each, and the one that fetches the identity. The host answered those that put something with done, the paths are
   -- genuine, and the host gave back the identity.
-  pub record IsFormattedAhead (v : Scheme) (identity : List ℕ) (a : ToHost R W) (s : State) (b : ToHost R W) : Type 0 where
+  pub record IsFormattedAhead (v : Scheme) (identity key : List ℕ) (a : ToHost R W) (s : State) (b : ToHost R W) : Type 0 where
     pub messages : List (List ℕ)
     pub new : IsNew v Collects [] s messages
     pub answers : List (List ℕ)
     pub answers_count : length answers ≡ trees_of v.device
     pub due : b.due ≡ 0
     pub wrote : Appends (contents a.writer) (contents b.writer)
-        (flat_map frame (identity_messages identity ++ messages) ++ fetches (trees_of v.device) ++ frame (fetch_body IDENTITY_TREE 0))
+        (flat_map frame (own_messages identity key ++ messages) ++ fetches (trees_of v.device) ++ frame (fetch_body IDENTITY_TREE 0))
     pub read : Consumes (remaining a.reader) (remaining b.reader)
-        (dones (a.due + length (identity_messages identity ++ messages)) ++ paths answers ++ frame (payload_answer identity))
+        (dones (a.due + length (own_messages identity key ++ messages)) ++ paths answers ++ frame (payload_answer identity))
     pub genuine : AreGenuine v s (trees_of v.device) answers
 
-  -- A formatting was broken off: while it put the identity, while it made the trees, or when it fetched the identity.
-  abbrev pub IsFormattedInPart : Scheme → List ℕ → ToHost R W → FormattingFault → ToHost R W → Type 0
-  IsFormattedInPart v identity a fault b =
-      IsUnnamed remaining contents identity a fault b
-      ⊎ ((named : ToHost R W) × AreTaken remaining contents a (identity_messages identity) named × AreTreesMadeInPart v named fault b)
-      ⊎ ((named : ToHost R W) × (made : ToHost R W) × (s : State) × AreTaken remaining contents a (identity_messages identity) named × AreTreesMade v named s made × IsUnrecognized remaining contents identity made fault b)
+  -- A formatting was broken off: while it put the identity and the stamps, while it made the trees, or when it fetched the identity.
+  abbrev pub IsFormattedInPart : Scheme → List ℕ → List ℕ → ToHost R W → FormattingFault → ToHost R W → Type 0
+  IsFormattedInPart v identity key a fault b =
+      IsUnowned remaining contents identity key a fault b
+      ⊎ ((named : ToHost R W) × AreTaken remaining contents a (own_messages identity key) named × AreTreesMadeInPart v named fault b)
+      ⊎ ((named : ToHost R W) × (made : ToHost R W) × (s : State) × AreTaken remaining contents a (own_messages identity key) named × AreTreesMade v named s made × IsUnrecognized remaining contents identity made fault b)

@@ -16,6 +16,10 @@ bucket_key key salt = derived_key key (codes "vidlaqe bucket key") salt
 abbrev pub tape_key : List ℕ → List ℕ → List ℕ
 tape_key key salt = derived_key key (codes "vidlaqe tape key") salt
 
+-- the key of the stamps of a formatting
+abbrev pub stamp_key : List ℕ → List ℕ → List ℕ
+stamp_key key salt = derived_key key (codes "vidlaqe stamp key") salt
+
 -- the value that shows whether a key is the disk's
 abbrev pub key_check : List ℕ → List ℕ → List ℕ
 key_check key salt = derived_key key (codes "vidlaqe key check") salt

@@ -16,3 +16,7 @@ pub mod DeedHistory
 pub mod FilePlace
 pub mod NextProcess
 pub mod FolderExample
+pub mod Attempts
+pub mod StampMessages
+pub mod Stamped
+pub mod StampedBatches

@@ -16,7 +16,7 @@ use Rattle.oram_link_laws.specs.Runs.{Exchange, HostRun, bodies_of}
 use Rattle.oram_link_laws.specs.Streamed.{Supplies}
 use Rattle.oram_rounds.specs.Batches.{BatchOutcome, answered}
 use Rattle.oram_rounds.specs.CatchUp.{PlainRun}
-use Rattle.oram_rounds.specs.Law.{AreBatches}
+use Rattle.oram_client.specs.Attempts.{Attempt, DialersAreBatches, Plainly}
 use Rattle.oram_client.specs.Reconnect.{DialerKind, ReconnectBatch, ReconnectState, dialer_kind}
 use Rattle.oram_client.specs.StreamBatches.{Connection, StreamBatch, connection}
 use Rattle.oram_client.specs.declared.dialer.Limits.{Limits}
@@ -27,8 +27,9 @@ abbrev pub TriesRun : Bool → Scheme → Host → List (List Exchange) → Host
 TriesRun may_lie v host tries after = FoldsTo {P = Host} {A = List Exchange} (PlainRun may_lie v) host tries after
 
 -- each try has the exchanges of a batch of these messages over a connection, or no exchanges if no connection was open
-abbrev pub AreTries : {L : Type 0} → (L → List (List ℕ) → BatchOutcome → List Exchange → L → Type 0) → List (List ℕ) → List (List Exchange) → Type 0
-AreTries {L} batches bodies tries = AllByRecursion (λ exchanges. (exchanges ≡ []) ⊎ ((from to : L) × (o : BatchOutcome) × batches from bodies o exchanges to)) tries
+abbrev pub AreTries : {D L : Type 0} → (D → L → List (List ℕ) → Attempt → List Exchange → D → L → Type 0) → List (List ℕ) → List (List Exchange) → Type 0
+AreTries {D} {L} carries bodies tries =
+    AllByRecursion (λ exchanges. (exchanges ≡ []) ⊎ ((d e : D) × (from to : L) × (came : Attempt) × carries d from bodies came exchanges e to)) tries
 
 -- for dialers and connections with these relations
 module _ {D L : Type 0} (kind : DialerKind D L) where
@@ -37,13 +38,13 @@ module _ {D L : Type 0} (kind : DialerKind D L) where
   abbrev pub ExchangesAreOfTheTries : Type 0
   ExchangesAreOfTheTries = (l m : ReconnectState D L) (bodies : List (List ℕ)) (o : BatchOutcome) (exchanges : List Exchange)
       → ReconnectBatch kind l bodies o exchanges m
-      → (tries : List (List Exchange)) × AreTries kind.batches bodies tries
+      → (tries : List (List Exchange)) × AreTries kind.carries bodies tries
       × ((may_lie : Bool) (v : Scheme) (host after : Host) → TriesRun may_lie v host tries after ↔ PlainRun may_lie v host exchanges after)
 
   -- The answers that the caller receives are the host's, to all messages in their order, after the host received any of the
   -- messages in tries that failed. None of them says that the host has no room, unless the link has given up.
   abbrev pub AnswersAreTheHosts : Type 0
-  AnswersAreTheHosts = AreBatches kind.batches
+  AnswersAreTheHosts = DialersAreBatches kind.carries
       → (may_lie : Bool) (v : Scheme) (l m : ReconnectState D L) (bodies answers : List (List ℕ)) (exchanges : List Exchange) (host after : Host)
       → ReconnectBatch kind l bodies (Ok answers) exchanges m → PlainRun may_lie v host exchanges after
       → (vain : List Exchange) × AreAmong (bodies_of vain) bodies
@@ -61,10 +62,10 @@ module _ {D L : Type 0} (kind : DialerKind D L) where
   pub record LeadToOneHost (may_lie : Bool) (v : Scheme) (bodies : List (List ℕ)) (host_of : D → Option L → Option Host) : Type 0 where
     pub opened : (d e : D) (limits : Limits) (line : L) (host : Host) → host_of d None ≡ Some host → kind.opens d limits line e → host_of e (Some line) ≡ Some host
     pub unopened : (d e : D) (limits : Limits) (trouble : Trouble) (host : Host) → host_of d None ≡ Some host → kind.fails d limits trouble e → host_of e None ≡ Some host
-    pub answered_over : (d : D) (line way : L) (answers : List (List ℕ)) (exchanges : List Exchange) (host : Host) → host_of d (Some line) ≡ Some host
-        → kind.batches line bodies (Ok answers) exchanges way → (after : Host) × PlainRun may_lie v host exchanges after × (host_of d (Some way) ≡ Some after)
-    pub broken_off : (d : D) (line way : L) (fault : LinkFault) (exchanges : List Exchange) (host : Host) → host_of d (Some line) ≡ Some host
-        → kind.batches line bodies (Err fault) exchanges way → (after : Host) × PlainRun may_lie v host exchanges after × (host_of d None ≡ Some after)
+    pub answered_over : (d e : D) (line way : L) (answers : List (List ℕ)) (exchanges : List Exchange) (host : Host) → host_of d (Some line) ≡ Some host
+        → kind.carries d line bodies (Ok answers) exchanges e way → (after : Host) × PlainRun may_lie v host exchanges after × (host_of e (Some way) ≡ Some after)
+    pub broken_off : (d e : D) (line way : L) (trouble : Trouble) (exchanges : List Exchange) (host : Host) → host_of d (Some line) ≡ Some host
+        → kind.carries d line bodies (Err trouble) exchanges e way → (after : Host) × PlainRun may_lie v host exchanges after × (host_of e None ≡ Some after)
     pub paused : (d e : D) (line : Option L) (milliseconds : ℕ) (host : Host) → host_of d line ≡ Some host → kind.pauses d milliseconds e → host_of e line ≡ Some host
     pub clock_read : (d e : D) (line : Option L) (now : Option ℕ) (host : Host) → host_of d line ≡ Some host → kind.reads d now e → host_of e line ≡ Some host
 
@@ -184,8 +185,8 @@ done_link = record { dialer = 2; line = Some emptied; reconnect_timeout = 1000; 
 
 -- The batch sends both messages again, and all connections lead to the host, which is honest in all exchanges.
 abbrev pub TwoTriesExample : Type 0
-TwoTriesExample = ((may_lie : Bool) → LeadToOneHost (dialer_kind OpensNext NeverFails PausesBetween ReadsNoClock (StreamBatch known known)) may_lie one_block messages host_now)
+TwoTriesExample = ((may_lie : Bool) → LeadToOneHost (dialer_kind OpensNext NeverFails PausesBetween ReadsNoClock (Plainly (StreamBatch known known))) may_lie one_block messages host_now)
     × (host_now fresh.dialer fresh.line ≡ Some new_host)
-    × ReconnectBatch (dialer_kind OpensNext NeverFails PausesBetween ReadsNoClock (StreamBatch known known)) fresh messages (Ok (done_answer ∷ payload_answer ones ∷ [])) two_tries done_link
+    × ReconnectBatch (dialer_kind OpensNext NeverFails PausesBetween ReadsNoClock (Plainly (StreamBatch known known))) fresh messages (Ok (done_answer ∷ payload_answer ones ∷ [])) two_tries done_link
     × HostRun new_host two_tries ones_host
     × Supplies ones_host messages (comes_over 1) × LeadsToHost new_host messages (comes_over 0) ones_host

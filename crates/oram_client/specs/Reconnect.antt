@@ -1,13 +1,13 @@
 -- A link that tries until its host answers or its reconnect timeout has passed. All times are in milliseconds.
 use Rattle.std.specs.Prelude.{◌≡◌, ℕ, ◌-◌, ◌*◌, ◌<◌, min, max, cond, true, false, List, [], ◌++◌, Option, None, Some, Result, Ok, Err, IsOk, MatchOption, MatchResult, ◌⊎◌}
-use Rattle.std.specs.Global.{Vec}
 use Rattle.std.specs.List.{FoldsTo, flat_map}
 use Rattle.oram_wire.specs.HostMessages.{no_room_answer}
 use Rattle.oram_session.specs.declared.link.LinkFault.TheVariants.{Closed}
 use Rattle.oram_link_laws.specs.Repair.{IsAmong}
 use Rattle.oram_link_laws.specs.Runs.{Exchange}
-use Rattle.oram_rounds.specs.Batches.{BatchOutcome, texts}
-use Rattle.oram_client.specs.Dialer.{fault_of, lacks_memory, may_pass}
+use Rattle.oram_rounds.specs.Batches.{BatchOutcome}
+use Rattle.oram_client.specs.Attempts.{Attempt, link_outcome}
+use Rattle.oram_client.specs.Dialer.{lacks_memory, may_pass}
 use Rattle.oram_client.specs.declared.dialer.Limits.{Limits}
 use Rattle.oram_client.specs.declared.dialer.Trouble.{Trouble}
 use Rattle.oram_client.specs.declared.dialer.Trouble.TheVariants.{OutOfReach, NoRoom}
@@ -19,15 +19,6 @@ pub record ReconnectState (D L : Type 0) : Type 0 where
   pub reconnect_timeout : ℕ
   pub trouble : Option Trouble  -- why it gave up, once it has
 
--- the outcome of a try: the host's answers to all messages, or why they are missing
-abbrev pub Attempt : Type 0
-Attempt = Result (List (List ℕ)) Trouble
-
--- an attempt, without where the answers' bytes lie in memory
-abbrev pub attempt_of : Result (Vec (Vec ℕ)) Trouble → Attempt
-attempt_of (Ok answers) = Ok (texts answers.items)
-attempt_of (Err trouble) = Err trouble
-
 -- Why an attempt has to be made again: not all messages were answered, or the host had no room for one of them. `None` if
 -- the attempt has something for the caller: the answers, or that memory ran out.
 abbrev pub IsTroubleIn : Attempt → Option Trouble → Type 0
@@ -35,11 +26,6 @@ IsTroubleIn (Ok answers) None = ¬ IsAmong no_room_answer answers
 IsTroubleIn (Ok answers) (Some trouble) = IsAmong no_room_answer answers × (trouble ≡ NoRoom)
 IsTroubleIn (Err why) None = lacks_memory why ≡ true
 IsTroubleIn (Err why) (Some trouble) = (trouble ≡ why) × (lacks_memory why ≡ false)
-
--- what the caller receives for an attempt
-abbrev pub link_outcome : Attempt → BatchOutcome
-link_outcome (Ok answers) = Ok answers
-link_outcome (Err trouble) = Err (fault_of trouble)
 
 -- what a program learns when it asks whether its host is there: that the host has answered, or why it hasn't
 abbrev pub IsReached : {A : Type 0} → BatchOutcome → Option Trouble → Result A Trouble → Type 0
@@ -69,9 +55,9 @@ elapsed None to = 0
 abbrev pub time_left : (reconnect_timeout : ℕ) (begin : Option ℕ) (left : ℕ) → Trouble → (now : Option ℕ) → ℕ
 time_left reconnect_timeout begin left trouble now = cond (may_pass trouble) (min left (reconnect_timeout - elapsed begin now)) 0
 
--- for dialers that open connections by `opens` or fail by `fails`, and connections with batches by `batches`
+-- for dialers that open connections by `opens` or fail by `fails`, and carry batches over them by `carries`
 module _ {D L : Type 0} (opens : D → Limits → L → D → Type 0) (fails : D → Limits → Trouble → D → Type 0)
-    (batches : L → List (List ℕ) → BatchOutcome → List Exchange → L → Type 0) where
+    (carries : D → L → List (List ℕ) → Attempt → List Exchange → D → L → Type 0) where
   -- the open connection, or a new one
   abbrev pub HasLine : D → Option L → Limits → L → D → Type 0
   HasLine dialer line limits way dialer' = MatchOption line (opens dialer limits way dialer') (λ held. (way ≡ held) × (dialer' ≡ dialer))
@@ -87,12 +73,12 @@ module _ {D L : Type 0} (opens : D → Limits → L → D → Type 0) (fails : D
 
   -- All messages go over a connection once. If the batch has a fault, the connection is closed.
   pub record IsCalled (dialer : D) (line : Option L) (limits : Limits) (bodies : List (List ℕ)) (came : Attempt) (exchanges : List Exchange) (dialer' : D) (line' : Option L) : Type 0 where
+    pub mid : D
     pub way : L
-    pub had : HasLine dialer line limits way dialer'
-    pub outcome : BatchOutcome
+    pub had : HasLine dialer line limits way mid
     pub way' : L
-    pub called : batches way bodies outcome exchanges way'
-    pub after : MatchResult outcome (λ answers. (came ≡ Ok answers) × (line' ≡ Some way')) (λ fault. (came ≡ Err (OutOfReach fault)) × (line' ≡ None))
+    pub called : carries mid way bodies came exchanges dialer' way'
+    pub after : MatchResult came (λ answers. line' ≡ Some way') (λ trouble. line' ≡ None)
 
   abbrev pub IsTried : D → Option L → Limits → List (List ℕ) → Attempt → List Exchange → D → Option L → Type 0
   IsTried dialer line limits bodies came exchanges dialer' line' =
@@ -130,17 +116,17 @@ pub record VainTry : Type 0 where
   pub exchanges : List Exchange
 
 -- A kind of dialer, in the words of the trait `Dial`: how it opens a connection or fails to, how it pauses and reads its clock,
--- and how a connection carries a batch.
+-- and how it carries a batch over a connection.
 pub record DialerKind (D L : Type 0) : Type 1 where
   pub opens : D → Limits → L → D → Type 0
   pub fails : D → Limits → Trouble → D → Type 0
   pub pauses : D → ℕ → D → Type 0
   pub reads : D → Option ℕ → D → Type 0
-  pub batches : L → List (List ℕ) → BatchOutcome → List Exchange → L → Type 0
+  pub carries : D → L → List (List ℕ) → Attempt → List Exchange → D → L → Type 0
 
 abbrev pub dialer_kind : {D L : Type 0} → (D → Limits → L → D → Type 0) → (D → Limits → Trouble → D → Type 0) → (D → ℕ → D → Type 0) → (D → Option ℕ → D → Type 0)
-    → (L → List (List ℕ) → BatchOutcome → List Exchange → L → Type 0) → DialerKind D L
-dialer_kind opens fails pauses reads batches = record { opens = opens; fails = fails; pauses = pauses; reads = reads; batches = batches }
+    → (D → L → List (List ℕ) → Attempt → List Exchange → D → L → Type 0) → DialerKind D L
+dialer_kind opens fails pauses reads carries = record { opens = opens; fails = fails; pauses = pauses; reads = reads; carries = carries }
 
 -- for dialers and connections of this kind
 module _ {D L : Type 0} (kind : DialerKind D L) where
@@ -148,7 +134,7 @@ module _ {D L : Type 0} (kind : DialerKind D L) where
   pub record IsDelayed (reconnect_timeout : ℕ) (begin : Option ℕ) (bodies : List (List ℕ)) (w : NextTry D L) (vain : VainTry) (x : NextTry D L) : Type 0 where
     pub came : Attempt
     pub mid : D
-    pub tried : IsTried kind.opens kind.fails kind.batches w.dialer w.line (limits reconnect_timeout w.left) bodies came vain.exchanges mid x.line
+    pub tried : IsTried kind.opens kind.fails kind.carries w.dialer w.line (limits reconnect_timeout w.left) bodies came vain.exchanges mid x.line
     pub shows : IsTroubleIn came (Some vain.trouble)
     pub paused : IsPaused kind.pauses kind.reads reconnect_timeout begin mid w.pause w.left vain.trouble x.dialer x.pause x.left
 
@@ -164,7 +150,7 @@ module _ {D L : Type 0} (kind : DialerKind D L) where
     pub came : Attempt
     pub heard : List Exchange  -- those of the last try
     pub mid : D
-    pub tried : IsTried kind.opens kind.fails kind.batches last.dialer last.line (limits l.reconnect_timeout last.left) bodies came heard mid m.line
+    pub tried : IsTried kind.opens kind.fails kind.carries last.dialer last.line (limits l.reconnect_timeout last.left) bodies came heard mid m.line
     pub shows : IsTroubleIn came m.trouble
     pub ends : MatchOption m.trouble (m.dialer ≡ mid) (λ why. IsTimedOut kind.pauses kind.reads l.reconnect_timeout begin mid last.left why m.dialer)
     pub says : outcome ≡ link_outcome came
@@ -184,3 +170,19 @@ module _ {D L : Type 0} (kind : DialerKind D L) where
   pub record ReconnectBatch (l : ReconnectState D L) (bodies : List (List ℕ)) (outcome : BatchOutcome) (exchanges : List Exchange) (m : ReconnectState D L) : Type 0 where
     pub passed : Passes l bodies outcome exchanges m
     pub reconnect_timeout : m.reconnect_timeout ≡ l.reconnect_timeout
+
+-- the link learns that its process was kept, in a file with this checksum
+abbrev pub LinkLearns : {D L : Type 0} → (D → ℕ → D → Type 0) → ReconnectState D L → ℕ → ReconnectState D L → Type 0
+LinkLearns learns l check m = learns l.dialer check m.dialer × (m ≡ record l { dialer = m.dialer })
+
+-- no messages, and nothing is sent
+pub record HasLearnt {D L : Type 0} (learns : D → ℕ → D → Type 0) (l : ReconnectState D L) (bodies : List (List ℕ)) (outcome : BatchOutcome) (exchanges : List Exchange) (m : ReconnectState D L) : Type 0 where
+  pub no_bodies : bodies ≡ []
+  pub no_answers : outcome ≡ Ok []
+  pub unsent : exchanges ≡ []
+  pub check : ℕ
+  pub learnt : LinkLearns learns l check m
+
+-- A batch over such a link. A link that learns that its process was kept does no more than in a batch of no messages.
+abbrev pub LinkBatch : {D L : Type 0} → DialerKind D L → (D → ℕ → D → Type 0) → ReconnectState D L → List (List ℕ) → BatchOutcome → List Exchange → ReconnectState D L → Type 0
+LinkBatch kind learns l bodies outcome exchanges m = ReconnectBatch kind l bodies outcome exchanges m ⊎ HasLearnt learns l bodies outcome exchanges m

@@ -51,10 +51,10 @@ impl<R, W, P> Model for Ahead<R, W, P> {
     ghost invariant = { λ a. a.due ≤ most_due };
 }
 
-/// Returns how many messages make a disk: for each tree a SHAPE and a PUT for each of its nodes, and one of each for
-/// the disk's identity.
+/// Returns how many messages make a disk: for each tree a SHAPE and a PUT for each of its nodes; one of each for the disk's identity; and
+/// a SHAPE and two PUTs for its stamps.
 fn messages_of(device: &Device) -> u64 {
-    let mut messages = 2u64;
+    let mut messages = 5u64;
     for tree in 0..device.trees() {
         messages = messages.saturating_add(2 << device.depth(tree));
     }

@@ -1,11 +1,13 @@
 //! How a connection to a host is opened, what can be wrong with a host, and who is notified of it.
-ghost use Rattle.std.specs.Prelude.{◌≡◌, ℕ, Option, IfOk, IfErr};
-ghost use Rattle.oram_client.specs.Dialer as spec;
+ghost use Rattle.std.specs.Prelude.{◌≡◌, ◌++◌, ℕ, List, Option, IfOk, IfErr};
+ghost use Rattle.oram_client.specs.Attempts.{Attempt, DialersAreBatches, attempt_of};
+ghost use Rattle.oram_link_laws.specs.Runs.{Exchange};
+ghost use Rattle.oram_rounds.specs.Batches.{texts};
 
-use oram_cli::{HostFault, SocketFault};
-use oram_rounds::BatchLink;
+use oram_cli::SocketFault;
 use oram_session::LinkFault;
-use std::alloc::Global;
+use oram_stamps::Mismatch;
+use std::alloc::{AllocError, Global};
 use std::io;
 
 /// Why a host gives no useful answer.
@@ -19,19 +21,30 @@ pub enum Trouble {
     AnotherDisk,
     /// The host keeps no disk that has an identity.
     NoDisk,
+    /// The host has stored what a newer state of the disk has sent than the one that this process goes on from.
+    OlderState,
+    /// The host shows an older file of the disk than it has shown before.
+    OlderHost,
+    /// The host shows no stamps that were made with the disk's key.
+    NoStamps,
 }
 
 impl Trouble {
     ghost use Rattle.std.specs.Prelude.{◌≡◌};
     ghost use Rattle.oram_client.specs.Dialer.{fault_of, lacks_memory, may_pass};
 
-    /// Returns whether the trouble may pass if one waits. A host that keeps another disk goes on doing so.
+    /// Returns whether the trouble may pass if one waits. A host that keeps another disk goes on doing so, and what it keeps doesn't
+    /// come to fit this process.
     pub fn may_pass(self) -> bool
         ensures { result ≡ may_pass self }
     {
         match self {
             Trouble::OutOfReach(_) | Trouble::NoRoom => true,
-            Trouble::AnotherDisk | Trouble::NoDisk => false,
+            Trouble::AnotherDisk
+            | Trouble::NoDisk
+            | Trouble::OlderState
+            | Trouble::OlderHost
+            | Trouble::NoStamps => false,
         }
     }
 
@@ -41,8 +54,7 @@ impl Trouble {
     {
         match self {
             Trouble::OutOfReach(LinkFault::OutOfMemory) => true,
-            Trouble::OutOfReach(_) | Trouble::NoRoom | Trouble::AnotherDisk | Trouble::NoDisk =>
-                false,
+            _ => false,
         }
     }
 
@@ -52,20 +64,22 @@ impl Trouble {
     {
         match self {
             Trouble::OutOfReach(fault) => fault,
-            Trouble::NoRoom | Trouble::AnotherDisk | Trouble::NoDisk => LinkFault::Closed,
+            _ => LinkFault::Closed,
         }
     }
 }
 
-/// Returns what is wrong with a host after the link to it has given up with `trouble` as the last trouble.
-pub fn given_up(trouble: Option<Trouble>) -> HostFault
-    ensures { result ≡ spec.given_up trouble }
-{
-    match trouble {
-        Some(Trouble::NoRoom) => HostFault::NoRoom,
-        Some(Trouble::AnotherDisk) => HostFault::AnotherDisk,
-        Some(Trouble::NoDisk) => HostFault::NoDisk,
-        Some(Trouble::OutOfReach(_)) | None => HostFault::OutOfReach,
+impl From<Mismatch> for Trouble {
+    ghost use Rattle.std.specs.Prelude.{◌≡◌};
+    ghost use Rattle.oram_client.specs.Dialer.{mismatch_trouble};
+
+    ghost from_gives = { λ why trouble. trouble ≡ mismatch_trouble why };
+
+    fn from(why: Mismatch) -> Trouble {
+        match why {
+            Mismatch::OlderState => Trouble::OlderState,
+            Mismatch::OlderHost => Trouble::OlderHost,
+        }
     }
 }
 
@@ -77,6 +91,18 @@ impl From<LinkFault> for Trouble {
 
     fn from(fault: LinkFault) -> Trouble {
         Trouble::OutOfReach(fault)
+    }
+}
+
+impl From<AllocError> for Trouble {
+    ghost use Rattle.std.specs.Prelude.{◌≡◌};
+    ghost use Rattle.oram_client.specs.declared.dialer.Trouble.TheVariants.{OutOfReach};
+    ghost use Rattle.oram_session.specs.declared.link.LinkFault.TheVariants.{OutOfMemory};
+
+    ghost from_gives = { λ _ trouble. trouble ≡ OutOfReach OutOfMemory };
+
+    fn from(_error: AllocError) -> Trouble {
+        Trouble::OutOfReach(LinkFault::OutOfMemory)
     }
 }
 
@@ -121,13 +147,16 @@ pub struct Limits {
     pub batch: u64,
 }
 
-/// Opens connections to a host, and has the clock that measures the waiting.
+/// Opens connections to a host and carries batches of messages over them, and has the clock that measures the waiting.
+///
+/// A dialer may have something to remember beyond the end of its process, as a [`BatchLink`](oram_rounds::BatchLink) may.
 pub trait Dial {
+    ghost use Rattle.oram_client.specs.Attempts.{Attempt, DialersAreBatches};
     ghost use Rattle.oram_client.specs.declared.dialer.Limits.{Limits};
     ghost use Rattle.oram_client.specs.declared.dialer.Trouble.{Trouble};
 
     /// A connection. It is used until a batch over it has a fault.
-    type Line: BatchLink + Drop;
+    type Line: Drop;
 
     /// `opens old limits line new`: a try within `limits` may open `line`, and turns the dialer from `old` into `new`.
     ghost opens: { Self → Limits → Self.Line → Self → Type 0 };
@@ -143,10 +172,43 @@ pub trait Dial {
     /// from `old` into `new`.
     ghost reads: { Self → Option ℕ → Self → Type 0 };
 
+    /// `carries old line bodies outcome exchanges new line'`: a batch of these bodies over `line` may have this outcome and these
+    /// exchanges with the host. It turns the dialer from `old` into `new`, and the connection into `line'`.
+    ghost carries: { Self → Self.Line → List (List ℕ) → Attempt → List Exchange → Self → Self.Line → Type 0 };
+
+    /// The bytes that the dialer wants to have kept with its process.
+    ghost notes: { Self → List ℕ };
+
+    /// Whether the first value may become the second one when the dialer learns that the process was kept, with the dialer's note,
+    /// in a file with this checksum.
+    ghost learns: { Self → ℕ → Self → Type 0 };
+
     /// Tries once to open a connection.
     fn dial(&mut self, alloc: Global, limits: Limits) -> Result<Self::Line, Trouble>
         ensures ok { IfOk result (λ line. opens self.old limits line self.new) }
         ensures err { IfErr result (λ trouble. fails self.old limits trouble self.new) };
+
+    /// Sends the bodies of `first` and then those of `last` over a connection that this dialer has opened, in this order, and returns
+    /// their answers in the same order. It fails if an answer is missing; the host may then have received any of the bodies.
+    fn carry(
+        &mut self,
+        alloc: Global,
+        line: &mut Self::Line,
+        first: &[Vec<u8>],
+        last: &[Vec<u8>],
+    ) -> Result<Vec<Vec<u8>>, Trouble>
+        ensures { (exchanges : List Exchange) × carries self.old line.old (texts first.now ++ texts last.now) (attempt_of result) exchanges self.new line.new };
+
+    /// Returns the dialer's note, which may be empty.
+    fn note(&self, alloc: Global) -> Result<Vec<u8>, AllocError>
+        ensures { IfOk result (λ note. note.items ≡ notes self.now) };
+
+    /// Tells the dialer that the process was kept, with the dialer's note, in a file with the checksum `check`. Sends nothing.
+    fn learn_kept(&mut self, check: u64)
+        ensures { learns self.old check self.new };
+
+    // The exchanges are those of the bodies, and the last ones have the answers.
+    ghost are_batches: { DialersAreBatches carries };
 
     /// Waits for `milliseconds`.
     fn pause(&mut self, milliseconds: u64)

@@ -9,12 +9,13 @@ ghost use Rattle.oram_client.specs.Formatting.{AreSeen, AreTreesMade, AreTreesMa
 
 use crate::ahead::{Ahead, Progress};
 use crate::faults::FormattingFault;
-use crate::identity::{check_identity, put_identity};
+use crate::identity::{check_identity, put_own};
 use crate::keys::Identity;
 use oram_bucket::Sealer;
 use oram_core::Core;
 use oram_geometry::Device;
 use oram_hash::check_path;
+use oram_stamps::StampKey;
 use oram_tree::TreeParts;
 use oram_wire::GOOD;
 use std::alloc::Global;
@@ -94,7 +95,8 @@ fn format_trees<S: Sealer, R: Read, W: Write, P: Progress>(
 
 /// Formats a disk with `identity` at the host at the other end of a connection, and returns its core.
 ///
-/// The identity goes first, so that a host that already keeps a disk refuses at once. The trees' messages go ahead of
+/// The identity goes first, so that a host that already keeps a disk refuses at once. Then the disk's first stamp is put at both of the
+/// host's places. The trees' messages go ahead of
 /// their answers, which are checked as they come: any answer other than `80` fails the whole formatting. At the end it
 /// fetches a path of each tree, checks it against the tree's root digest, and fetches the identity. A host may collect
 /// PUTs and make them durable in groups, but it has to finish all of them before it answers any other request. So once
@@ -104,18 +106,19 @@ pub fn format_ahead<S: Sealer, R: Read, W: Write, P: Progress>(
     device: Device,
     sealer: S,
     identity: &Identity,
+    stamps: &StampKey,
     ahead: &mut Ahead<R, W, P>,
 ) -> Result<Core<S>, FormattingFault>
     ensures device { IfOk result (λ c. c.device ≡ device) }
     ensures sealer { IfOk result (λ c. c.sealer ≡ sealer) }
     ensures made { let v = scheme_with S.cipher device sealer in
-        IfOk result (λ c. IsFormattedAhead R.remaining W.contents v identity.now.0 ahead.old c.state ahead.new) }
+        IfOk result (λ c. IsFormattedAhead R.remaining W.contents v identity.now.0 stamps.now.0 ahead.old c.state ahead.new) }
 
     // What was written and read up to a fault, and which fault it is.
     ensures broken_off { let v = scheme_with S.cipher device sealer in
-        IfErr result (λ fault. IsFormattedInPart R.remaining W.contents v identity.now.0 ahead.old fault ahead.new) }
+        IfErr result (λ fault. IsFormattedInPart R.remaining W.contents v identity.now.0 stamps.now.0 ahead.old fault ahead.new) }
 {
-    put_identity(alloc, identity, ahead)?;
+    put_own(alloc, identity, stamps, ahead)?;
     let core = format_trees(alloc, device, sealer, ahead)?;
     check_identity(identity, ahead)?;
     Ok(core)

@@ -3,6 +3,7 @@ ghost use Rattle.std.specs.Prelude.{◌≡◌, codes};
 ghost use Rattle.oram_client.specs.Keys.{derived_key};
 ghost use Rattle.oram_client.specs.Keys as spec;
 
+use oram_stamps::StampKey;
 use sha2::{Digest, Sha256};
 use std::fmt;
 
@@ -77,6 +78,13 @@ pub fn tape_key(key: &DiskKey, salt: &Salt) -> TapeKey
     ensures { result.0 ≡ spec.tape_key key.now.0 salt.now.0 }
 {
     TapeKey(derived(key, b"vidlaqe tape key", salt))
+}
+
+/// Derives the key of the stamps of the formatting with this salt.
+pub fn stamp_key(key: &DiskKey, salt: &Salt) -> StampKey
+    ensures { result.0 ≡ spec.stamp_key key.now.0 salt.now.0 }
+{
+    StampKey(derived(key, b"vidlaqe stamp key", salt))
 }
 
 /// Computes the key check of the formatting with this salt.

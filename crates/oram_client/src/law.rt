@@ -10,26 +10,26 @@ use std::io::{Read, Write};
 /// one after the other, then that host takes part in those of the whole batch, and the laws about links and their hosts hold of
 /// it.
 pub fn exchanges_are_of_the_tries<D: Dial>()
-    ensures { ExchangesAreOfTheTries (dialer_kind D.opens D.fails D.pauses D.reads D.Line.batches) }
+    ensures { ExchangesAreOfTheTries (dialer_kind D.opens D.fails D.pauses D.reads D.carries) }
 {}
 
 /// A law about definitions: the answers that such a link gives are those of the host beside it, to all messages of the batch in
 /// their order. In the tries before, the host may have received any of these messages, and no others. None of these answers
 /// says that the host has no room, unless the link has given up.
 pub fn answers_are_the_hosts<D: Dial>()
-    ensures { AnswersAreTheHosts (dialer_kind D.opens D.fails D.pauses D.reads D.Line.batches) }
+    ensures { AnswersAreTheHosts (dialer_kind D.opens D.fails D.pauses D.reads D.carries) }
 {}
 
 /// A law about definitions: such a link returns a fault only if it has given up, or if memory ran out.
 pub fn faults_are_of_memory<D: Dial>()
-    ensures { FaultsAreOfMemory (dialer_kind D.opens D.fails D.pauses D.reads D.Line.batches) }
+    ensures { FaultsAreOfMemory (dialer_kind D.opens D.fails D.pauses D.reads D.carries) }
 {}
 
 /// A law about definitions: all connections that a [`ReconnectLink`](crate::ReconnectLink) opens lead to one host, including
 /// those that break off. Then the exchanges of a batch over it are those of that host, from connection to connection, and
 /// afterwards the link leads to the host again.
 pub fn exchanges_are_of_one_host<D: Dial>()
-    ensures { ExchangesAreOfOneHost (dialer_kind D.opens D.fails D.pauses D.reads D.Line.batches) }
+    ensures { ExchangesAreOfOneHost (dialer_kind D.opens D.fails D.pauses D.reads D.carries) }
 {}
 
 /// A law about definitions: a batch goes over a [`StreamBatches`](crate::StreamBatches) whose reader is known to give a host's

@@ -7,8 +7,8 @@
 //! the process ends between them, the file is found whole; [`FilePlace::read`] reads it back for the next process, which
 //! finds what was kept ([`next_process_finds_what_was_kept`]).
 //! A [`ReconnectLink`] carries batches of messages, and tries until the host answers all of them or the reconnect timeout
-//! has passed. A [`TcpDialer`] opens its connections, and only to a host that keeps the disk. [`given_up`] says what is
-//! wrong with a host once a link has given up.
+//! has passed. A [`TcpDialer`] opens its connections, and only to a host that keeps the disk, and whose stamps fit what the
+//! client knows of them.
 //! [`format_ahead`] formats a disk over an [`Ahead`], a connection that sends messages ahead of their answers.
 #![tactic(auto)]
 
@@ -35,18 +35,18 @@ mod timed_link;
 
 pub use ahead::{Ahead, Progress};
 pub use deed_history::DeedHistory;
-pub use dialer::{Dial, HostWatch, Limits, Trouble, given_up};
+pub use dialer::{Dial, HostWatch, Limits, Trouble};
 pub use disk_format::format_ahead;
 pub use disk_keys::{Keys, WrongKey, keys_for};
 pub use faults::FormattingFault;
 pub use file_keeper::FileKeeper;
 pub use file_place::{FilePlace, kept_bytes, kept_name};
 pub use file_step::{FileFailure, FileStep};
-pub use identity::{IDENTITY_LEN, IDENTITY_TREE};
+pub use identity::{IDENTITY_LEN, IDENTITY_TREE, STAMP_TREE};
 pub use kept_file::{Head, KeptFault, KeptFile, SealerKind, put_kept_file, read_kept_file};
 pub use keys::{
     DiskKey, Identity, KeyCheck, Salt, SealerKey, TapeKey, disk_identity, key_check, sealer_key,
-    tape_key,
+    stamp_key, tape_key,
 };
 pub use law::{
     answers_are_the_hosts, exchanges_are_of_one_host, exchanges_are_of_the_tries,

@@ -4,7 +4,8 @@ ghost use Rattle.oram_wire.specs.HostMessages.{no_room_answer};
 ghost use Rattle.oram_link_laws.specs.Repair.{IsAmong};
 ghost use Rattle.oram_link_laws.specs.Runs.{Exchange};
 ghost use Rattle.oram_rounds.specs.Batches.{BatchOutcome, batch_outcome_of, texts};
-ghost use Rattle.oram_client.specs.Reconnect.{HasLine, IsPaused, IsReached, IsTimedOut, IsTried, IsTroubleIn, MakesTries, ReconnectBatch, attempt_of, dialer_kind, elapsed, limits, link_outcome, time_left};
+ghost use Rattle.oram_client.specs.Attempts.{attempt_of, link_outcome};
+ghost use Rattle.oram_client.specs.Reconnect.{HasLine, IsPaused, IsReached, IsTimedOut, IsTried, IsTroubleIn, MakesTries, ReconnectBatch, dialer_kind, elapsed, limits, time_left};
 
 use crate::dialer::{Dial, HostWatch, Limits, Trouble};
 use oram_host::HostRefusal;
@@ -53,7 +54,8 @@ impl<W: HostWatch> TroubleReporter<W> {
                     self.watch.full();
                 }
             }
-            Trouble::AnotherDisk | Trouble::NoDisk => {}
+            // The link gives up, and its program says why.
+            _ => {}
         }
     }
 
@@ -219,10 +221,10 @@ impl<D: Dial, W: HostWatch> ReconnectLink<D, W> {
     /// up, or if memory ran out.
     pub fn reach(&mut self, alloc: Global) -> Result<(), Trouble>
         ensures { (outcome : BatchOutcome) × (exchanges : List Exchange)
-            × ReconnectBatch (dialer_kind D.opens D.fails D.pauses D.reads D.Line.batches) self.old ([] ∷ []) outcome exchanges self.new
+            × ReconnectBatch (dialer_kind D.opens D.fails D.pauses D.reads D.carries) self.old ([] ∷ []) outcome exchanges self.new
             × IsReached outcome self.new.trouble result }
     {
-        let answers = self.call_all(alloc, &[], &[Vec::new(alloc)]);
+        let answers = self.pass(alloc, &[], &[Vec::new(alloc)]);
         match self.trouble {
             None => reached(answers),
             Some(trouble) => Err(trouble),
@@ -231,7 +233,7 @@ impl<D: Dial, W: HostWatch> ReconnectLink<D, W> {
 
     /// Takes out the open connection, or opens a new one. Afterwards the link itself holds none.
     fn take_line(&mut self, alloc: Global, left: u64) -> Result<D::Line, Trouble>
-        ensures ok { IfOk result (λ line. HasLine D.opens D.fails D.Line.batches
+        ensures ok { IfOk result (λ line. HasLine D.opens D.fails D.carries
             self.old.dialer self.old.line (limits self.old.reconnect_timeout left) line self.new.dialer) }
         ensures err { IfErr result (λ trouble. (self.old.line ≡ None)
             × D.fails self.old.dialer (limits self.old.reconnect_timeout left) trouble self.new.dialer) }
@@ -258,18 +260,18 @@ impl<D: Dial, W: HostWatch> ReconnectLink<D, W> {
         last: &[Vec<u8>],
         left: u64,
     ) -> Result<Vec<Vec<u8>>, Trouble>
-        ensures tried { (exchanges : List Exchange) × IsTried D.opens D.fails D.Line.batches
+        ensures tried { (exchanges : List Exchange) × IsTried D.opens D.fails D.carries
             self.old.dialer self.old.line (limits self.old.reconnect_timeout left) (texts first.now ++ texts last.now) (attempt_of result) exchanges
             self.new.dialer self.new.line }
         ensures same { self.new ≡ record self.old { dialer = self.new.dialer; line = self.new.line } }
     {
         let mut line = self.take_line(alloc, left)?;
-        match line.call_all(alloc, first, last) {
+        match self.dialer.carry(alloc, &mut line, first, last) {
             Ok(answers) => {
                 self.line = Some(line);
                 Ok(answers)
             }
-            Err(fault) => Err(Trouble::OutOfReach(fault)),
+            Err(trouble) => Err(trouble),
         }
     }
 
@@ -334,7 +336,7 @@ impl<D: Dial, W: HostWatch> ReconnectLink<D, W> {
         last: &[Vec<u8>],
     ) -> Result<Vec<Vec<u8>>, LinkFault>
         requires { self.old.trouble ≡ None }
-        ensures tried { (exchanges : List Exchange) × MakesTries (dialer_kind D.opens D.fails D.pauses D.reads D.Line.batches)
+        ensures tried { (exchanges : List Exchange) × MakesTries (dialer_kind D.opens D.fails D.pauses D.reads D.carries)
             self.old (texts first.now ++ texts last.now) (batch_outcome_of result) exchanges self.new }
         ensures reconnect_timeout { self.new.reconnect_timeout ≡ self.old.reconnect_timeout }
     {
@@ -359,18 +361,33 @@ impl<D: Dial, W: HostWatch> ReconnectLink<D, W> {
             }
         }
     }
+
+    /// Passes messages on to the host, unless the link has given up.
+    fn pass(
+        &mut self,
+        alloc: Global,
+        first: &[Vec<u8>],
+        last: &[Vec<u8>],
+    ) -> Result<Vec<Vec<u8>>, LinkFault>
+        ensures { (exchanges : List Exchange) × ReconnectBatch (dialer_kind D.opens D.fails D.pauses D.reads D.carries)
+            self.old (texts first.now ++ texts last.now) (batch_outcome_of result) exchanges self.new }
+    {
+        match self.trouble {
+            None => self.make_tries(alloc, first, last),
+            Some(_) => Err(LinkFault::Closed),
+        }
+    }
 }
 
 impl<D: Dial, W: HostWatch> BatchLink for ReconnectLink<D, W> {
-    ghost use Rattle.std.specs.Prelude.{◌≡◌, []};
-    ghost use Rattle.std.proofs.Common.{inl};
-    ghost use Rattle.oram_client.specs.BatchExchanges.{reconnects_are_batches};
+    ghost use Rattle.oram_client.specs.BatchExchanges.{learnt_nothing_sent, links_are_batches};
+    ghost use Rattle.oram_client.specs.Reconnect.{LinkBatch, LinkLearns};
 
-    ghost batches = { λ l bodies o exchanges m. ReconnectBatch (dialer_kind D.opens D.fails D.pauses D.reads D.Line.batches) l bodies o exchanges m };
+    ghost batches = { λ l bodies o exchanges m. LinkBatch (dialer_kind D.opens D.fails D.pauses D.reads D.carries) D.learns l bodies o exchanges m };
 
-    ghost notes = { λ l. [] };
+    ghost notes = { λ l. D.notes l.dialer };
 
-    ghost learns = { λ l check m. m ≡ l };
+    ghost learns = { λ l check m. LinkLearns D.learns l check m };
 
     fn call_all(
         &mut self,
@@ -378,21 +395,20 @@ impl<D: Dial, W: HostWatch> BatchLink for ReconnectLink<D, W> {
         first: &[Vec<u8>],
         last: &[Vec<u8>],
     ) -> Result<Vec<Vec<u8>>, LinkFault> {
-        match self.trouble {
-            None => self.make_tries(alloc, first, last),
-            Some(_) => Err(LinkFault::Closed),
-        }
+        self.pass(alloc, first, last)
     }
 
-    /// Returns no bytes: this link has nothing to remember.
     fn note(&self, alloc: Global) -> Result<Vec<u8>, AllocError> {
-        Ok(Vec::new(alloc))
+        self.dialer.note(alloc)
     }
 
-    fn learn_kept(&mut self, _check: u64) {}
+    fn learn_kept(&mut self, check: u64) {
+        self.dialer.learn_kept(check);
+    }
 
     ghost are_batches = { λ l m bodies o exchanges h.
-        reconnects_are_batches (dialer_kind D.opens D.fails D.pauses D.reads D.Line.batches) D.Line.are_batches l m bodies o exchanges h };
+        links_are_batches (dialer_kind D.opens D.fails D.pauses D.reads D.carries) D.are_batches D.learns l m bodies o exchanges h };
 
-    ghost learning_sends_nothing = { λ l m check same. inl same };
+    ghost learning_sends_nothing = { λ l m check learnt.
+        learnt_nothing_sent (dialer_kind D.opens D.fails D.pauses D.reads D.carries) D.learns l m check learnt };
 }

@@ -6,7 +6,7 @@ ghost use Rattle.oram_session.specs.Outcome.{outcome_of};
 ghost use Rattle.oram_session.specs.Streams.{Receives};
 ghost use Rattle.oram_link_laws.specs.Runs.{Exchange};
 ghost use Rattle.oram_rounds.specs.Batches.{batch_outcome_of, texts};
-ghost use Rattle.oram_client.specs.StreamBatches.{AreSent, AreUnframed, Carries, FailsToSendAll, GivesFrames, StopsAfter, connection};
+ghost use Rattle.oram_client.specs.StreamBatches.{AreSent, AreUnframed, Carries, FailsToSendAll, GivesFrames, StopsAfter, StreamBatch, connection};
 
 use oram_rounds::BatchLink;
 use oram_session::LinkFault;
@@ -96,31 +96,53 @@ fn add_frames(frames: &mut Vec<u8>, bodies: &[Vec<u8>]) -> Result<(), LinkFault>
     Ok(())
 }
 
-/// Returns the frames of the bodies of `first` and then those of `last`, in one piece.
-fn framed(alloc: Global, first: &[Vec<u8>], last: &[Vec<u8>]) -> Result<Vec<u8>, LinkFault>
+/// Adds each of the bodies of both lists as a frame. Fails with `TooLong` or `OutOfMemory`.
+fn add_both(frames: &mut Vec<u8>, first: &[Vec<u8>], last: &[Vec<u8>]) -> Result<(), LinkFault>
     ensures fit { OnOk result (All IsBody (texts first.now ++ texts last.now)) }
-    ensures ok { IfOk result (λ frames. frames.items ≡ flat_map frame (texts first.now ++ texts last.now)) }
+    ensures ok { OnOk result (frames.new.items ≡ frames.old.items ++ flat_map frame (texts first.now ++ texts last.now)) }
     ensures err { IfErr result (λ fault. AreUnframed (texts first.now ++ texts last.now) fault) }
 {
-    let len = frames_len(first).saturating_add(frames_len(last));
+    add_frames(frames, first)?;
+    add_frames(frames, last)?;
+    Ok(())
+}
+
+/// Returns the frames of the bodies of all four lists, in this order and in one piece.
+fn framed(
+    alloc: Global,
+    before: &[Vec<u8>],
+    first: &[Vec<u8>],
+    between: &[Vec<u8>],
+    last: &[Vec<u8>],
+) -> Result<Vec<u8>, LinkFault>
+    ensures fit { OnOk result (All IsBody ((texts before.now ++ texts first.now) ++ (texts between.now ++ texts last.now))) }
+    ensures ok { IfOk result (λ frames. frames.items ≡ flat_map frame ((texts before.now ++ texts first.now) ++ (texts between.now ++ texts last.now))) }
+    ensures err { IfErr result (λ fault. AreUnframed ((texts before.now ++ texts first.now) ++ (texts between.now ++ texts last.now)) fault) }
+{
+    let len = frames_len(before)
+        .saturating_add(frames_len(first))
+        .saturating_add(frames_len(between))
+        .saturating_add(frames_len(last));
     let mut frames = Vec::with_capacity(alloc, len)?;
-    add_frames(&mut frames, first)?;
-    add_frames(&mut frames, last)?;
+    add_both(&mut frames, before, first)?;
+    add_both(&mut frames, between, last)?;
     Ok(frames)
 }
 
-/// Sends the bodies as frames, in one write, and flushes them. So they leave in as few packets as they fit into, and
-/// each is copied once.
+/// Sends the bodies of all four lists as frames, in one write, and flushes them. So they leave in as few packets as they fit into,
+/// and each is copied once.
 fn send_all<W: Write>(
     alloc: Global,
     writer: &mut W,
+    before: &[Vec<u8>],
     first: &[Vec<u8>],
+    between: &[Vec<u8>],
     last: &[Vec<u8>],
 ) -> Result<(), LinkFault>
-    ensures ok { OnOk result (AreSent W.contents writer.old (texts first.now ++ texts last.now) writer.new) }
-    ensures err { IfErr result (λ fault. FailsToSendAll W.contents writer.old (texts first.now ++ texts last.now) fault writer.new) }
+    ensures ok { OnOk result (AreSent W.contents writer.old ((texts before.now ++ texts first.now) ++ (texts between.now ++ texts last.now)) writer.new) }
+    ensures err { IfErr result (λ fault. FailsToSendAll W.contents writer.old ((texts before.now ++ texts first.now) ++ (texts between.now ++ texts last.now)) fault writer.new) }
 {
-    let frames = framed(alloc, first, last)?;
+    let frames = framed(alloc, before, first, between, last)?;
     if let Err(WriteFault) = write(writer, &frames) {
         return Err(LinkFault::Io);
     }
@@ -172,19 +194,55 @@ fn receive_all<R: Read>(
     Ok(answers)
 }
 
-/// Sends the bodies of `first` and then those of `last`, and receives their answers.
+/// Sends the bodies of all four lists, and receives their answers.
 fn carry<R: Read, W: Write>(
     alloc: Global,
     reader: &mut R,
     writer: &mut W,
+    before: &[Vec<u8>],
     first: &[Vec<u8>],
+    between: &[Vec<u8>],
     last: &[Vec<u8>],
 ) -> Result<Vec<Vec<u8>>, LinkFault>
     ensures { (exchanges : List Exchange) × Carries R.remaining W.contents
-        reader.old writer.old (texts first.now ++ texts last.now) (batch_outcome_of result) exchanges reader.new writer.new }
+        reader.old writer.old ((texts before.now ++ texts first.now) ++ (texts between.now ++ texts last.now)) (batch_outcome_of result) exchanges reader.new writer.new }
 {
-    send_all(alloc, writer, first, last)?;
-    receive_all(alloc, reader, first.len() + last.len())
+    send_all(alloc, writer, before, first, between, last)?;
+    receive_all(
+        alloc,
+        reader,
+        before.len() + first.len() + between.len() + last.len(),
+    )
+}
+
+impl<R: Read, W: Write> StreamBatches<R, W> {
+    /// Sends a batch as [`BatchLink::call_all`] does: the bodies of all four lists, in this order.
+    pub fn call_between(
+        &mut self,
+        alloc: Global,
+        before: &[Vec<u8>],
+        first: &[Vec<u8>],
+        between: &[Vec<u8>],
+        last: &[Vec<u8>],
+    ) -> Result<Vec<Vec<u8>>, LinkFault>
+        ensures { (exchanges : List Exchange) × StreamBatch R.remaining W.contents self.old
+            ((texts before.now ++ texts first.now) ++ (texts between.now ++ texts last.now)) (batch_outcome_of result) exchanges self.new }
+    {
+        if self.is_closed() {
+            return Err(LinkFault::Closed);
+        }
+        let outcome = carry(
+            alloc,
+            &mut self.reader,
+            &mut self.writer,
+            before,
+            first,
+            between,
+            last,
+        );
+        self.closed = outcome.is_err();
+        outcome
+    }
 }
 
 impl<R: Read, W: Write> BatchLink for StreamBatches<R, W> {
@@ -205,12 +263,7 @@ impl<R: Read, W: Write> BatchLink for StreamBatches<R, W> {
         first: &[Vec<u8>],
         last: &[Vec<u8>],
     ) -> Result<Vec<Vec<u8>>, LinkFault> {
-        if self.is_closed() {
-            return Err(LinkFault::Closed);
-        }
-        let outcome = carry(alloc, &mut self.reader, &mut self.writer, first, last);
-        self.closed = outcome.is_err();
-        outcome
+        self.call_between(alloc, &[], first, &[], last)
     }
 
     /// Returns no bytes: this link has nothing to remember.

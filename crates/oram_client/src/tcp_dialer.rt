@@ -1,12 +1,17 @@
 //! Connections to the host of a disk, over TCP or over a Unix socket.
-ghost use Rattle.std.specs.Prelude.{◌≡◌, OnOk, IfOk, IfErr, string_bytes};
-ghost use Rattle.oram_wire.specs.HostMessages.{answer_body};
+ghost use Rattle.std.specs.Prelude.{◌≡◌, ◌≢◌, ◌+◌, ◌<◌, ◌++◌, List, OnOk, IfOk, IfErr, MatchBool, string_bytes, vec_len};
+ghost use Rattle.oram_link_laws.specs.Runs.{Exchange};
+ghost use Rattle.oram_rounds.specs.Batches.{batch_outcome_of, texts};
+ghost use Rattle.oram_stamps.specs.Stamps.{shown_text};
+ghost use Rattle.oram_client.specs.Attempts.{attempt_of};
+ghost use Rattle.oram_client.specs.Stamped.{CarriesStamped, ComesTo, GivesNoStamps, GivesStamps, ShowsNoStamps, TakesStamps};
+ghost use Rattle.oram_wire.specs.HostMessages.{answer_body, no_room_answer, payload_answer};
 ghost use Rattle.oram_client.specs.Dialer as spec;
 ghost use Rattle.oram_wire.specs.declared.host_messages.HostAnswer.TheVariants.{Payload};
 ghost use Rattle.oram_client.specs.Dialer.{Shows, IsGreetedOver, IsUngreetedOver};
 
 use crate::dialer::{Dial, Limits, Trouble};
-use crate::identity::IDENTITY_TREE;
+use crate::identity::{IDENTITY_TREE, STAMP_TREE, stamp_message};
 use crate::reconnect_link::elapsed;
 use crate::timed_link::{TimedLink, milliseconds};
 use oram_cli::limit_silence;
@@ -14,8 +19,9 @@ use oram_host::HostRefusal;
 use oram_rounds::BatchLink;
 use oram_session::LinkFault;
 use oram_sockets::{Connection, connect_to};
-use oram_wire::{GOOD, REFUSED, fetch_header};
-use std::alloc::Global;
+use oram_stamps::{Known, Place, Shown, StampKey, decode_shown, encode_note};
+use oram_wire::{GOOD, REFUSED, fetch_header, is_done};
+use std::alloc::{AllocError, Global};
 use std::io::{Read, Write};
 use std::marker::Model;
 use std::net::{Net, OpenStream};
@@ -28,13 +34,19 @@ const LONGEST_CONNECTING: u64 = 10_000;
 
 /// Connects to the host of a disk.
 ///
-/// On each new connection it first asks for the identity of the disk, and uses the connection only if the host answers
-/// with the right one.
+/// On each new connection it first asks for the identity of the disk and for the host's stamps, and uses the connection only if the
+/// host answers with the right identity, and with stamps that it may have by what the dialer knows of them.
+///
+/// A batch that is the first one since the process was kept, or that has STOREs, goes between two messages: one says that the host has
+/// begun this keeping, and one that it has done it. The caller doesn't see the answers to these two.
 #[derive(Debug, Drop)]
 pub struct TcpDialer<R> {
     rt: R,
     address: String,
     identity: [u8; 32],
+    /// The key of the disk's stamps.
+    key: StampKey,
+    known: Known,
 }
 
 impl<R> Model for TcpDialer<R> {
@@ -43,19 +55,27 @@ impl<R> Model for TcpDialer<R> {
 
     ghost Value = { Destination };
 
-    ghost view = { λ d. record { address = string_bytes d.address; identity = d.identity } };
+    ghost view = { λ d. record { address = string_bytes d.address; identity = d.identity; key = d.key.0; known = d.known } };
 }
 
 impl<R> TcpDialer<R> {
     /// Makes a dialer for the host at `address`, which is an IP address and a port, or `unix:` and the path of a socket. The
-    /// host has to keep the disk with `identity`.
-    pub fn new(rt: R, address: String, identity: [u8; 32]) -> TcpDialer<R>
-        ensures { result ≡ record { address = string_bytes address; identity = identity } }
+    /// host has to keep the disk with `identity`, whose stamps have this key.
+    pub fn new(
+        rt: R,
+        address: String,
+        identity: [u8; 32],
+        key: StampKey,
+        known: Known,
+    ) -> TcpDialer<R>
+        ensures { result ≡ record { address = string_bytes address; identity = identity; key = key.0; known = known } }
     {
         TcpDialer {
             rt,
             address,
             identity,
+            key,
+            known,
         }
     }
 }
@@ -110,16 +130,135 @@ where
     }
 }
 
+/// Returns the message that asks for the host's stamps.
+fn stamps_question(alloc: Global) -> Result<Vec<u8>, LinkFault>
+    ensures ok { IfOk result (λ message. message.items ≡ spec.stamps_question) }
+    ensures err { IfErr result (λ fault. fault ≡ LinkFault.OutOfMemory) }
+{
+    Ok(fetch_header(STAMP_TREE, 0).to_vec(alloc)?)
+}
+
+/// Reads the stamps in the answer to that message.
+fn shown_in(answer: &[u8], key: &StampKey) -> Result<Shown, Trouble>
+    ensures ok { IfOk result (λ shown. answer.now ≡ payload_answer (shown_text key.now.0 shown)) }
+    ensures err { IfErr result (λ trouble. ShowsNoStamps key.now.0 answer.now trouble) }
+{
+    let Some((first, rest)) = answer.split_first() else {
+        return Err(Trouble::OutOfReach(LinkFault::Io));
+    };
+    match *first {
+        GOOD => match decode_shown(key, rest) {
+            Some(shown) => Ok(shown),
+            None => Err(Trouble::NoStamps),
+        },
+        REFUSED if rest == [HostRefusal::OutOfMemory.code()].as_slice() => Err(Trouble::NoRoom),
+        REFUSED => Err(Trouble::NoStamps),
+        _ => Err(Trouble::OutOfReach(LinkFault::Io)),
+    }
+}
+
+/// Asks the host for its stamps.
+fn ask_stamps<S: Read + Write, C: Clock>(
+    alloc: Global,
+    line: &mut TimedLink<S, C>,
+    key: &StampKey,
+) -> Result<Shown, Trouble>
+    ensures ok { IfOk result (λ shown. GivesStamps S.remaining S.contents key.now.0 line.old shown line.new) }
+    ensures err { IfErr result (λ trouble. GivesNoStamps S.remaining S.contents key.now.0 line.old trouble line.new) }
+{
+    match line.call_all(alloc, &[], &[stamps_question(alloc)?]) {
+        Ok(answers) => shown_in(&answers[0], key),
+        Err(fault) => Err(Trouble::OutOfReach(fault)),
+    }
+}
+
+/// Returns whether an answer says that the host has no room.
+fn is_no_room(answer: &[u8]) -> bool
+    ensures { MatchBool result (answer.now ≡ no_room_answer) (answer.now ≢ no_room_answer) }
+{
+    answer == [REFUSED, HostRefusal::OutOfMemory.code()].as_slice()
+}
+
+/// Takes the answers to a batch's two stamps out of its answers: the first one, and the one after `count` others. Fails if the host
+/// hasn't put both.
+fn take_stamps(answers: &mut Vec<Vec<u8>>, count: usize) -> Result<(), Trouble>
+    requires { count + 1 < vec_len answers.old }
+    ensures { TakesStamps (texts answers.old.items) count result (texts answers.new.items) }
+{
+    let done = answers.remove(count + 1);
+    let begun = answers.remove(0);
+    if is_done(&begun) && is_done(&done) {
+        Ok(())
+    } else if is_no_room(&begun) || is_no_room(&done) {
+        Err(Trouble::NoRoom)
+    } else {
+        Err(Trouble::NoStamps)
+    }
+}
+
+impl<R> TcpDialer<R> {
+    /// Learns what a batch between its stamps has come to, and returns what its caller receives: all answers but those to the two
+    /// stamps. `count` messages went between the stamps.
+    fn learn_outcome(
+        &mut self,
+        outcome: Result<Vec<Vec<u8>>, LinkFault>,
+        count: usize,
+    ) -> Result<Vec<Vec<u8>>, Trouble>
+        requires { IfOk outcome (λ answers. count + 1 < vec_len answers) }
+        ensures { ComesTo self.old self.old.known count (batch_outcome_of outcome) (attempt_of result) self.new }
+    {
+        match outcome {
+            Ok(mut answers) => {
+                take_stamps(&mut answers, count)?;
+                self.known.settle();
+                Ok(answers)
+            }
+            Err(fault) => Err(Trouble::OutOfReach(fault)),
+        }
+    }
+
+    /// Sends a batch between the messages that put the stamp of the last keeping at both of the host's places. All answers but those to
+    /// these two are returned.
+    fn carry_stamped<S: Read + Write, C: Clock>(
+        &mut self,
+        alloc: Global,
+        line: &mut TimedLink<S, C>,
+        first: &[Vec<u8>],
+        last: &[Vec<u8>],
+    ) -> Result<Vec<Vec<u8>>, Trouble>
+        ensures { (exchanges : List Exchange) × CarriesStamped S.remaining S.contents self.old line.old (texts first.now ++ texts last.now) (attempt_of result) exchanges self.new line.new }
+    {
+        let stamp = self.known.current();
+        let begun = stamp_message(alloc, &self.key, Place::Begun, &stamp)?;
+        let done = stamp_message(alloc, &self.key, Place::Done, &stamp)?;
+        self.known.send(alloc)?;
+        let outcome = line.call_between(alloc, &[begun], first, &[done], last);
+        self.learn_outcome(outcome, first.len())
+    }
+}
+
 impl<R: Net + Clock + Copy> Dial for TcpDialer<R> {
     ghost use Rattle.std.specs.Prelude.{◌≡◌};
-    ghost use Rattle.oram_client.specs.Dialer.{IsGreeted, IsUngreeted};
+    ghost use Rattle.oram_client.specs.Stamped.{CarriesStamped, FailsToOpen, Opens};
+    ghost use Rattle.oram_client.specs.StampedBatches.{carries_are_batches};
+    ghost use Rattle.oram_client.specs.Dialer.{Destination};
+    ghost use Rattle.oram_stamps.specs.Known.{kept};
+    ghost use Rattle.oram_stamps.specs.Note.{note_text};
     ghost use Rattle.oram_sockets.specs.Connections.{bytes_of};
 
     type Line = TimedLink<Connection<R::Stream>, R>;
 
-    ghost opens = { λ d _ line e. IsGreeted (bytes_of R.Stream.remaining) (bytes_of R.Stream.contents) d.identity line × (e ≡ d) };
+    ghost opens = { λ d _ line e. Opens (bytes_of R.Stream.remaining) (bytes_of R.Stream.contents) d line e };
 
-    ghost fails = { λ d _ trouble e. IsUngreeted (bytes_of R.Stream.remaining) (bytes_of R.Stream.contents) d.identity trouble × (e ≡ d) };
+    ghost fails = { λ d _ trouble e. FailsToOpen (bytes_of R.Stream.remaining) (bytes_of R.Stream.contents) d trouble × (e ≡ d) };
+
+    ghost carries = { λ d line bodies came exchanges e line'. CarriesStamped (bytes_of R.Stream.remaining) (bytes_of R.Stream.contents) d line bodies came exchanges e line' };
+
+    ghost notes = { λ d. note_text d.known };
+
+    ghost learns = { λ d check e. e ≡ record d { known = kept d.known check } };
+
+    ghost are_batches = { λ d e line line' bodies came exchanges h. carries_are_batches (bytes_of R.Stream.remaining) (bytes_of R.Stream.contents) d e line line' bodies came exchanges h };
 
     // The model knows neither how long a pause was nor what the clock reads.
     ghost pauses = { λ d _ e. e ≡ d };
@@ -142,12 +281,38 @@ impl<R: Net + Clock + Copy> Dial for TcpDialer<R> {
         limit_silence(&both, Duration::from_millis(left.min(limits.silence)))?;
         match greet(alloc, reader, writer, self.rt, left, &self.identity) {
             Ok(mut line) => {
+                let shown = ask_stamps(alloc, &mut line, &self.key)?;
                 limit_silence(&both, Duration::from_millis(limits.silence))?;
+                self.known.take_over(&shown)?;
                 line.set_limit(limits.batch);
                 Ok(line)
             }
             Err(trouble) => Err(trouble),
         }
+    }
+
+    fn carry(
+        &mut self,
+        alloc: Global,
+        line: &mut TimedLink<Connection<R::Stream>, R>,
+        first: &[Vec<u8>],
+        last: &[Vec<u8>],
+    ) -> Result<Vec<Vec<u8>>, Trouble> {
+        if !first.is_empty() || !self.known.is_settled() {
+            return self.carry_stamped(alloc, line, first, last);
+        }
+        match line.call_all(alloc, first, last) {
+            Ok(answers) => Ok(answers),
+            Err(fault) => Err(Trouble::OutOfReach(fault)),
+        }
+    }
+
+    fn note(&self, alloc: Global) -> Result<Vec<u8>, AllocError> {
+        encode_note(alloc, &self.known)
+    }
+
+    fn learn_kept(&mut self, check: u64) {
+        self.known.keep(check);
     }
 
     fn pause(&mut self, milliseconds: u64) {

@@ -1,6 +1,8 @@
 //! A connection whose batches have a time limit.
-ghost use Rattle.std.specs.Prelude.{◌≡◌, IfOk, IfErr};
-ghost use Rattle.oram_client.specs.StreamBatches.{connection};
+ghost use Rattle.std.specs.Prelude.{◌≡◌, ◌++◌, List, IfOk, IfErr};
+ghost use Rattle.oram_link_laws.specs.Runs.{Exchange};
+ghost use Rattle.oram_rounds.specs.Batches.{batch_outcome_of, texts};
+ghost use Rattle.oram_client.specs.StreamBatches.{StreamBatch, connection};
 
 use crate::stream_batches::StreamBatches;
 use oram_rounds::BatchLink;
@@ -136,6 +138,37 @@ impl<S, C: Copy> TimedLink<S, C> {
     }
 }
 
+impl<S, C: Clock> TimedLink<S, C> {
+    /// Begins the time of a batch.
+    fn begin_batch(&mut self)
+        ensures { self.new ≡ self.old }
+    {
+        let ends = match milliseconds(&self.clock) {
+            Some(now) => now.saturating_add(self.limit),
+            None => u64::MAX,
+        };
+        self.ends.set(ends);
+    }
+}
+
+impl<S: Read + Write, C: Clock> TimedLink<S, C> {
+    /// Sends a batch as [`BatchLink::call_all`] does: the bodies of all four lists, in this order.
+    pub fn call_between(
+        &mut self,
+        alloc: Global,
+        before: &[Vec<u8>],
+        first: &[Vec<u8>],
+        between: &[Vec<u8>],
+        last: &[Vec<u8>],
+    ) -> Result<Vec<Vec<u8>>, LinkFault>
+        ensures { (exchanges : List Exchange) × StreamBatch S.remaining S.contents self.old
+            ((texts before.now ++ texts first.now) ++ (texts between.now ++ texts last.now)) (batch_outcome_of result) exchanges self.new }
+    {
+        self.begin_batch();
+        self.line.call_between(alloc, before, first, between, last)
+    }
+}
+
 impl<S: Read + Write, C: Clock> BatchLink for TimedLink<S, C> {
     ghost use Rattle.std.specs.Prelude.{◌≡◌, []};
     ghost use Rattle.std.proofs.Common.{inl};
@@ -154,11 +187,7 @@ impl<S: Read + Write, C: Clock> BatchLink for TimedLink<S, C> {
         first: &[Vec<u8>],
         last: &[Vec<u8>],
     ) -> Result<Vec<Vec<u8>>, LinkFault> {
-        let ends = match milliseconds(&self.clock) {
-            Some(now) => now.saturating_add(self.limit),
-            None => u64::MAX,
-        };
-        self.ends.set(ends);
+        self.begin_batch();
         self.line.call_all(alloc, first, last)
     }
 

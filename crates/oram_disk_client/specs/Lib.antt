@@ -1,3 +1,3 @@
 pub mod Faults
-pub mod Newest
+pub mod HostFaults
 pub mod Sealers

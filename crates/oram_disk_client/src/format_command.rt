@@ -8,8 +8,8 @@ use crate::failures::forget_failure;
 use oram_bucket::{ChaChaSeal, PlainSeal, Sealer};
 use oram_cli::{HostFault, SocketFault, buffered, limit_silence};
 use oram_client::{
-    Ahead, DiskKey, FileKeeper, FilePlace, FormattingFault, Head, Identity, Progress, Salt,
-    SealerKind, format_ahead,
+    Ahead, DiskKey, FileKeeper, FilePlace, FormattingFault, Head, Keys, Progress, Salt, SealerKind,
+    format_ahead,
 };
 use oram_core::Core;
 use oram_disk_host::{Fault, FaultKind};
@@ -20,6 +20,7 @@ use oram_settings::{
     stored_bytes,
 };
 use oram_sockets::{Connection, connect_to};
+use oram_stamps::{Known, encode_note};
 use std::alloc::{AllocError, Global};
 use std::io;
 use std::io::{BufReader, BufWriter, IsTerminal};
@@ -131,7 +132,7 @@ fn formatted<S: Sealer>(
     rt: &HostRuntime,
     device: Device,
     sealer: S,
-    identity: &Identity,
+    keys: &Keys,
     settings: &DiskSettings,
 ) -> Result<Core<S>, Fault> {
     let alloc = rt.alloc();
@@ -145,7 +146,7 @@ fn formatted<S: Sealer>(
     let stored = stored_bytes(&device, settings.sealer);
     let _passed_over = printer.begin(stored, host.as_str());
     let mut ahead = Ahead::new(alloc, &device, reader, writer, printer);
-    match format_ahead(alloc, device, sealer, identity, &mut ahead) {
+    match format_ahead(alloc, device, sealer, &keys.identity, &keys.stamps, &mut ahead) {
         Ok(core) => Ok(core),
         Err(fault) => Err(formatting_fault(fault, host)),
     }
@@ -157,15 +158,16 @@ fn format_with<S: Sealer>(
     device: Device,
     sealer: S,
     keeper: &mut FileKeeper<FilePlace<&HostRuntime>>,
-    identity: &Identity,
+    keys: &Keys,
     settings: &DiskSettings,
 ) -> Result<(), Fault>
     // No kept file was found.
     requires { (earlier : FilePlaceState) × NotesFound earlier None keeper.old.place }
 {
     let alloc = rt.alloc();
-    let core = formatted(rt, device, sealer, identity, settings)?;
-    let file = encode_kept(alloc, &[], &[], &core)?;
+    let core = formatted(rt, device, sealer, keys, settings)?;
+    let note = encode_note(alloc, &Known::fresh(alloc)?)?;
+    let file = encode_kept(alloc, &[], &note, &core)?;
     let state = settings.state.as_str();
     match (keeper.keep(file.bytes.as_slice()), keeper.failure()) {
         (Ok(()), _) => Ok(()),
@@ -221,17 +223,10 @@ pub fn format_disk(rt: &HostRuntime, name: String) -> Result<(), Fault> {
     let keys = keys_in(alloc, &settings, &head, name.as_str())?;
     let mut keeper = FileKeeper::new(place, head, settings.sync);
     match sealer {
-        SealerKind::Plain => format_with(
-            rt,
-            device,
-            PlainSeal,
-            &mut keeper,
-            &keys.identity,
-            &settings,
-        ),
+        SealerKind::Plain => format_with(rt, device, PlainSeal, &mut keeper, &keys, &settings),
         SealerKind::ChaCha20 => {
             let sealer = ChaChaSeal { key: keys.sealer.0 };
-            format_with(rt, device, sealer, &mut keeper, &keys.identity, &settings)
+            format_with(rt, device, sealer, &mut keeper, &keys, &settings)
         }
     }
 }

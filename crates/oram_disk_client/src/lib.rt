@@ -3,14 +3,15 @@
 //!
 //! [`make_folder`], [`format_disk`], [`print_status`] and [`retry`] are the commands. The functions beside them read the files
 //! of a disk, for these commands and for the one that serves: [`disk_in`] its settings, [`state_bytes`], [`kept_in`] and
-//! [`process_for`] its state, and [`kept_failure`] why it failed. [`is_replaced`] asks the host whether a newer state was used.
+//! [`process_for`] its state, and [`kept_failure`] why it failed. [`host_fault`] says why a program ends whose
+//! link to its host has given up.
 #![tactic(auto)]
 
 mod disk_files;
 mod failures;
 mod format_command;
+mod host_faults;
 mod new_disk;
-mod newest;
 mod status_command;
 
 pub use disk_files::{
@@ -18,6 +19,6 @@ pub use disk_files::{
 };
 pub use failures::{keep_failure, kept_failure};
 pub use format_command::format_disk;
+pub use host_faults::{host_fault, host_fault_kind};
 pub use new_disk::make_folder;
-pub use newest::{is_replaced, nonces_tell_tickets};
 pub use status_command::{print_status, retry};

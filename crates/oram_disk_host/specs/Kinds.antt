@@ -7,7 +7,7 @@ use Rattle.oram_cli.specs.declared.hosts.HostFault.TheVariants as host
 use Rattle.oram_settings.specs.declared.differences.FixedKey.{FixedKey}
 use Rattle.oram_settings.specs.declared.differences.FixedKey.TheVariants as fixed
 use Rattle.oram_disk_host.specs.declared.kinds.FaultKind.{FaultKind}
-use Rattle.oram_disk_host.specs.declared.kinds.FaultKind.TheVariants.{CommandLine, Settings, File, Unformatted, Address, NotABucketFile, OlderFile, NewerFile, WithoutLog, LogOfAnotherFile, LogWithoutFile, Damaged, LogDamaged, Busy, NoFile, FileExists, Exists, Formatted, NotADisk, DamagedState, OlderState, ReplacedState, WrongKey, Changed, Host, StateNotKept, StateNotMade, UsedUp, InUse, Failed, NotFailed}
+use Rattle.oram_disk_host.specs.declared.kinds.FaultKind.TheVariants.{CommandLine, Settings, File, Unformatted, Address, NotABucketFile, OlderFile, NewerFile, WithoutLog, LogOfAnotherFile, LogWithoutFile, Damaged, LogDamaged, Busy, NoFile, FileExists, Exists, Formatted, NotADisk, DamagedState, OlderState, ReplacedState, WrongKey, Changed, Host, OlderHost, NoStamps, StateNotKept, StateNotMade, UsedUp, InUse, Failed, NotFailed}
 
 -- the text before the name of the settings with a changed value
 abbrev pub changed : FixedKey → List ℕ
@@ -36,6 +36,8 @@ front (Host host.NoDisk) = codes "oramdisk: the host at "
 front (Host host.Taken) = codes "oramdisk: the host at "
 front (Host host.Refused) = codes "oramdisk: the host at "
 front (Host host.OutOfReach) = codes "oramdisk: can't reach the host at "
+front OlderHost = codes "oramdisk: the host at "
+front NoStamps = codes "oramdisk: the host at "
 front StateNotKept = codes "oramdisk: can't keep the state in "
 front StateNotMade = codes "oramdisk: can't keep the state in "
 front UsedUp = codes "oramdisk: the disk of "
@@ -89,6 +91,8 @@ rest ReplacedState = codes " is an older state of its disk, and nothing was stor
 rest WrongKey = codes " isn't this disk's: put the one back that it was formatted with\n"
 rest (Changed key) = codes " when the disk was formatted: put that back\n"
 rest (Host why) = host_rest why
+rest OlderHost = codes " shows an older file of this disk than it has shown before, and nothing was stored there: have it serve its newest file; nothing is lost here\n"
+rest NoStamps = codes " doesn't show what this disk has stored there, and nothing more was stored: have it serve the disk's own file, unchanged; nothing is lost here\n"
 rest StateNotKept = codes ": see that its folder may be written and has room, and start again\n"
 rest StateNotMade = codes ": see that its folder may be written and has room, name a new file at the host, and format again\n"
 rest UsedUp = codes " has made all its accesses, and can't be read any more: restore a backup of it to a new one\n"
@@ -101,7 +105,8 @@ rest NotFailed = codes " has not failed, and is left as it is: oramdisk serve se
 -- 13: a state that can't be kept; 14: no access left; 16: a disk in use; 17: a disk that has failed; 18: a disk that hasn't
 -- failed; 19: a host's file that is missing; 20 to 22: a host with another disk, with none, or without room; 23, 24: a key or
 -- another value that isn't the one of the formatting; 25: a host's file of another version; 26: a file without its log, or a
--- log without its file; 27: a state that was replaced by a newer one
+-- log without its file; 27: a state that was replaced by a newer one; 28: no state; 29, 30: a host with an older file, or without the
+-- stamps of its disk
 abbrev pub status : FaultKind → ℕ
 status CommandLine = 2
 status Settings = 2
@@ -139,3 +144,5 @@ status WithoutLog = 26
 status LogOfAnotherFile = 26
 status LogWithoutFile = 26
 status ReplacedState = 27
+status OlderHost = 29
+status NoStamps = 30

@@ -61,6 +61,10 @@ pub enum FaultKind {
     Changed(FixedKey),
     /// The disk can't use the host at this address.
     Host(HostFault),
+    /// The host at this address shows an older file of the disk than it has shown before.
+    OlderHost,
+    /// The host at this address doesn't show the stamps of its disk.
+    NoStamps,
     /// The state can't be kept in a file. After the file's name comes the step that failed, and why.
     StateNotKept,
     /// The state of a new disk can't be kept in a file. After the file's name comes the step that failed, and why. The disk's
@@ -140,7 +144,9 @@ impl FaultKind {
             | FaultKind::Host(HostFault::AnotherDisk)
             | FaultKind::Host(HostFault::NoDisk)
             | FaultKind::Host(HostFault::Taken)
-            | FaultKind::Host(HostFault::Refused) => "oramdisk: the host at ",
+            | FaultKind::Host(HostFault::Refused)
+            | FaultKind::OlderHost
+            | FaultKind::NoStamps => "oramdisk: the host at ",
             FaultKind::Host(HostFault::OutOfReach) => "oramdisk: can't reach the host at ",
             FaultKind::StateNotKept | FaultKind::StateNotMade =>
                 "oramdisk: can't keep the state in ",
@@ -197,6 +203,10 @@ impl FaultKind {
                 " isn't this disk's: put the one back that it was formatted with\n",
             FaultKind::Changed(_) => " when the disk was formatted: put that back\n",
             FaultKind::Host(why) => host_rest(why),
+            FaultKind::OlderHost =>
+                " shows an older file of this disk than it has shown before, and nothing was stored there: have it serve its newest file; nothing is lost here\n",
+            FaultKind::NoStamps =>
+                " doesn't show what this disk has stored there, and nothing more was stored: have it serve the disk's own file, unchanged; nothing is lost here\n",
             FaultKind::StateNotKept =>
                 ": see that its folder may be written and has room, and start again\n",
             FaultKind::StateNotMade =>
@@ -240,6 +250,8 @@ impl FaultKind {
             FaultKind::OlderFile | FaultKind::NewerFile => 25,
             FaultKind::WithoutLog | FaultKind::LogOfAnotherFile | FaultKind::LogWithoutFile => 26,
             FaultKind::ReplacedState => 27,
+            FaultKind::OlderHost => 29,
+            FaultKind::NoStamps => 30,
             FaultKind::Unformatted => 28,
         }
     }

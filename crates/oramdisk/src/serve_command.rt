@@ -4,19 +4,20 @@ use crate::clients::{ClientAttendant, ClientLook, Dismissal};
 use crate::watched_disk::{FailureKeeper, WatchedDisk};
 use oram_bucket::{ChaChaSeal, PlainSeal, Sealer};
 use oram_client::{
-    FileKeeper, FilePlace, HostWatch, Keys, ReconnectLink, SealerKind, TcpDialer, given_up,
+    FileKeeper, FilePlace, HostWatch, Keys, ReconnectLink, SealerKind, TcpDialer,
 };
 use oram_core::{Core, Reason};
 use oram_disk_client::{
-    disk_in, is_replaced, keep_failure, kept_failure, kept_in, keys_in, named, process_for,
+    disk_in, host_fault, keep_failure, kept_failure, kept_in, keys_in, named, process_for,
     state_bytes, take_lock, unkept,
 };
 use oram_disk_host::{Fault, FaultKind, listen_at, not_accepted, time};
 use oram_nbd::{BlockDevice, DiskFault, NbdFault, is_stop, serve};
 use oram_rounds::{BatchLink, Keeper, KeptCore, RoundLink, record_len};
-use oram_session::{ChaChaTape, LinkFault, Tape};
+use oram_session::{ChaChaTape, Tape};
 use oram_settings::{DiskSettings, counted, failure_text, relative_to, serving_text};
 use oram_sockets::{Connection, Listener, Look, Peer, listen_at_path, watch};
+use oram_stamps::{Known, NoteFault, decode_note};
 use oram_volume::Volume;
 use percent_encoding::{NON_ALPHANUMERIC, utf8_percent_encode};
 use std::alloc::{AllocError, Global};
@@ -272,7 +273,7 @@ fn stopped<S: Sealer>(alloc: Global, volume: &DiskVolume<'_, S>, settings: DiskS
         match volume.link.inner().trouble() {
             // The link returns a fault without giving up only if memory ran out.
             None if volume.core.failure().is_none() => Fault::OutOfMemory,
-            trouble => Fault::About(FaultKind::Host(given_up(trouble)), settings.host),
+            trouble => host_fault(alloc, trouble, &settings),
         }
     }
 }
@@ -301,15 +302,18 @@ fn serve_volume<S: Sealer>(
     Err(stopped(alloc, &disk.disk, settings))
 }
 
-/// Makes the link to the host that the settings name. The link works only if that host keeps the disk with these keys.
+/// Makes the link to the host that the settings name. The link works only if that host keeps the disk with these keys, and shows
+/// stamps that it may have by what is known of them.
 fn link_to<'a>(
     rt: &'a HostRuntime,
     settings: &DiskSettings,
     keys: &Keys,
+    known: Known,
 ) -> Result<HostLink<'a>, AllocError> {
     let alloc = rt.alloc();
     let host = settings.host.as_str();
-    let dialer = TcpDialer::new(rt, String::from_str(alloc, host)?, keys.identity.0);
+    let address = String::from_str(alloc, host)?;
+    let dialer = TcpDialer::new(rt, address, keys.identity.0, keys.stamps, known);
     let watch = HostStatusPrinter {
         rt,
         host: String::from_str(alloc, host)?,
@@ -318,44 +322,36 @@ fn link_to<'a>(
     Ok(ReconnectLink::new(alloc, dialer, watch, settings.reconnect_timeout))
 }
 
-/// Fails if the host has records of a newer state of the disk than the one in the file that the settings name, or if the host
-/// can't be asked.
-fn check_newest<S: Sealer>(
+/// Returns what is known of the host's stamps, from the note that was kept with a process.
+fn known_in<S: Sealer>(
     alloc: Global,
-    link: &mut HostLink<'_>,
     settings: &DiskSettings,
-    core: &Core<S>,
-) -> Result<(), Fault> {
-    match is_replaced(alloc, link, core) {
-        Ok(false) => Ok(()),
-        Ok(true) => Err(named(alloc, FaultKind::ReplacedState, settings.state.as_str())),
-        Err(LinkFault::OutOfMemory) => Err(Fault::OutOfMemory),
-        Err(_) => {
-            let why = FaultKind::Host(given_up(link.trouble()));
-            Err(named(alloc, why, settings.host.as_str()))
+    kept: &KeptCore<S>,
+) -> Result<Known, Fault> {
+    match decode_note(alloc, &kept.note, kept.check) {
+        Ok(known) => Ok(known),
+        Err(NoteFault::OutOfMemory) => Err(Fault::OutOfMemory),
+        Err(NoteFault::NotOurs) => {
+            Err(named(alloc, FaultKind::NotADisk, settings.state.as_str()))
         }
     }
 }
 
-/// Asks the host whether it keeps this disk, and whether the state is the newest one.
-fn check_host<S: Sealer>(
+/// Asks the host whether it keeps this disk, and compares its stamps with what is known of them.
+fn check_host(
     alloc: Global,
     link: &mut HostLink<'_>,
     settings: &DiskSettings,
-    core: &Core<S>,
 ) -> Result<(), Fault> {
     match link.reach(alloc) {
-        Ok(()) => check_newest(alloc, link, settings, core),
+        Ok(()) => Ok(()),
         Err(trouble) if trouble.lacks_memory() => Err(Fault::OutOfMemory),
-        Err(trouble) => {
-            let why = FaultKind::Host(given_up(Some(trouble)));
-            Err(named(alloc, why, settings.host.as_str()))
-        }
+        Err(trouble) => Err(host_fault(alloc, Some(trouble), settings)),
     }
 }
 
 /// Returns the link of a process to its host, at which its STOREs wait. It first asks the host whether it keeps this
-/// disk, and whether the state is the newest one.
+/// disk, and compares its stamps with what is known of them.
 fn reached<'a, S: Sealer>(
     rt: &'a HostRuntime,
     settings: &DiskSettings,
@@ -363,8 +359,9 @@ fn reached<'a, S: Sealer>(
     kept: KeptCore<S>,
 ) -> Result<(Core<S>, RoundLink<HostLink<'a>>), Fault> {
     let alloc = rt.alloc();
-    let mut link = link_to(rt, settings, keys)?;
-    check_host(alloc, &mut link, settings, &kept.core)?;
+    let known = known_in(alloc, settings, &kept)?;
+    let mut link = link_to(rt, settings, keys, known)?;
+    check_host(alloc, &mut link, settings)?;
     let KeptCore { stores, core, .. } = kept;
     let device = core.device().copy();
     match RoundLink::with_kept(alloc, link, device, record_len(&core), stores) {

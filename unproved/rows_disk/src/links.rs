@@ -7,7 +7,7 @@ use oram_rounds::{BatchLink, OneByOne};
 use oram_session::{Link, LinkFault};
 use oram_wire::REFUSED;
 use rows::{Page, RowFault, RowWords};
-use std::alloc::Global;
+use std::alloc::{AllocError, Global};
 use std::cell::Cell;
 
 /// The milliseconds after which a slow try fails.
@@ -144,6 +144,14 @@ impl<'a> Dial for Script<'a> {
 
     ghost reads = { λ _ _ _. ⊤ };
 
+    ghost carries = { λ d l bodies came exchanges e m. Plainly (λ k bs o es n. IsBatch bs o es) d l bodies came exchanges e m };
+
+    ghost notes = { λ _. [] };
+
+    ghost learns = { λ d _ e. e ≡ d };
+
+    ghost are_batches = { plainly_are_batches };
+
     fn dial(&mut self, _alloc: Global, limits: Limits) -> Result<OneByOne<Way<'a>>, Trouble> {
         add(&self.0.tries, 1);
         match self.0.next() {
@@ -169,6 +177,25 @@ impl<'a> Dial for Script<'a> {
             _ => Err(Trouble::OutOfReach(LinkFault::Io)),
         }
     }
+
+    fn carry(
+        &mut self,
+        alloc: Global,
+        line: &mut OneByOne<Way<'a>>,
+        first: &[Vec<u8>],
+        last: &[Vec<u8>],
+    ) -> Result<Vec<Vec<u8>>, Trouble> {
+        match line.call_all(alloc, first, last) {
+            Ok(answers) => Ok(answers),
+            Err(fault) => Err(Trouble::OutOfReach(fault)),
+        }
+    }
+
+    fn note(&self, alloc: Global) -> Result<Vec<u8>, AllocError> {
+        Ok(Vec::new(alloc))
+    }
+
+    fn learn_kept(&mut self, _check: u64) {}
 
     fn pause(&mut self, milliseconds: u64) {
         add(&self.0.time, milliseconds);

@@ -10,7 +10,7 @@ loop-trouble-init g c =
     let after = c.now-begin.new.self in
     let same = c.now-begin.ensures.same in
     record {
-      delays = delayed_none (dialer_kind g.D.Dial.opens g.D.Dial.fails g.D.Dial.pauses g.D.Dial.reads g.D.Line.BatchLink.batches) c.now-begin.result
+      delays = delayed_none (dialer_kind g.D.Dial.opens g.D.Dial.fails g.D.Dial.pauses g.D.Dial.reads g.D.Dial.carries) c.now-begin.result
           (texts c.args.first.now ++ texts c.args.last.now)
           c.args.self.now c.now-begin.new.self c.self.inside.reconnect_timeout same (ap (λ v. v.reconnect_timeout) c.self.view_is);
       reconnect_timeout = ap (λ v. v.reconnect_timeout) {x = after} {y = record before { dialer = after.dialer }} same;
@@ -22,7 +22,7 @@ loop-trouble-init g c =
 pub returns-in_default-clause-tried : goal.returns-in_default-clause-tried
 returns-in_default-clause-tried g c =
     let tried = c.attempt-came.ensures.tried in
-    answered_behind (dialer_kind g.D.Dial.opens g.D.Dial.fails g.D.Dial.pauses g.D.Dial.reads g.D.Line.BatchLink.batches) c.now-begin.result
+    answered_behind (dialer_kind g.D.Dial.opens g.D.Dial.fails g.D.Dial.pauses g.D.Dial.reads g.D.Dial.carries) c.now-begin.result
     (texts c.args.first.now ++ texts c.args.last.now) c.now-begin.new.self.dialer
     c.args.self.now c.loop-trouble.self c.attempt-came.new.self c.report_answer.new.self c.loop-trouble.wait.pause c.loop-trouble.wait.left _ tried.0 _
     c.now-begin.ensures.read c.loop-trouble.invariant.delays c.loop-trouble.invariant.reconnect_timeout c.loop-trouble.invariant.trouble
@@ -31,7 +31,7 @@ returns-in_default-clause-tried g c =
 pub returns-in-None-clause-tried : goal.returns-in-None-clause-tried
 returns-in-None-clause-tried g c =
     let tried = c.attempt-came.ensures.tried in
-    given_up_behind (dialer_kind g.D.Dial.opens g.D.Dial.fails g.D.Dial.pauses g.D.Dial.reads g.D.Line.BatchLink.batches) c.now-begin.result
+    given_up_behind (dialer_kind g.D.Dial.opens g.D.Dial.fails g.D.Dial.pauses g.D.Dial.reads g.D.Dial.carries) c.now-begin.result
     (texts c.args.first.now ++ texts c.args.last.now) c.now-begin.new.self.dialer
     c.args.self.now c.loop-trouble.self c.attempt-came.new.self c.report_trouble.new.self c.wait.new.self c.give_up.new.self
     c.loop-trouble.wait.pause c.loop-trouble.wait.left _ tried.0 c.in-Some.trouble _
@@ -44,11 +44,11 @@ loop-trouble-preserved-in-Some-wait g c =
     let before = c.loop-trouble.invariant in
     let tried = c.attempt-came.ensures.tried in
     let next = c.in-Some-wait.ensures.next in
-    let rest = rest_same (dialer_kind g.D.Dial.opens g.D.Dial.fails g.D.Dial.pauses g.D.Dial.reads g.D.Line.BatchLink.batches) c.args.self.now.reconnect_timeout
+    let rest = rest_same (dialer_kind g.D.Dial.opens g.D.Dial.fails g.D.Dial.pauses g.D.Dial.reads g.D.Dial.carries) c.args.self.now.reconnect_timeout
     c.loop-trouble.self c.attempt-came.new.self c.report_trouble.new.self c.wait.new.self before.reconnect_timeout before.trouble
     c.attempt-came.ensures.same c.report_trouble.ensures c.wait.ensures.same in
     record {
-      delays = delayed_more (dialer_kind g.D.Dial.opens g.D.Dial.fails g.D.Dial.pauses g.D.Dial.reads g.D.Line.BatchLink.batches)
+      delays = delayed_more (dialer_kind g.D.Dial.opens g.D.Dial.fails g.D.Dial.pauses g.D.Dial.reads g.D.Dial.carries)
           c.args.self.now.reconnect_timeout c.now-begin.result (texts c.args.first.now ++ texts c.args.last.now) c.now-begin.new.self.dialer c.args.self.now.line
           c.loop-trouble.self c.attempt-came.new.self c.report_trouble.new.self c.wait.new.self c.loop-trouble.wait.pause c.loop-trouble.wait.left
           c.in-Some-wait.next.pause c.in-Some-wait.next.left _ tried.0 c.in-Some.trouble before.delays before.reconnect_timeout
@@ -64,11 +64,11 @@ loop-trouble-preserved g c =
     let before = c.loop-trouble.invariant in
     let tried = c.attempt-came.ensures.tried in
     let next = c.in-Some-wait.ensures.next in
-    let rest = rest_same (dialer_kind g.D.Dial.opens g.D.Dial.fails g.D.Dial.pauses g.D.Dial.reads g.D.Line.BatchLink.batches) c.args.self.now.reconnect_timeout
+    let rest = rest_same (dialer_kind g.D.Dial.opens g.D.Dial.fails g.D.Dial.pauses g.D.Dial.reads g.D.Dial.carries) c.args.self.now.reconnect_timeout
     c.loop-trouble.self c.attempt-came.new.self c.report_trouble.new.self c.wait.new.self before.reconnect_timeout before.trouble
     c.attempt-came.ensures.same c.report_trouble.ensures c.wait.ensures.same in
     record {
-      delays = delayed_more (dialer_kind g.D.Dial.opens g.D.Dial.fails g.D.Dial.pauses g.D.Dial.reads g.D.Line.BatchLink.batches)
+      delays = delayed_more (dialer_kind g.D.Dial.opens g.D.Dial.fails g.D.Dial.pauses g.D.Dial.reads g.D.Dial.carries)
           c.args.self.now.reconnect_timeout c.now-begin.result (texts c.args.first.now ++ texts c.args.last.now) c.now-begin.new.self.dialer c.args.self.now.line
           c.loop-trouble.self c.attempt-came.new.self c.report_trouble.new.self c.wait.new.self c.loop-trouble.wait.pause c.loop-trouble.wait.left
           c.in-Some-wait.next.pause c.in-Some-wait.next.left _ tried.0 c.in-Some.trouble before.delays before.reconnect_timeout

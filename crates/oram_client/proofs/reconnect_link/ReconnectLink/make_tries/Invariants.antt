@@ -6,7 +6,7 @@ use Rattle.oram_client.proofs.reconnect_link.ReconnectLink.make_tries.Given as g
 
 abbrev pub invariant-loop-trouble : goal.invariant-loop-trouble
 invariant-loop-trouble g l = record {
-  delays : Delayed (dialer_kind g.D.Dial.opens g.D.Dial.fails g.D.Dial.pauses g.D.Dial.reads g.D.Line.BatchLink.batches)
+  delays : Delayed (dialer_kind g.D.Dial.opens g.D.Dial.fails g.D.Dial.pauses g.D.Dial.reads g.D.Dial.carries)
       l.fn.self.reconnect_timeout l.begin (texts l.fn.first ++ texts l.fn.last) l.initial.self.dialer l.fn.self.line l.self.dialer l.self.line l.wait.pause l.wait.left;
   reconnect_timeout : l.self.reconnect_timeout ≡ l.fn.self.reconnect_timeout;
   trouble : l.self.trouble ≡ None;

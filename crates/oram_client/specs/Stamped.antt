@@ -1,0 +1,148 @@
+-- A dialer whose host has to show stamps that it may have, and which puts the stamp of the last keeping there with each batch.
+use Rattle.std.specs.Prelude.{◌≡◌, ◌≢◌, ◌⊎◌, ℕ, List, [], ◌∷◌, ◌++◌, length, Option, Result, Ok, Err, MatchResult}
+use Rattle.oram_wire.specs.HostMessages.{done_answer, no_room_answer, payload_answer, put_body, shape_body}
+use Rattle.oram_wire.specs.declared.host_messages.TheConstants.{GOOD, REFUSED}
+use Rattle.oram_session.specs.declared.link.LinkFault.{LinkFault}
+use Rattle.oram_session.specs.declared.link.LinkFault.TheVariants.{Io, OutOfMemory}
+use Rattle.oram_link_laws.specs.Runs.{Exchange}
+use Rattle.oram_rounds.specs.Batches.{BatchOutcome, IsBatch}
+use Rattle.oram_stamps.specs.Known.{IsMismatch, IsSent, IsSettled, IsTakenOver, Stamps, answered, first_stamp}
+use Rattle.oram_stamps.specs.Stamps.{AreNumbers, record_text, shown_text}
+use Rattle.oram_stamps.specs.declared.known.Mismatch.{Mismatch}
+use Rattle.oram_stamps.specs.declared.stamp.Place.{Place}
+use Rattle.oram_stamps.specs.declared.stamp.Place.TheVariants.{Begun, Done}
+use Rattle.oram_stamps.specs.declared.stamp.Shown.{Shown}
+use Rattle.oram_stamps.specs.declared.stamp.Stamp.{Stamp}
+use Rattle.oram_client.specs.Attempts.{Attempt, attempt_for, link_outcome}
+use Rattle.oram_client.specs.Dialer.{Destination, IsGreeted, IsUngreeted, mismatch_trouble, stamps_question}
+use Rattle.oram_client.specs.StampMessages.{stamp_put}
+use Rattle.oram_client.specs.declared.identity.TheConstants.{STAMP_TREE}
+use Rattle.oram_client.specs.StreamBatches.{Connection, StreamBatch}
+use Rattle.oram_client.specs.declared.dialer.Trouble.{Trouble}
+use Rattle.oram_client.specs.declared.dialer.Trouble.TheVariants.{OutOfReach, NoRoom, AnotherDisk, NoDisk, OlderState, OlderHost, NoStamps}
+
+-- what is wrong with the answer to the message that asks for the stamps
+abbrev pub ShowsNoStamps : List ℕ → List ℕ → Trouble → Type 0
+ShowsNoStamps key answer (OutOfReach fault) = (fault ≡ Io) × (answer ≡ [] ⊎ (first : ℕ) × (rest : List ℕ) × (answer ≡ first ∷ rest) × (first ≢ GOOD) × (first ≢ REFUSED))
+ShowsNoStamps key answer NoRoom = answer ≡ no_room_answer
+ShowsNoStamps key answer AnotherDisk = ⊥
+ShowsNoStamps key answer NoDisk = ⊥
+ShowsNoStamps key answer OlderState = ⊥
+ShowsNoStamps key answer OlderHost = ⊥
+ShowsNoStamps key answer NoStamps = (shown : Shown) → AreNumbers shown.begun → AreNumbers shown.done → answer ≢ payload_answer (shown_text key shown)
+
+-- What is wrong with the answers to the two messages that put a stamp: the host has no room for one of them, or it refuses one
+-- otherwise.
+abbrev pub ArePutFor : List ℕ → List ℕ → Trouble → Type 0
+ArePutFor begun done NoRoom = (begun ≡ no_room_answer) ⊎ (done ≡ no_room_answer)
+ArePutFor begun done NoStamps = ¬ ((begun ≡ done_answer) × (done ≡ done_answer)) × (begun ≢ no_room_answer) × (done ≢ no_room_answer)
+ArePutFor begun done (OutOfReach fault) = ⊥
+ArePutFor begun done AnotherDisk = ⊥
+ArePutFor begun done NoDisk = ⊥
+ArePutFor begun done OlderState = ⊥
+ArePutFor begun done OlderHost = ⊥
+
+-- Of the answers to a batch between its stamps, the answers to the two stamps were taken out. The first of those stood at the front,
+-- and the second one after `count` others.
+pub record TakesStamps {A : Type 0} (answers : List (List ℕ)) (count : ℕ) (result : Result A Trouble) (left : List (List ℕ)) : Type 0 where
+  pub begun : List ℕ
+  pub done : List ℕ
+  pub first : List (List ℕ)
+  pub last : List (List ℕ)
+  pub all : answers ≡ begun ∷ (first ++ done ∷ last)
+  pub count_is : length first ≡ count
+  pub left_is : left ≡ first ++ last
+  pub puts : MatchResult result (λ put. (begun ≡ done_answer) × (done ≡ done_answer)) (λ trouble. ArePutFor begun done trouble)
+
+-- the messages of a batch between its stamps
+abbrev pub between : List ℕ → List (List ℕ) → List ℕ → List (List ℕ) → List (List ℕ)
+between begun first done last = ((begun ∷ []) ++ first) ++ ((done ∷ []) ++ last)
+
+-- a message that puts a record into the stamps' tree
+abbrev pub IsStampPut : List ℕ → Type 0
+IsStampPut body = (node : ℕ) × (bytes : List ℕ) × (body ≡ put_body STAMP_TREE node bytes)
+
+-- some of the exchanges whose messages put stamps are left out, and no others
+abbrev pub LeavesOut : List Exchange → List Exchange → Type 0
+LeavesOut [] exchanges = exchanges ≡ []
+LeavesOut (e ∷ heard) exchanges = (IsStampPut e.0 × LeavesOut heard exchanges) ⊎ ((rest : List Exchange) × (exchanges ≡ e ∷ rest) × LeavesOut heard rest)
+
+-- what a dialer knows of its host's stamps
+abbrev pub with_known : Destination → Stamps → Destination
+with_known d known = record d { known = known }
+
+-- for streams whose bytes `remaining` and `contents` give
+module _ {S : Type 0} (remaining contents : S → Option (List ℕ)) where
+  abbrev pub Line : Type 0
+  Line = Connection S S
+
+  -- the host gave these stamps
+  abbrev pub GivesStamps : List ℕ → Line → Shown → Line → Type 0
+  GivesStamps key line shown line' = (exchanges : List Exchange) × StreamBatch remaining contents line (stamps_question ∷ []) (Ok (payload_answer (shown_text key shown) ∷ [])) exchanges line'
+
+  -- Memory ran out before the host was asked, or the batch had a fault, or the host gave another answer.
+  abbrev pub GivesNoStamps : List ℕ → Line → Trouble → Line → Type 0
+  GivesNoStamps key line trouble line' = (trouble ≡ OutOfReach OutOfMemory)
+      ⊎ ((outcome : BatchOutcome) × (exchanges : List Exchange) × StreamBatch remaining contents line (stamps_question ∷ []) outcome exchanges line'
+      × MatchResult outcome (λ answers. (answer : List ℕ) × (answers ≡ answer ∷ []) × ShowsNoStamps key answer trouble) (λ fault. trouble ≡ OutOfReach fault))
+
+  -- A connection was opened: the host gave the disk's identity, and stamps that it may have by what is known. They are known afterwards.
+  pub record Opens (d : Destination) (line : Line) (e : Destination) : Type 0 where
+    pub greeted : Line
+    pub identity : IsGreeted remaining contents d.identity greeted
+    pub shown : Shown
+    pub gives : GivesStamps d.key greeted shown line
+    pub known : Stamps
+    pub taken : IsTakenOver d.known shown known
+    pub after : e ≡ with_known d known
+
+  -- The host gave the disk's identity, but no stamps, or stamps that it may not have by what is known.
+  abbrev pub IsUncompared : Destination → Line → Trouble → Type 0
+  IsUncompared d greeted trouble =
+      ((line : Line) × GivesNoStamps d.key greeted trouble line)
+      ⊎ ((line : Line) × (shown : Shown) × (why : Mismatch) × GivesStamps d.key greeted shown line × IsMismatch d.known shown why × (trouble ≡ mismatch_trouble why))
+
+  -- There was no connection, or the host didn't give the disk's identity over one, or no stamps that it may have.
+  abbrev pub FailsToOpen : Destination → Trouble → Type 0
+  FailsToOpen d trouble = IsUngreeted remaining contents d.identity trouble
+      ⊎ ((greeted : Line) × IsGreeted remaining contents d.identity greeted × IsUncompared d greeted trouble)
+
+  -- There was no memory for the messages that put the stamps, and nothing was sent.
+  pub record IsUnsent (d : Destination) (line : Line) (came : Attempt) (exchanges : List Exchange) (e : Destination) (line' : Line) : Type 0 where
+    pub says : came ≡ Err (OutOfReach OutOfMemory)
+    pub none : exchanges ≡ []
+    pub same_line : line' ≡ line
+    pub same : e ≡ d
+
+  -- The host is known to have begun and done the last keeping, so the batch needs no stamps.
+  pub record IsPlain (d : Destination) (line : Line) (bodies : List (List ℕ)) (came : Attempt) (exchanges : List Exchange) (e : Destination) (line' : Line) : Type 0 where
+    pub settled : IsSettled d.known
+    pub outcome : BatchOutcome
+    pub batch : StreamBatch remaining contents line bodies outcome exchanges line'
+    pub says : came ≡ attempt_for outcome
+    pub same : e ≡ d
+
+  -- what a batch between its stamps comes to, given what is known once it is sent
+  abbrev pub ComesTo : Destination → Stamps → ℕ → BatchOutcome → Attempt → Destination → Type 0
+  ComesTo d known count (Ok answers) came e = (left : List (List ℕ)) × TakesStamps answers count came left
+      × MatchResult came (λ given. (given ≡ left) × (e ≡ with_known d (answered known))) (λ trouble. e ≡ with_known d known)
+  ComesTo d known count (Err fault) came e = (came ≡ Err (OutOfReach fault)) × (e ≡ with_known d known)
+
+  -- The messages that are `first` go between those that put the stamp of the last keeping at both places, and the others after them. The
+  -- exchanges of those two are left out.
+  pub record IsBetween (d : Destination) (line : Line) (bodies : List (List ℕ)) (came : Attempt) (exchanges : List Exchange) (e : Destination) (line' : Line) : Type 0 where
+    pub known : Stamps
+    pub sent : IsSent d.known known
+    pub first : List (List ℕ)
+    pub last : List (List ℕ)
+    pub all : bodies ≡ first ++ last
+    pub outcome : BatchOutcome
+    pub heard : List Exchange
+    pub batch : StreamBatch remaining contents line (between (stamp_put d.key Begun d.known.current) first (stamp_put d.key Done d.known.current) last) outcome heard line'
+    pub comes : ComesTo d known (length first) outcome came e
+    pub left : LeavesOut heard exchanges
+    pub is_batch : IsBatch bodies (link_outcome came) exchanges
+
+  abbrev pub CarriesStamped : Destination → Line → List (List ℕ) → Attempt → List Exchange → Destination → Line → Type 0
+  CarriesStamped d line bodies came exchanges e line' =
+      IsUnsent d line came exchanges e line' ⊎ IsPlain d line bodies came exchanges e line' ⊎ IsBetween d line bodies came exchanges e line'

@@ -1,0 +1,4 @@
+pub mod Spelled
+pub mod Notes
+pub mod Lives
+pub mod LifeExample

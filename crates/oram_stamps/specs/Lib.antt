@@ -1,0 +1,4 @@
+pub mod Stamps
+pub mod Known
+pub mod Note
+pub mod Lives
