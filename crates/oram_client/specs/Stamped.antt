@@ -71,6 +71,12 @@ LeavesOut (e ∷ heard) exchanges = (IsStampPut e.0 × LeavesOut heard exchanges
 abbrev pub with_known : Destination → Stamps → Destination
 with_known d known = record d { known = known }
 
+-- what a batch between its stamps comes to, given what is known once it is sent
+abbrev pub ComesTo : Destination → Stamps → ℕ → BatchOutcome → Attempt → Destination → Type 0
+ComesTo d known count (Ok answers) came e = (left : List (List ℕ)) × TakesStamps answers count came left
+    × MatchResult came (λ given. (given ≡ left) × (e ≡ with_known d (answered known))) (λ trouble. e ≡ with_known d known)
+ComesTo d known count (Err fault) came e = (came ≡ Err (OutOfReach fault)) × (e ≡ with_known d known)
+
 -- for streams whose bytes `remaining` and `contents` give
 module _ {S : Type 0} (remaining contents : S → Option (List ℕ)) where
   abbrev pub Line : Type 0
@@ -121,12 +127,6 @@ module _ {S : Type 0} (remaining contents : S → Option (List ℕ)) where
     pub batch : StreamBatch remaining contents line bodies outcome exchanges line'
     pub says : came ≡ attempt_for outcome
     pub same : e ≡ d
-
-  -- what a batch between its stamps comes to, given what is known once it is sent
-  abbrev pub ComesTo : Destination → Stamps → ℕ → BatchOutcome → Attempt → Destination → Type 0
-  ComesTo d known count (Ok answers) came e = (left : List (List ℕ)) × TakesStamps answers count came left
-      × MatchResult came (λ given. (given ≡ left) × (e ≡ with_known d (answered known))) (λ trouble. e ≡ with_known d known)
-  ComesTo d known count (Err fault) came e = (came ≡ Err (OutOfReach fault)) × (e ≡ with_known d known)
 
   -- The messages that are `first` go between those that put the stamp of the last keeping at both places, and the others after them. The
   -- exchanges of those two are left out.
