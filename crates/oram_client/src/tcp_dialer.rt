@@ -4,7 +4,11 @@ ghost use Rattle.oram_link_laws.specs.Runs.{Exchange};
 ghost use Rattle.oram_rounds.specs.Batches.{batch_outcome_of, texts};
 ghost use Rattle.oram_stamps.specs.Stamps.{shown_text};
 ghost use Rattle.oram_client.specs.Attempts.{attempt_of};
-ghost use Rattle.oram_client.specs.Stamped.{ArePutFor, CarriesStamped, ComesTo, GivesNoStamps, GivesStamps, ShowsNoStamps, TakesStamps};
+ghost use Rattle.oram_client.specs.Dialer.{mismatch_trouble};
+ghost use Rattle.oram_client.specs.Stamped.{ArePutFor, CarriesStamped, ComesTo, GivesNoStamps, GivesStamps, IsCompared, IsUncompared, ShowsNoStamps, TakesStamps, with_known};
+ghost use Rattle.oram_sockets.specs.Connections.{bytes_of};
+ghost use Rattle.oram_stamps.specs.Known.{IsMismatch, IsTakenOver, Stamps};
+ghost use Rattle.oram_stamps.specs.declared.known.Mismatch.{Mismatch};
 ghost use Rattle.oram_wire.specs.HostMessages.{answer_body, done_answer, no_room_answer, payload_answer};
 ghost use Rattle.oram_client.specs.Dialer as spec;
 ghost use Rattle.oram_wire.specs.declared.host_messages.HostAnswer.TheVariants.{Payload};
@@ -254,6 +258,42 @@ impl<R> TcpDialer<R> {
     }
 }
 
+impl<R> TcpDialer<R> {
+    /// Takes over the stamps that the host shows, if it may have them by what is known.
+    fn take_over(&mut self, shown: &Shown) -> Result<(), Trouble>
+        ensures ok { OnOk result ((known : Stamps) × IsTakenOver self.old.known shown.now known × (self.new ≡ with_known self.old known)) }
+        ensures err { IfErr result (λ trouble. (self.new ≡ self.old) × ((why : Mismatch) × IsMismatch self.old.known shown.now why × (trouble ≡ mismatch_trouble why))) }
+    {
+        match self.known.take_over(shown) {
+            Ok(()) => Ok(()),
+            Err(why) => Err(Trouble::from(why)),
+        }
+    }
+}
+
+impl<R: Net + Clock + Copy> TcpDialer<R> {
+    /// Asks the host over a new connection for its stamps, and takes them over if it may have them. From then on it may be silent
+    /// for `silence` milliseconds.
+    fn compare(
+        &mut self,
+        alloc: Global,
+        line: &mut TimedLink<Connection<R::Stream>, R>,
+        both: &Connection<R::Stream>,
+        silence: u64,
+    ) -> Result<(), Trouble>
+        ensures ok { OnOk result (IsCompared (bytes_of R.Stream.remaining) (bytes_of R.Stream.contents) self.old line.old line.new self.new) }
+        ensures err { IfErr result (λ trouble. (self.new ≡ self.old) × IsUncompared (bytes_of R.Stream.remaining) (bytes_of R.Stream.contents) self.old line.old trouble) }
+    {
+        match ask_stamps(alloc, line, &self.key) {
+            Ok(shown) => match limit_silence(both, Duration::from_millis(silence)) {
+                Ok(()) => self.take_over(&shown),
+                Err(fault) => Err(Trouble::from(fault)),
+            },
+            Err(trouble) => Err(trouble),
+        }
+    }
+}
+
 impl<R: Net + Clock + Copy> Dial for TcpDialer<R> {
     ghost use Rattle.std.specs.Prelude.{◌≡◌};
     ghost use Rattle.oram_client.specs.Stamped.{CarriesStamped, FailsToOpen, Opens};
@@ -297,13 +337,13 @@ impl<R: Net + Clock + Copy> Dial for TcpDialer<R> {
             .max(1);
         limit_silence(&both, Duration::from_millis(left.min(limits.silence)))?;
         match greet(alloc, reader, writer, self.rt, left, &self.identity) {
-            Ok(mut line) => {
-                let shown = ask_stamps(alloc, &mut line, &self.key)?;
-                limit_silence(&both, Duration::from_millis(limits.silence))?;
-                self.known.take_over(&shown)?;
-                line.set_limit(limits.batch);
-                Ok(line)
-            }
+            Ok(mut line) => match self.compare(alloc, &mut line, &both, limits.silence) {
+                Ok(()) => {
+                    line.set_limit(limits.batch);
+                    Ok(line)
+                }
+                Err(trouble) => Err(trouble),
+            },
             Err(trouble) => Err(trouble),
         }
     }
