@@ -1,12 +1,21 @@
 -- A batch between its stamps, whose two exchanges are left out.
-use Rattle.std.proofs.Common.{◌≡◌, ◌⊎◌, ℕ, ◌+◌, List, [], ◌∷◌, ◌++◌, length, Option, Result, Ok, Err, inl, inr, refl, sym, ap, ◌∙◌, subst, arith, length-append}
+use Rattle.std.proofs.Common.{◌≡◌, ◌⊎◌, ℕ, ◌+◌, ◌<◌, List, [], ◌∷◌, ◌++◌, length, Option, Result, Ok, Err, inl, inr, refl, sym, ap, ◌∙◌, subst, arith, length-append}
 use Rattle.oram_session.specs.declared.link.LinkFault.{LinkFault}
 use Rattle.oram_link_laws.specs.Repair.{AreAmong, IsAmong}
 use Rattle.oram_link_laws.specs.Runs.{Exchange, bodies_of}
-use Rattle.oram_rounds.specs.Batches.{BatchOutcome, IsBatch, answered}
+use Rattle.oram_rounds.specs.Batches.{BatchOutcome, IsBatch, answered, batch_outcome_of}
+use Rattle.std.specs.Global.{Vec}
+use Rattle.std.specs.Prelude.{IfOk}
+use Rattle.std.proofs.lemmas.List.{length-map}
 use Rattle.oram_client.specs.Attempts.{Attempt, link_outcome}
-use Rattle.oram_client.specs.BatchExchanges.{batch_among}
-use Rattle.oram_client.specs.Stamped.{IsStampPut, LeavesOut, TakesStamps, between}
+use Rattle.oram_client.specs.BatchExchanges.{batch_among, streams_are_batches}
+use Rattle.oram_client.specs.Dialer.{Destination, fault_of}
+use Rattle.oram_client.specs.StampMessages.{stamp_put}
+use Rattle.oram_client.specs.Stamped.{CarriesStamped, ComesTo, IsStampPut, LeavesOut, TakesStamps, between}
+use Rattle.oram_client.specs.StreamBatches.{Connection, StreamBatch}
+use Rattle.oram_stamps.specs.Known.{IsSent, Stamps}
+use Rattle.oram_stamps.specs.Stamps.{record_text}
+use Rattle.oram_stamps.specs.declared.stamp.Place.TheVariants.{Begun, Done}
 use Rattle.oram_client.specs.declared.dialer.Trouble.{Trouble}
 
 leaves_all : (heard : List Exchange) → LeavesOut heard heard
@@ -79,3 +88,68 @@ module _ (begun done : List ℕ) (first last : List (List ℕ)) (put_begun : IsS
         subst (λ (es : List Exchange). LeavesOut es (tries.exchanges ++ answered (first ++ last) (one ++ two))) (sym batch.3) left,
         (long, tries.exchanges, tries.among, refl),
       )
+
+-- all answers of such a batch
+pub long_enough : (outcome : Result (Vec (Vec ℕ)) LinkFault) (begun done : List ℕ) (first last : List (List ℕ)) (count : ℕ) (heard : List Exchange) → count ≡ length first
+    → IsBatch (between begun first done last) (batch_outcome_of outcome) heard → IfOk outcome (λ answers. count + 1 < length answers.items)
+long_enough (Ok answers) begun done first last count heard is batch =
+    omega (arith, is, batch.0, length-map answers.items (λ (v : Vec ℕ). v.items), length-append first (done ∷ last))
+long_enough (Err fault) begun done first last count heard is batch = tt
+
+module _ {S : Type 0} (remaining contents : S → Option (List ℕ)) where
+  abbrev Way : Type 0
+  Way = Connection S S
+
+  module _ (d e : Destination) (known : Stamps) (line line' : Way) (first last : List (List ℕ)) (sent : IsSent d.known known) where
+    abbrev begun_put : List ℕ
+    begun_put = stamp_put d.key Begun d.known.current
+
+    abbrev done_put : List ℕ
+    done_put = stamp_put d.key Done d.known.current
+
+    put_begun : IsStampPut begun_put
+    put_begun = (0, record_text d.key Begun d.known.current, refl)
+
+    put_done : IsStampPut done_put
+    put_done = (1, record_text d.key Done d.known.current, refl)
+
+    abbrev Carried : Attempt → Type 0
+    Carried came = (exchanges : List Exchange) × CarriesStamped remaining contents d line (first ++ last) came exchanges e line'
+
+    made : (outcome : BatchOutcome) (came : Attempt) (heard exchanges : List Exchange) → StreamBatch remaining contents line (between begun_put first done_put last) outcome heard line'
+        → ComesTo d known (length first) outcome came e → LeavesOut heard exchanges → IsBatch (first ++ last) (link_outcome came) exchanges → Carried came
+    made outcome came heard exchanges batch comes left is =
+        (exchanges, inr (inr (record { known = known; sent = sent; first = first; last = last; all = refl; outcome = outcome; heard = heard; batch = batch; comes = comes; left = left; is_batch = is })))
+
+    with_answers : (answers : List (List ℕ)) (came : Attempt) (heard : List Exchange) → StreamBatch remaining contents line (between begun_put first done_put last) (Ok answers) heard line'
+        → ComesTo d known (length first) (Ok answers) came e → IsBatch (between begun_put first done_put last) (Ok answers) heard → Carried came
+    with_answers answers (Ok given) heard batch comes is =
+        let t = comes.1 in
+        let here : IsBatch (between begun_put first done_put last) (Ok (t.begun ∷ (t.first ++ t.done ∷ t.last))) heard =
+        subst (λ (as' : List (List ℕ)). IsBatch (between begun_put first done_put last) (Ok as') heard) t.all is in
+        let left = all_answered begun_put done_put first last put_begun put_done t.begun t.done t.first t.last heard t.count_is here in
+        let same : given ≡ t.first ++ t.last = comes.2.0 ∙ t.left_is in
+        made (Ok answers) (Ok given) heard left.0 batch comes left.1 (subst (λ (as' : List (List ℕ)). IsBatch (first ++ last) (Ok as') left.0) (sym same) left.2)
+    with_answers answers (Err trouble) heard batch comes is =
+        let left = none_answered begun_put done_put first last put_begun put_done (Ok answers) (fault_of trouble) heard is in
+        made (Ok answers) (Err trouble) heard left.0 batch comes left.1 left.2
+
+    pub carried_between : (outcome : BatchOutcome) (came : Attempt) (heard : List Exchange) → StreamBatch remaining contents line (between begun_put first done_put last) outcome heard line'
+        → ComesTo d known (length first) outcome came e → Carried came
+    carried_between (Ok answers) came heard batch comes =
+        with_answers answers came heard batch comes (streams_are_batches remaining contents line line' (between begun_put first done_put last) (Ok answers) heard batch)
+    carried_between (Err fault) came heard batch comes =
+        let is : IsBatch (between begun_put first done_put last) (Err fault) heard = streams_are_batches remaining contents line line' (between begun_put first done_put last) (Err fault) heard batch in
+        let left = none_answered begun_put done_put first last put_begun put_done (Err fault) fault heard is in
+        made (Err fault) came heard left.0 batch comes left.1 (subst (λ (c : Attempt). IsBatch (first ++ last) (link_outcome c) left.0) (sym comes.0) left.2)
+
+  -- the same, for messages that are those that put the stamp
+  pub carried_so : (d e : Destination) (known : Stamps) (line line' : Way) (first last : List (List ℕ)) (begun done : List ℕ) (outcome : BatchOutcome) (came : Attempt) (heard : List Exchange) (count : ℕ)
+      → begun ≡ stamp_put d.key Begun d.known.current → done ≡ stamp_put d.key Done d.known.current → count ≡ length first → IsSent d.known known
+      → StreamBatch remaining contents line (between begun first done last) outcome heard line' → ComesTo d known count outcome came e
+      → (exchanges : List Exchange) × CarriesStamped remaining contents d line (first ++ last) came exchanges e line'
+  carried_so d e known line line' first last begun done outcome came heard count begun_is done_is count_is sent batch comes =
+      carried_between d e known line line' first last sent outcome came heard
+      (subst (λ (b : List ℕ). StreamBatch remaining contents line (between b first (stamp_put d.key Done d.known.current) last) outcome heard line') begun_is
+      (subst (λ (b : List ℕ). StreamBatch remaining contents line (between begun first b last) outcome heard line') done_is batch))
+      (subst (λ (n : ℕ). ComesTo d known n outcome came e) count_is comes)

@@ -17,3 +17,4 @@ pub mod ReadBack
 pub mod NextProcess
 pub mod FolderExample
 pub mod Between
+pub mod TakenStamps

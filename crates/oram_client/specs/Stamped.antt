@@ -71,6 +71,12 @@ LeavesOut (e ∷ heard) exchanges = (IsStampPut e.0 × LeavesOut heard exchanges
 abbrev pub with_known : Destination → Stamps → Destination
 with_known d known = record d { known = known }
 
+-- what a batch between its stamps comes to, given what is known once it is sent
+abbrev pub ComesTo : Destination → Stamps → ℕ → BatchOutcome → Attempt → Destination → Type 0
+ComesTo d known count (Ok answers) came e = (left : List (List ℕ)) × TakesStamps answers count came left
+    × MatchResult came (λ given. (given ≡ left) × (e ≡ with_known d (answered known))) (λ trouble. e ≡ with_known d known)
+ComesTo d known count (Err fault) came e = (came ≡ Err (OutOfReach fault)) × (e ≡ with_known d known)
+
 -- for streams whose bytes `remaining` and `contents` give
 module _ {S : Type 0} (remaining contents : S → Option (List ℕ)) where
   abbrev pub Line : Type 0
@@ -86,21 +92,24 @@ module _ {S : Type 0} (remaining contents : S → Option (List ℕ)) where
       ⊎ ((outcome : BatchOutcome) × (exchanges : List Exchange) × StreamBatch remaining contents line (stamps_question ∷ []) outcome exchanges line'
       × MatchResult outcome (λ answers. (answer : List ℕ) × (answers ≡ answer ∷ []) × ShowsNoStamps key answer trouble) (λ fault. trouble ≡ OutOfReach fault))
 
-  -- A connection was opened: the host gave the disk's identity, and stamps that it may have by what is known. They are known afterwards.
-  pub record Opens (d : Destination) (line : Line) (e : Destination) : Type 0 where
-    pub greeted : Line
-    pub identity : IsGreeted remaining contents d.identity greeted
+  -- The host gave stamps that it may have by what is known. They are known afterwards.
+  pub record IsCompared (d : Destination) (greeted line : Line) (e : Destination) : Type 0 where
     pub shown : Shown
     pub gives : GivesStamps d.key greeted shown line
     pub known : Stamps
     pub taken : IsTakenOver d.known shown known
     pub after : e ≡ with_known d known
 
-  -- The host gave the disk's identity, but no stamps, or stamps that it may not have by what is known.
+  -- A connection was opened: the host gave the disk's identity, and stamps that it may have.
+  abbrev pub Opens : Destination → Line → Destination → Type 0
+  Opens d line e = (greeted : Line) × IsGreeted remaining contents d.identity greeted × IsCompared d greeted line e
+
+  -- The host gave the disk's identity, but no stamps, or stamps that it may not have by what is known; or the connection failed then.
   abbrev pub IsUncompared : Destination → Line → Trouble → Type 0
   IsUncompared d greeted trouble =
       ((line : Line) × GivesNoStamps d.key greeted trouble line)
       ⊎ ((line : Line) × (shown : Shown) × (why : Mismatch) × GivesStamps d.key greeted shown line × IsMismatch d.known shown why × (trouble ≡ mismatch_trouble why))
+      ⊎ ((fault : LinkFault) × (trouble ≡ OutOfReach fault))
 
   -- There was no connection, or the host didn't give the disk's identity over one, or no stamps that it may have.
   abbrev pub FailsToOpen : Destination → Trouble → Type 0
@@ -121,12 +130,6 @@ module _ {S : Type 0} (remaining contents : S → Option (List ℕ)) where
     pub batch : StreamBatch remaining contents line bodies outcome exchanges line'
     pub says : came ≡ attempt_for outcome
     pub same : e ≡ d
-
-  -- what a batch between its stamps comes to, given what is known once it is sent
-  abbrev pub ComesTo : Destination → Stamps → ℕ → BatchOutcome → Attempt → Destination → Type 0
-  ComesTo d known count (Ok answers) came e = (left : List (List ℕ)) × TakesStamps answers count came left
-      × MatchResult came (λ given. (given ≡ left) × (e ≡ with_known d (answered known))) (λ trouble. e ≡ with_known d known)
-  ComesTo d known count (Err fault) came e = (came ≡ Err (OutOfReach fault)) × (e ≡ with_known d known)
 
   -- The messages that are `first` go between those that put the stamp of the last keeping at both places, and the others after them. The
   -- exchanges of those two are left out.

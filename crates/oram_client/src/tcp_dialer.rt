@@ -1,11 +1,15 @@
 //! Connections to the host of a disk, over TCP or over a Unix socket.
-ghost use Rattle.std.specs.Prelude.{◌≡◌, ◌≢◌, ◌+◌, ◌<◌, ◌++◌, List, OnOk, IfOk, IfErr, MatchBool, string_bytes, vec_len};
+ghost use Rattle.std.specs.Prelude.{◌≡◌, ◌≢◌, ◌+◌, ◌<◌, ◌++◌, List, OnOk, IfOk, IfErr, MatchBool, length, string_bytes};
 ghost use Rattle.oram_link_laws.specs.Runs.{Exchange};
 ghost use Rattle.oram_rounds.specs.Batches.{batch_outcome_of, texts};
 ghost use Rattle.oram_stamps.specs.Stamps.{shown_text};
 ghost use Rattle.oram_client.specs.Attempts.{attempt_of};
-ghost use Rattle.oram_client.specs.Stamped.{CarriesStamped, ComesTo, GivesNoStamps, GivesStamps, ShowsNoStamps, TakesStamps};
-ghost use Rattle.oram_wire.specs.HostMessages.{answer_body, no_room_answer, payload_answer};
+ghost use Rattle.oram_client.specs.Dialer.{mismatch_trouble};
+ghost use Rattle.oram_client.specs.Stamped.{ArePutFor, CarriesStamped, ComesTo, GivesNoStamps, GivesStamps, IsCompared, IsUncompared, ShowsNoStamps, TakesStamps, with_known};
+ghost use Rattle.oram_sockets.specs.Connections.{bytes_of};
+ghost use Rattle.oram_stamps.specs.Known.{IsMismatch, IsTakenOver, Stamps};
+ghost use Rattle.oram_stamps.specs.declared.known.Mismatch.{Mismatch};
+ghost use Rattle.oram_wire.specs.HostMessages.{answer_body, done_answer, no_room_answer, payload_answer};
 ghost use Rattle.oram_client.specs.Dialer as spec;
 ghost use Rattle.oram_wire.specs.declared.host_messages.HostAnswer.TheVariants.{Payload};
 ghost use Rattle.oram_client.specs.Dialer.{Shows, IsGreetedOver, IsUngreetedOver};
@@ -179,21 +183,35 @@ fn is_no_room(answer: &[u8]) -> bool
     answer == [REFUSED, HostRefusal::OutOfMemory.code()].as_slice()
 }
 
+/// Returns what the answers to the messages that put a stamp at both places come to.
+fn are_put(begun: &[u8], done: &[u8]) -> Result<(), Trouble>
+    ensures ok { OnOk result ((begun.now ≡ done_answer) × (done.now ≡ done_answer)) }
+    ensures err { IfErr result (λ trouble. ArePutFor begun.now done.now trouble) }
+{
+    if is_no_room(begun) {
+        return Err(Trouble::NoRoom);
+    }
+    if is_no_room(done) {
+        return Err(Trouble::NoRoom);
+    }
+    if !is_done(begun) {
+        return Err(Trouble::NoStamps);
+    }
+    if !is_done(done) {
+        return Err(Trouble::NoStamps);
+    }
+    Ok(())
+}
+
 /// Takes the answers to a batch's two stamps out of its answers: the first one, and the one after `count` others. Fails if the host
 /// hasn't put both.
 fn take_stamps(answers: &mut Vec<Vec<u8>>, count: usize) -> Result<(), Trouble>
-    requires { count + 1 < vec_len answers.old }
+    requires { count + 1 < length answers.old.items }
     ensures { TakesStamps (texts answers.old.items) count result (texts answers.new.items) }
 {
     let done = answers.remove(count + 1);
     let begun = answers.remove(0);
-    if is_done(&begun) && is_done(&done) {
-        Ok(())
-    } else if is_no_room(&begun) || is_no_room(&done) {
-        Err(Trouble::NoRoom)
-    } else {
-        Err(Trouble::NoStamps)
-    }
+    are_put(&begun, &done)
 }
 
 impl<R> TcpDialer<R> {
@@ -204,15 +222,17 @@ impl<R> TcpDialer<R> {
         outcome: Result<Vec<Vec<u8>>, LinkFault>,
         count: usize,
     ) -> Result<Vec<Vec<u8>>, Trouble>
-        requires { IfOk outcome (λ answers. count + 1 < vec_len answers) }
+        requires { IfOk outcome (λ answers. count + 1 < length answers.items) }
         ensures { ComesTo self.old self.old.known count (batch_outcome_of outcome) (attempt_of result) self.new }
     {
         match outcome {
-            Ok(mut answers) => {
-                take_stamps(&mut answers, count)?;
-                self.known.settle();
-                Ok(answers)
-            }
+            Ok(mut answers) => match take_stamps(&mut answers, count) {
+                Ok(()) => {
+                    self.known.settle();
+                    Ok(answers)
+                }
+                Err(trouble) => Err(trouble),
+            },
             Err(fault) => Err(Trouble::OutOfReach(fault)),
         }
     }
@@ -232,8 +252,45 @@ impl<R> TcpDialer<R> {
         let begun = stamp_message(alloc, &self.key, Place::Begun, &stamp)?;
         let done = stamp_message(alloc, &self.key, Place::Done, &stamp)?;
         self.known.send(alloc)?;
+        let count = first.len();
         let outcome = line.call_between(alloc, &[begun], first, &[done], last);
-        self.learn_outcome(outcome, first.len())
+        self.learn_outcome(outcome, count)
+    }
+}
+
+impl<R> TcpDialer<R> {
+    /// Takes over the stamps that the host shows, if it may have them by what is known.
+    fn take_over(&mut self, shown: &Shown) -> Result<(), Trouble>
+        ensures ok { OnOk result ((known : Stamps) × IsTakenOver self.old.known shown.now known × (self.new ≡ with_known self.old known)) }
+        ensures err { IfErr result (λ trouble. (self.new ≡ self.old) × ((why : Mismatch) × IsMismatch self.old.known shown.now why × (trouble ≡ mismatch_trouble why))) }
+    {
+        match self.known.take_over(shown) {
+            Ok(()) => Ok(()),
+            Err(why) => Err(Trouble::from(why)),
+        }
+    }
+}
+
+impl<R: Net + Clock + Copy> TcpDialer<R> {
+    /// Asks the host over a new connection for its stamps, and takes them over if it may have them. From then on it may be silent
+    /// for `silence` milliseconds.
+    fn compare(
+        &mut self,
+        alloc: Global,
+        line: &mut TimedLink<Connection<R::Stream>, R>,
+        both: &Connection<R::Stream>,
+        silence: u64,
+    ) -> Result<(), Trouble>
+        ensures ok { OnOk result (IsCompared (bytes_of R.Stream.remaining) (bytes_of R.Stream.contents) self.old line.old line.new self.new) }
+        ensures err { IfErr result (λ trouble. (self.new ≡ self.old) × IsUncompared (bytes_of R.Stream.remaining) (bytes_of R.Stream.contents) self.old line.old trouble) }
+    {
+        match ask_stamps(alloc, line, &self.key) {
+            Ok(shown) => match limit_silence(both, Duration::from_millis(silence)) {
+                Ok(()) => self.take_over(&shown),
+                Err(fault) => Err(Trouble::from(fault)),
+            },
+            Err(trouble) => Err(trouble),
+        }
     }
 }
 
@@ -280,13 +337,13 @@ impl<R: Net + Clock + Copy> Dial for TcpDialer<R> {
             .max(1);
         limit_silence(&both, Duration::from_millis(left.min(limits.silence)))?;
         match greet(alloc, reader, writer, self.rt, left, &self.identity) {
-            Ok(mut line) => {
-                let shown = ask_stamps(alloc, &mut line, &self.key)?;
-                limit_silence(&both, Duration::from_millis(limits.silence))?;
-                self.known.take_over(&shown)?;
-                line.set_limit(limits.batch);
-                Ok(line)
-            }
+            Ok(mut line) => match self.compare(alloc, &mut line, &both, limits.silence) {
+                Ok(()) => {
+                    line.set_limit(limits.batch);
+                    Ok(line)
+                }
+                Err(trouble) => Err(trouble),
+            },
             Err(trouble) => Err(trouble),
         }
     }

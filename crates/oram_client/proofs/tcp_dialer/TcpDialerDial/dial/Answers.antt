@@ -1,14 +1,39 @@
-use Rattle.std.proofs.Common.{◌≡◌, ◌∙◌, subst}
-use Rattle.oram_client.specs.Dialer.{Destination, IsUngreetedOver}
+use Rattle.std.proofs.Common.{◌≡◌, inl, inr, sym, ◌∙◌, subst}
+use Rattle.oram_client.specs.Dialer.{Destination, IsGreetedOver, IsUngreetedOver}
+use Rattle.oram_client.specs.Stamped.{FailsToOpen, IsCompared, Opens}
+use Rattle.oram_client.specs.StreamBatches.{Connection}
 use Rattle.oram_sockets.specs.Connections.{bytes_of}
 use Rattle.oram_client.proofs.Greeted.{somewhere}
 use Rattle.oram_client.proofs.tcp_dialer.TcpDialerDial.dial.Goals as goal
 
+pub returns-in-Ok-compare-clause-ok : goal.returns-in-Ok-compare-clause-ok
+returns-in-Ok-compare-clause-ok g c =
+    let same : c.now.new.self ≡ c.args.self.now = c.now.ensures ∙ c.now-begin.ensures in
+    let greeted = c.in-Ok.line in
+    let over = subst (λ (d : Destination). IsGreetedOver (bytes_of g.R.Stream.Read.remaining) (bytes_of g.R.Stream.Write.contents) c.in_ok-reader.reader c.in_ok-reader.writer d.identity greeted)
+    c.self-2.view_is c.in-Ok.ensures.ok in
+    let compared = subst (λ l. IsCompared (bytes_of g.R.Stream.Read.remaining) (bytes_of g.R.Stream.Write.contents) c.now.new.self greeted l c.compare.new.self)
+    (sym c.set_limit.ensures) c.in-Ok-compare.ensures.ok in
+    subst (λ (d : Destination). Opens (bytes_of g.R.Stream.Read.remaining) (bytes_of g.R.Stream.Write.contents) d c.set_limit.new.self c.compare.new.self) same
+    (greeted, (c.in_ok-reader.reader, c.in_ok-reader.writer, over), compared)
+
+pub returns-in-Ok-clause-err : goal.returns-in-Ok-clause-err
+returns-in-Ok-clause-err g c =
+    let same : c.now.new.self ≡ c.args.self.now = c.now.ensures ∙ c.now-begin.ensures in
+    let greeted = c.in-Ok.line in
+    let over = subst (λ (d : Destination). IsGreetedOver (bytes_of g.R.Stream.Read.remaining) (bytes_of g.R.Stream.Write.contents) c.in_ok-reader.reader c.in_ok-reader.writer d.identity greeted)
+    c.self-2.view_is c.in-Ok.ensures.ok in
+    let failed = c.in-Err-compare.ensures.err in (
+      subst (λ (d : Destination). FailsToOpen (bytes_of g.R.Stream.Read.remaining) (bytes_of g.R.Stream.Write.contents) d c.in-Err-compare.trouble) same
+          (inr (greeted, (c.in_ok-reader.reader, c.in_ok-reader.writer, over), failed.1)),
+      failed.0 ∙ same,
+    )
+
 pub returns-clause-err : goal.returns-clause-err
 returns-clause-err g c =
     let same : c.now.new.self ≡ c.args.self.now = c.now.ensures ∙ c.now-begin.ensures in (
-      somewhere (bytes_of g.R.Stream.Read.remaining) (bytes_of g.R.Stream.Write.contents) c.in_ok-reader.reader c.in_ok-reader.writer c.args.self.now.identity c.in-Err.trouble
+      inl (somewhere (bytes_of g.R.Stream.Read.remaining) (bytes_of g.R.Stream.Write.contents) c.in_ok-reader.reader c.in_ok-reader.writer c.args.self.now.identity c.in-Err.trouble
           (subst (λ (d : Destination). IsUngreetedOver (bytes_of g.R.Stream.Read.remaining) (bytes_of g.R.Stream.Write.contents) c.in_ok-reader.reader c.in_ok-reader.writer d.identity c.in-Err.trouble)
-          (c.self-2.view_is ∙ same) c.in-Err.ensures.err),
+          (c.self-2.view_is ∙ same) c.in-Err.ensures.err)),
       same,
     )
