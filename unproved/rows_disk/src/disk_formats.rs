@@ -52,7 +52,7 @@ fn formatted(
 ) -> Result<bool, FormattingFault> {
     let mut is_idle = true;
     for _ in 0..times {
-        is_idle &= format_ahead(alloc, device.copy(), PlainSeal, &IDENTITY, ahead)?.is_idle();
+        is_idle &= format_ahead(alloc, device.copy(), PlainSeal, &IDENTITY, &STAMPS, ahead)?.is_idle();
     }
     Ok(is_idle)
 }
