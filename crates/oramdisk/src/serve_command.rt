@@ -3,9 +3,7 @@
 use crate::clients::{ClientAttendant, Dismissal};
 use crate::watched_disk::{FailureKeeper, WatchedDisk};
 use oram_bucket::{ChaChaSeal, PlainSeal, Sealer};
-use oram_client::{
-    FileKeeper, FilePlace, HostWatch, Keys, ReconnectLink, SealerKind, TcpDialer,
-};
+use oram_client::{FileKeeper, FilePlace, HostWatch, Keys, ReconnectLink, SealerKind, TcpDialer};
 use oram_core::{Core, Reason};
 use oram_disk_client::{
     disk_in, host_fault, keep_failure, kept_failure, kept_in, keys_in, named, process_for,
@@ -251,11 +249,7 @@ type DiskKeeper<'a> = FileKeeper<FilePlace<&'a HostRuntime>>;
 type DiskVolume<'a, S> = Volume<S, HostLink<'a>, DiskKeeper<'a>, ChaChaTape>;
 
 /// Returns why a disk stopped.
-fn stopped<S: Sealer>(
-    alloc: Global,
-    volume: &DiskVolume<'_, S>,
-    settings: DiskSettings,
-) -> Fault {
+fn stopped<S: Sealer>(alloc: Global, volume: &DiskVolume<'_, S>, settings: DiskSettings) -> Fault {
     if volume.keeper.failure().is_some() {
         Fault::About(FaultKind::StateNotKept, settings.state)
     } else if volume.core.next_ticket() >= volume.core.device().lifetime() {
