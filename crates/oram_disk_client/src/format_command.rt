@@ -146,7 +146,14 @@ fn formatted<S: Sealer>(
     let stored = stored_bytes(&device, settings.sealer);
     let _passed_over = printer.begin(stored, host.as_str());
     let mut ahead = Ahead::new(alloc, &device, reader, writer, printer);
-    match format_ahead(alloc, device, sealer, &keys.identity, &keys.stamps, &mut ahead) {
+    match format_ahead(
+        alloc,
+        device,
+        sealer,
+        &keys.identity,
+        &keys.stamps,
+        &mut ahead,
+    ) {
         Ok(core) => Ok(core),
         Err(fault) => Err(formatting_fault(fault, host)),
     }

@@ -3,9 +3,7 @@
 use crate::clients::{ClientAttendant, ClientLook, Dismissal};
 use crate::watched_disk::{FailureKeeper, WatchedDisk};
 use oram_bucket::{ChaChaSeal, PlainSeal, Sealer};
-use oram_client::{
-    FileKeeper, FilePlace, HostWatch, Keys, ReconnectLink, SealerKind, TcpDialer,
-};
+use oram_client::{FileKeeper, FilePlace, HostWatch, Keys, ReconnectLink, SealerKind, TcpDialer};
 use oram_core::{Core, Reason};
 use oram_disk_client::{
     disk_in, host_fault, keep_failure, kept_failure, kept_in, keys_in, named, process_for,

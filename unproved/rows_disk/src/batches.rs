@@ -6,7 +6,7 @@ use oram_client::{Dial, HostWatch, Limits, ReconnectLink, StreamBatches, Trouble
 use oram_rounds::BatchLink;
 use oram_session::LinkFault;
 use rows::{Page, RowFault, RowWords};
-use std::alloc::Global;
+use std::alloc::{AllocError, Global};
 use std::cell::RefCell;
 
 /// Opens connections to one host. A digit for each says how many answers the host gives over it, in order.
@@ -30,6 +30,14 @@ impl<'a> Dial for Connections<'a> {
 
     ghost reads = { λ _ _ _. ⊤ };
 
+    ghost carries = { λ d l bodies came exchanges e m. Plainly (λ k bs o es n. IsBatch bs o es) d l bodies came exchanges e m };
+
+    ghost notes = { λ _. [] };
+
+    ghost learns = { λ d _ e. e ≡ d };
+
+    ghost are_batches = { plainly_are_batches };
+
     fn dial(
         &mut self,
         alloc: Global,
@@ -45,6 +53,25 @@ impl<'a> Dial for Connections<'a> {
         far.reopen(u64::from(digit.saturating_sub(b'0')));
         Ok(StreamBatches::new(alloc, Answers(self.far), Messages(self.far)))
     }
+
+    fn carry(
+        &mut self,
+        alloc: Global,
+        line: &mut StreamBatches<Answers<'a>, Messages<'a>>,
+        first: &[Vec<u8>],
+        last: &[Vec<u8>],
+    ) -> Result<Vec<Vec<u8>>, Trouble> {
+        match line.call_all(alloc, first, last) {
+            Ok(answers) => Ok(answers),
+            Err(fault) => Err(Trouble::OutOfReach(fault)),
+        }
+    }
+
+    fn note(&self, alloc: Global) -> Result<Vec<u8>, AllocError> {
+        Ok(Vec::new(alloc))
+    }
+
+    fn learn_kept(&mut self, _check: u64) {}
 
     fn pause(&mut self, _milliseconds: u64) {}
 

@@ -4,12 +4,15 @@ use crate::far_end::{Answers, FarEnd, HostBehaviour, Messages};
 use oram_bucket::PlainSeal;
 use oram_client::{Ahead, FormattingFault, Identity, Progress, format_ahead};
 use oram_geometry::Device;
+use oram_stamps::StampKey;
 use rows::{Page, RowFault, RowWords, device_in};
 use std::alloc::Global;
 use std::cell::{Cell, RefCell};
 use std::io::BufWriter;
 
 const IDENTITY: Identity = Identity([0x1d; 32]);
+
+const STAMPS: StampKey = StampKey([0x5e; 32]);
 
 /// The progress that was reported last.
 #[derive(Drop)]
@@ -52,7 +55,14 @@ fn formatted(
 ) -> Result<bool, FormattingFault> {
     let mut is_idle = true;
     for _ in 0..times {
-        is_idle &= format_ahead(alloc, device.copy(), PlainSeal, &IDENTITY, ahead)?.is_idle();
+        is_idle &= format_ahead(
+            alloc,
+            device.copy(),
+            PlainSeal,
+            &IDENTITY,
+            &STAMPS,
+            ahead,
+        )?.is_idle();
     }
     Ok(is_idle)
 }
