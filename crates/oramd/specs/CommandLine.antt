@@ -20,9 +20,9 @@ abbrev pub request_for : Subcommand → Request
 request_for (words.Run role file) = run role (string_bytes file)
 request_for (words.Loop digits) = loop (string_bytes digits)
 
--- the words of a command line ask for help, after the program's name
-abbrev pub AsksForHelp : List Text → Type 0
-AsksForHelp words = (name : Text) × ((words ≡ name ∷ codes "-h" ∷ []) ⊎ (words ≡ name ∷ codes "--help" ∷ []))
+-- the word asks for help
+abbrev pub IsHelp : Text → Type 0
+IsHelp word = (word ≡ codes "-h") ⊎ (word ≡ codes "--help")
 
 -- the program's description for clap: one of four subcommands, with its word
 abbrev pub program : App

@@ -1,9 +1,9 @@
 //! The command line.
 
-ghost use Rattle.std.specs.Prelude.{◌≡◌, ◌↔◌, None, Some, IfOk, IsErrOf, IsTrue};
+ghost use Rattle.std.specs.Prelude.{◌≡◌, None, Some, false, IfOk, IsErrOf, IsTrue};
 ghost use Rattle.clap.specs.Walk.{texts};
 ghost use Rattle.clap.specs.Words.{app_of};
-ghost use Rattle.oramd.specs.CommandLine.{AsksForHelp, program, request_in, request_of, request_for};
+ghost use Rattle.oramd.specs.CommandLine.{IsHelp, program, request_in, request_of, request_for};
 
 use clap::Command;
 use oram_cli::{InputFault, read_named, word_taker};
@@ -41,12 +41,21 @@ pub enum Subcommand {
     Loop(String),
 }
 
-/// Returns whether the words of a command line ask for help. The first word is the program's name.
-pub fn asks_for_help(words: &[&str]) -> bool
-    ensures { IsTrue result ↔ AsksForHelp (texts words.now) }
+/// Returns whether a word asks for help.
+fn is_help(word: &str) -> bool
+    ensures yes { IsTrue result → IsHelp word.now }
+    ensures no { result ≡ false → ¬ IsHelp word.now }
 {
+    match word {
+        "-h" | "--help" => true,
+        _ => false,
+    }
+}
+
+/// Returns whether the words of a command line ask for help and nothing else. The first word is the program's name.
+pub fn asks_for_help(words: &[&str]) -> bool {
     match words {
-        [_, word] => *word == "-h" || *word == "--help",
+        [_, word] => is_help(word),
         _ => false,
     }
 }

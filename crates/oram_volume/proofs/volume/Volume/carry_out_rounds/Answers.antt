@@ -63,6 +63,19 @@ returns-in_err-commands-clause-goes g c =
     (inv.done, rest_of d.block_bytes ops c.loop-round_number.cursor.operation c.loop-round_number.cursor.block, inv.split, step.1) in
     (first, λ e. cc, part_after_all step.2 first)))
 
+pub returns-then-not-goes_on-clause-goes : goal.returns-then-not-goes_on-clause-goes
+returns-then-not-goes_on-clause-goes g c =
+    let d = c.args.self.now.core.device in
+    let ops = c.args.operations.now in
+    let inv = c.loop-round_number.invariant in
+    weaker inv.so_far (λ may_lie world old new h step.
+    let first : IsAfterFirst d (all_commands d.block_bytes ops) old.held new.held =
+    (inv.done, rest_of d.block_bytes ops c.loop-round_number.cursor.operation c.loop-round_number.cursor.block, inv.split, step.1) in
+    (first, λ e. cc, part_after_all step.2 first))
+
+pub returns-in_err-replies-clause-still : goal.returns-in_err-replies-clause-still
+returns-in_err-replies-clause-still g c = λ failed. c.in_err-replies.ensures.still (c.loop-round_number.invariant.still failed)
+
 pub next_round-requires-clause-whole : goal.next_round-requires-clause-whole
 next_round-requires-clause-whole g c =
     let same : c.block_bytes-block.result ≡ c.args.self.now.core.device.block_bytes = search rules in
