@@ -8,9 +8,8 @@ from trials.bucket_host import Host, check_answers
 from trials.bucket_messages import DONE, Model
 from trials.host.kills import format_tree, random_store
 
-# A host syncs its log and its file when it opens them, and the file once more when it has replayed the log. The next sync is that of its
-# first STORE.
-SYNCS_AT_OPENING = 3
+# A host syncs its file and its log when it opens them, and the next sync is that of its first STORE.
+SYNCS_AT_OPENING = 2
 
 
 def try_disk_errors(trial, depth=3, record_len=400):

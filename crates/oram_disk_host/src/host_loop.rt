@@ -211,11 +211,6 @@ fn serve_all<R: Net + Clock + Eprint + AllocGlobal, F: FilePair + Drop>(
 ) -> Result<(), Fault> {
     let disk = DiskPrinter::new(rt, file);
     let mut hosted = TalliedStore::new(store, &disk);
-    // What was found in the log is in its places, but not on the disk yet.
-    hosted.empty_log();
-    if hosted.has_failed() {
-        return Ok(());
-    }
     for _ in 0..u64::MAX {
         match listener.accept() {
             Ok((stream, peer)) => {

@@ -14,7 +14,7 @@ use crate::tally::Tally;
 use oram_host::{BucketServer, HostRefusal};
 use oram_redo::FilePair;
 use oram_store::{FileStore, StoreFault};
-use oram_wire::REFUSED;
+use oram_wire::{REFUSED, is_done};
 use std::alloc::{AllocError, Global};
 use std::marker::Model;
 
@@ -25,6 +25,8 @@ pub struct TalliedStore<'a, F: FilePair, W> {
     tally: Tally,
     /// Is told how the store's disk is.
     disk: &'a W,
+    /// Whether a request was carried out that changes something, since the log was last emptied.
+    is_changed: bool,
 }
 
 impl<'a, F: FilePair, W> Model for TalliedStore<'a, F, W> {
@@ -44,6 +46,7 @@ impl<'a, F: FilePair, W> TalliedStore<'a, F, W> {
             store,
             tally: Tally::new(),
             disk,
+            is_changed: false,
         }
     }
 
@@ -61,8 +64,11 @@ impl<'a, F: FilePair, W> TalliedStore<'a, F, W> {
         self.tally
     }
 
-    /// Makes durable the records that a formatting has put so far, and empties the log, so that the next start has nothing to
-    /// replay. If that fails, the tally says why.
+    /// Makes durable the records that a formatting has put so far, and if anything was changed, empties the log, so that the next
+    /// start has nothing to replay. If that fails, the tally says why.
+    ///
+    /// A log to which nothing was added stays as it is: on a file system that copies on write there may be no room even to empty
+    /// it, and the records can still be read then.
     pub fn empty_log(&mut self)
         ensures none_pending_or_why { (self.new.store.pending ≡ []) ⊎ IsSome self.new.tally.failure }
         ensures trees { self.new.store.trees ≡ self.old.store.trees }
@@ -74,7 +80,13 @@ impl<'a, F: FilePair, W> TalliedStore<'a, F, W> {
         ensures received { self.new.tally.received ≡ self.old.tally.received }
         ensures sent { self.new.tally.sent ≡ self.old.tally.sent }
     {
-        if let Err(fault) = self.store.empty_log() {
+        let done = if self.is_changed {
+            self.store.empty_log()
+        } else {
+            self.store.commit_puts()
+        };
+        self.is_changed = false;
+        if let Err(fault) = done {
             // If the disk has failed before, the tally says so already.
             if fault != StoreFault::Closed || self.tally.failure.is_none() {
                 self.tally.failure = Some(fault);
@@ -135,6 +147,7 @@ impl<'a, F: FilePair, W: DiskWatch> BucketServer for TalliedStore<'a, F, W> {
         self.tally = self.tally.with(body, &answer);
         self.tally.failure = failure;
         tell(self.disk, &answer, failure);
+        self.is_changed |= is_done(&answer);
         Ok(answer)
     }
 }
