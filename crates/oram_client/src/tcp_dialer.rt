@@ -23,7 +23,7 @@ use oram_host::HostRefusal;
 use oram_rounds::BatchLink;
 use oram_session::LinkFault;
 use oram_sockets::{Connection, connect_to};
-use oram_stamps::{Known, Place, Shown, StampKey, decode_shown, encode_note};
+use oram_stamps::{Known, Place, Shown, StampKey, decode_shown, encode_note, masked};
 use oram_wire::{GOOD, REFUSED, fetch_header, is_done};
 use std::alloc::{AllocError, Global};
 use std::io::{Read, Write};
@@ -301,6 +301,7 @@ impl<R: Net + Clock + Copy> Dial for TcpDialer<R> {
     ghost use Rattle.oram_client.specs.Dialer.{Destination};
     ghost use Rattle.oram_stamps.specs.Known.{kept};
     ghost use Rattle.oram_stamps.specs.Note.{note_text};
+    ghost use Rattle.oram_stamps.specs.Stamps.{mask};
     ghost use Rattle.oram_sockets.specs.Connections.{bytes_of};
 
     type Line = TimedLink<Connection<R::Stream>, R>;
@@ -313,7 +314,7 @@ impl<R: Net + Clock + Copy> Dial for TcpDialer<R> {
 
     ghost notes = { λ d. note_text d.known };
 
-    ghost learns = { λ d check e. e ≡ record d { known = kept d.known check } };
+    ghost learns = { λ d check e. e ≡ record d { known = kept d.known (mask d.key check) } };
 
     ghost are_batches = { λ d e line line' bodies came exchanges h. carries_are_batches (bytes_of R.Stream.remaining) (bytes_of R.Stream.contents) d e line line' bodies came exchanges h };
 
@@ -369,7 +370,7 @@ impl<R: Net + Clock + Copy> Dial for TcpDialer<R> {
     }
 
     fn learn_kept(&mut self, check: u64) {
-        self.known.keep(check);
+        self.known.keep(masked(&self.key, check));
     }
 
     fn pause(&mut self, milliseconds: u64) {

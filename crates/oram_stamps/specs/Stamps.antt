@@ -1,6 +1,6 @@
 -- The records in which a host keeps stamps, and their tags.
-use Rattle.std.specs.Prelude.{◌≡◌, ℕ, ◌<◌, ◌^◌, List, [], ◌∷◌, ◌++◌}
-use Rattle.std.specs.Int.{w32, w64, to_be_bytes}
+use Rattle.std.specs.Prelude.{◌≡◌, ℕ, ◌<◌, ◌^◌, List, [], ◌∷◌, ◌++◌, take}
+use Rattle.std.specs.Int.{w32, w64, from_be_bytes, to_be_bytes}
 use Rattle.sha2.specs.Sha256.{sha256}
 use Rattle.oram_stamps.specs.declared.stamp.Place.{Place}
 use Rattle.oram_stamps.specs.declared.stamp.Place.TheVariants.{Begun, Done}
@@ -12,9 +12,14 @@ pub record AreNumbers (stamp : Stamp) : Type 0 where
   pub number : stamp.number < 2 ^ 64
   pub check : stamp.check < 2 ^ 64
 
--- a stamp's 16 bytes: the number of the keeping, and the checksum of the file that was kept
+-- a stamp's 16 bytes: the number of the keeping, and the masked checksum of the file that was kept
 unfoldable pub stamp_text : Stamp → List ℕ
 stamp_text stamp = to_be_bytes w64 stamp.number ++ to_be_bytes w64 stamp.check
+
+-- A checksum, masked by the stamps' key: the number that stands at the front of a digest, which is made as a tag is, with another byte in
+-- the place's stead.
+unfoldable pub mask : List ℕ → ℕ → ℕ
+mask key check = from_be_bytes w64 (take 8 (sha256 (to_be_bytes w32 1 ++ key ++ (2 ∷ []) ++ to_be_bytes w64 check)))
 
 -- the byte that stands for a place in a tag
 abbrev pub place_byte : Place → ℕ

@@ -1,7 +1,7 @@
 //! Stamps, and the records in which a host keeps them.
 ghost use Rattle.std.specs.Prelude.{◌≡◌, ◌≢◌, ◌++◌, ◌<◌, ◌^◌, ℕ, List, None, IfOk, IfSome, OnOk, length, MatchBool};
 ghost use Rattle.std.specs.Int.{w64, to_be_bytes};
-ghost use Rattle.oram_stamps.specs.Stamps.{AreNumbers, place_byte, record_text, shown_text, stamp_text, tag};
+ghost use Rattle.oram_stamps.specs.Stamps.{AreNumbers, mask, place_byte, record_text, shown_text, stamp_text, tag};
 ghost use Rattle.oram_stamps.specs.declared.stamp.Shown.{Shown};
 ghost use Rattle.oram_stamps.specs.declared.stamp.Stamp.{Stamp};
 
@@ -17,7 +17,7 @@ pub const RECORD_LEN: usize = 48;
 pub struct Stamp {
     /// One greater than that of the keeping before.
     pub number: u64,
-    /// The checksum of the file that was kept.
+    /// The checksum of the file that was kept, masked by [`masked`].
     pub check: u64,
 }
 
@@ -99,6 +99,23 @@ pub(crate) fn next_number(bytes: &[u8]) -> Option<(u64, &[u8])>
 {
     let (number, rest) = bytes.split_first_chunk::<8>()?;
     Some((u64::from_be_bytes(*number), rest))
+}
+
+/// Masks the checksum of a kept file by the key of the disk's stamps. The host sees the masked one. By the checksum itself it could
+/// find out by trying what the file holds, and so which blocks were accessed.
+#[tactic(auto, unfolding(crate::specs::Stamps::mask))]
+pub fn masked(key: &StampKey, check: u64) -> u64
+    ensures { result ≡ mask key.now.0 check }
+{
+    let mut hasher = Sha256::new();
+    hasher.update(1u32.to_be_bytes());
+    hasher.update(key.0);
+    hasher.update([2u8]);
+    hasher.update(check.to_be_bytes());
+    let digest = hasher.finalize();
+    let mut front = [0; 8];
+    front.copy_from_slice(&digest[..8]);
+    u64::from_be_bytes(front)
 }
 
 /// Computes the tag of a stamp at a place.

@@ -15,7 +15,7 @@ use oram_rounds::{BatchLink, Keeper, KeptCore, RoundLink, record_len};
 use oram_session::{ChaChaTape, Tape};
 use oram_settings::{DiskSettings, counted, failure_text, relative_to, serving_text};
 use oram_sockets::{Connection, Listener, Look, Peer, listen_at_path, watch};
-use oram_stamps::{Known, NoteFault, decode_note};
+use oram_stamps::{Known, NoteFault, decode_note, masked};
 use oram_volume::Volume;
 use percent_encoding::{NON_ALPHANUMERIC, utf8_percent_encode};
 use std::alloc::{AllocError, Global};
@@ -324,9 +324,11 @@ fn link_to<'a>(
 fn known_in<S: Sealer>(
     alloc: Global,
     settings: &DiskSettings,
+    keys: &Keys,
     kept: &KeptCore<S>,
 ) -> Result<Known, Fault> {
-    match decode_note(alloc, &kept.note, kept.check) {
+    let check = masked(&keys.stamps, kept.check);
+    match decode_note(alloc, &kept.note, check) {
         Ok(known) => Ok(known),
         Err(NoteFault::OutOfMemory) => Err(Fault::OutOfMemory),
         Err(NoteFault::NotOurs) => {
@@ -357,7 +359,7 @@ fn reached<'a, S: Sealer>(
     kept: KeptCore<S>,
 ) -> Result<(Core<S>, RoundLink<HostLink<'a>>), Fault> {
     let alloc = rt.alloc();
-    let known = known_in(alloc, settings, &kept)?;
+    let known = known_in(alloc, settings, keys, &kept)?;
     let mut link = link_to(rt, settings, keys, known)?;
     check_host(alloc, &mut link, settings)?;
     let KeptCore { stores, core, .. } = kept;
