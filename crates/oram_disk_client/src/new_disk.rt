@@ -1,7 +1,7 @@
 //! Makes a new folder with the first settings of a disk.
 
 ghost use Rattle.std.specs.Fs.{asks_create_new, asks_write};
-ghost use Rattle.std.specs.Prelude.{◌≡◌, ◌≤◌, ◌<◌, ◌+◌, ◌*◌, ◌^◌, ℕ, true, IfSome};
+ghost use Rattle.std.specs.Prelude.{◌≡◌, ◌≤◌, ◌<◌, ◌+◌, ◌*◌, ℕ, true, IfSome};
 ghost use Rattle.oram_settings.specs.Settings.{IsDeviceOf};
 ghost use Rattle.oram_settings.specs.Sizes.{IsSize};
 
@@ -85,12 +85,13 @@ fn fill_folder<R: Files + AllocGlobal>(
     sync_folders(rt, folder)
 }
 
-/// Rounds the size of a new disk up to whole blocks.
-fn whole_size(size: u64) -> u64
-    ensures whole { (blocks : ℕ) × (result ≡ blocks * DEFAULT_BLOCK) }
-    ensures least { size + DEFAULT_BLOCK ≤ 2 ^ 64 → (size ≤ result) × (result < size + DEFAULT_BLOCK) }
+/// Rounds the size of a new disk up to whole blocks. Returns `None` if that is 2^64 bytes or more.
+fn whole_size(size: u64) -> Option<u64>
+    ensures whole { IfSome result (λ whole. (blocks : ℕ) × (whole ≡ blocks * DEFAULT_BLOCK)) }
+    ensures least { IfSome result (λ whole. (size ≤ whole) × (whole < size + DEFAULT_BLOCK)) }
 {
-    size.saturating_add(DEFAULT_BLOCK - 1) / DEFAULT_BLOCK * DEFAULT_BLOCK
+    let most = size.checked_add(DEFAULT_BLOCK - 1)?;
+    Some(most / DEFAULT_BLOCK * DEFAULT_BLOCK)
 }
 
 /// A new disk: its size in bytes, the bytes that it takes at its host, and the text of its settings.
@@ -113,15 +114,15 @@ fn sized(word: &str) -> Option<(u64, Device)>
     if size < DEFAULT_BLOCK {
         return None;
     }
-    let size = whole_size(size);
+    let whole = whole_size(size)?;
     let device = device_of(
-        size,
+        whole,
         DEFAULT_BLOCK,
         DEFAULT_SLOTS,
         DEFAULT_LEAF_LOAD,
         DEFAULT_TABLE,
     )?;
-    Some((size, device))
+    Some((whole, device))
 }
 
 /// Makes a new disk with a random key. It has the size that `word` says, rounded up to whole blocks. Fails with

@@ -18,7 +18,7 @@ pub returns-in_err-check_settings-clause-fault : goal.returns-in_err-check_setti
 returns-in_err-check_settings-clause-fault g c =
     let p = err_from_is_err_and c.from_residual-in_err-check_settings.result c.from_residual-in_err-check_settings.ensures.1 in
     let changed = c.in_err-check_settings.ensures.changed in
-    let told = told_as _ _ _ _ c.device.ensures.value c.sealing_of-sealing.ensures changed.1 changed.2 in
+    let told = told_as c.args.name.now changed.0 c.args.settings.now _ c.device.ensures.value c.sealing_of-sealing.ensures changed.1 changed.2 in
     rw (p.1, p.2) (inr (c.in_ok-process.process, changed.0, told.0, c.in_ok-process.ensures.ok, told.1))
 
 pub returns-in_err-check_settings-clause-changed : goal.returns-in_err-check_settings-clause-changed
@@ -26,5 +26,5 @@ returns-in_err-check_settings-clause-changed g c = λ d stores core file.
     let p = err_from_is_err_and c.from_residual-in_err-check_settings.result c.from_residual-in_err-check_settings.ensures.1 in
     let changed = c.in_err-check_settings.ensures.changed in
     let device = c.device.ensures.value ∙ (c.in_ok-process.ensures.same d stores core file).1 in
-    let told = told_as _ _ _ _ device c.sealing_of-sealing.ensures changed.1 changed.2 in
+    let told = told_as c.args.name.now changed.0 c.args.settings.now _ device c.sealing_of-sealing.ensures changed.1 changed.2 in
     rw (p.1, p.2) (inr (changed.0, told.0, told.1))
