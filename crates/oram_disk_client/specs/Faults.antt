@@ -1,7 +1,6 @@
 -- The faults with which the client's commands end.
 use Rattle.std.specs.Global.{Global}
-use Rattle.std.specs.Prelude.{◌≡◌, ◌≢◌, ◌⊎◌, ℕ, List, [], ◌∷◌, String, ⊤, codes, string_bytes}
-use Rattle.std.specs.List.{concat}
+use Rattle.std.specs.Prelude.{◌≡◌, ◌≢◌, ◌⊎◌, ◌++◌, ℕ, List, String, ⊤, codes, string_bytes}
 use Rattle.oram_cli.specs.declared.file_faults.FileFault.{FileFault}
 use Rattle.oram_cli.specs.declared.file_faults.FileFault.TheVariants as file
 use Rattle.oram_cli.specs.declared.file_faults.FileReason.TheVariants as reason
@@ -46,4 +45,4 @@ IsNoProcessFor process name fault =
 
 -- the name of the settings, and what a value in them was when the disk was formatted
 abbrev pub was_text : List ℕ → List ℕ → List ℕ
-was_text name value = concat (name ∷ codes " was " ∷ value ∷ [])
+was_text name value = (name ++ codes " was ") ++ value

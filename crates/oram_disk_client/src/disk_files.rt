@@ -1,6 +1,6 @@
 //! The files of a disk at its client.
 
-ghost use Rattle.std.specs.Prelude.{◌≡◌, ◌≢◌, ◌↔◌, ◌⊎◌, string_bytes, ℕ, List, Ok, Err, None, Some, IfErr, IfOk, IsTrue, OnOk};
+ghost use Rattle.std.specs.Prelude.{◌≡◌, ◌≢◌, ◌↔◌, ◌⊎◌, ◌++◌, codes, string_bytes, ℕ, List, Ok, Err, None, Some, IfErr, IfOk, IsTrue, OnOk};
 ghost use Rattle.oram_cli.specs.declared.file_faults.FileFault.{FileFault};
 ghost use Rattle.oram_client.specs.KeptFile.{kept_file};
 ghost use Rattle.oram_client.specs.Keys as derived;
@@ -199,6 +199,15 @@ pub(crate) fn sealer_of(sealing: Sealing) -> SealerKind
     }
 }
 
+/// Returns a name, and that it was something.
+fn was_something(alloc: Global, name: &str) -> Result<String, AllocError>
+    ensures { IfOk result (λ text. string_bytes text ≡ name.now ++ codes " was ") }
+{
+    let mut text = String::from_str(alloc, name)?;
+    text.push_str(" was ")?;
+    Ok(text)
+}
+
 /// Returns the name of the settings, and what a key in them was when the disk was formatted.
 fn was(
     alloc: Global,
@@ -210,8 +219,9 @@ fn was(
     ensures { IfOk result (λ text. string_bytes text ≡ was_text name.now (formatted.value_text device.now sealing key)) }
 {
     let value = value_text(alloc, key, device, sealing)?;
-    let value = value.as_str();
-    format!(in alloc; "{name} was {value}")
+    let mut text = was_something(alloc, name)?;
+    text.push_str(value.as_str())?;
+    Ok(text)
 }
 
 /// Returns the fault that a key of the settings in the file `name` isn't what it was when the disk was formatted.
