@@ -89,9 +89,10 @@ class DiskFolder:
     def __init__(self, folder, program, sizes, values):
         self.folder, self.program, self.processes = Path(folder), program, {}
         self.log = open(self.folder.parent / f"{self.folder.name}.log", "wb")
-        self.run("new", str(self.folder), "--size", str(sizes.blocks * sizes.block_bytes))
+        # A new disk has blocks of 4,096 bytes, until its settings say otherwise.
+        self.run("new", str(self.folder), "--size", "4096")
         self.port = free_port()
-        put_values(self.folder / "disk.toml", {"host": f"127.0.0.1:{self.port}", **values})
+        put_values(self.folder / "disk.toml", {"size": sizes.blocks * sizes.block_bytes, "host": f"127.0.0.1:{self.port}", **values})
         put_values(self.folder / "host.toml", {"listen": f"127.0.0.1:{self.port}"})
 
     def key(self):
