@@ -56,6 +56,7 @@ pub(crate) fn tell_read_file(
         ..
     } = match decode_kept(alloc, PlainSeal, &file.bytes) {
         Ok(kept) => kept,
+        Err(KeptCoreFault::OutOfMemory) => return Err(RowFault::OutOfMemory),
         Err(_) => return Err(RowFault::NoRow),
     };
     page.word("stores");
