@@ -1,5 +1,6 @@
 """The system calls of a process, as strace sees and disturbs them."""
 
+import dataclasses
 import functools
 import re
 import shutil
@@ -51,6 +52,52 @@ def giving_random(known):
 def noting(calls, file):
     """The words that start a program under strace, which writes these calls to a file, with the names of the files that they are about."""
     return ["strace", "-f", "-y", "-o", file, "-e", f"trace={calls}"]
+
+
+def noting_bytes(calls, file):
+    """The words that start a program under strace, which writes these calls to a file, with all their bytes and the names of the files
+    that they are about."""
+    return ["strace", "-f", "-y", "-xx", "-s", str(1 << 20), "-o", file, "-e", f"trace={calls}"]
+
+
+@dataclasses.dataclass
+class Call:
+    """A call that was done: a write, with its file, place and bytes; a sync of a file; or something that was sent."""
+
+    name: str
+    file: Path
+    data: bytes = b""
+    place: int = 0
+
+    def is_write(self):
+        return self.name == "pwrite64"
+
+    def is_sync(self):
+        return self.name in ("fsync", "fdatasync")
+
+    def is_send(self):
+        return self.name == "sendto"
+
+
+def writes_syncs_and_sends(text):
+    """The calls of a process that succeeded, by the lines that strace writes if it notes bytes. Fails on a call of another kind."""
+    found = []
+    for line in re.findall(r"^\d+ +(\w+\(.*\) += [0-9]+)$", text, re.MULTILINE):
+        if wrote := re.fullmatch(r'pwrite64\(\d+<(.*)>, "(.*)", \d+, (\d+)\) += (\d+)', line):
+            data = from_hex(wrote[2])[: int(wrote[4])]
+            found.append(Call("pwrite64", Path(from_hex(wrote[1]).decode()), data, int(wrote[3])))
+        elif synced := re.fullmatch(r"(fsync|fdatasync)\(\d+<(.*)>\) += 0", line):
+            found.append(Call(synced[1], Path(from_hex(synced[2]).decode())))
+        elif line.startswith("sendto("):
+            found.append(Call("sendto", None))
+        else:
+            raise ValueError(f"a call of another kind: {line[:80]}")
+    return found
+
+
+def from_hex(text):
+    """The bytes that strace shows as \\x41\\x42."""
+    return bytes.fromhex(text.replace("\\x", ""))
 
 
 def writes_before_sync(text, file):

@@ -15,9 +15,9 @@ DEPTH, RECORD_LEN = 3, 200
 REFUSALS = (DAMAGED, NO_BUCKETS, OTHER_VERSION, WRONG_LOG)
 
 
-def killed_host(trial, stores=6):
-    """A host that was killed, with STOREs that are in its log. Returns it with its model."""
-    host, model = trial.host("rot").start(), Model()
+def killed_host(trial, name, stores=6):
+    """A host that was killed, in a folder of this name, with STOREs that are in its log. Returns it with its model."""
+    host, model = trial.host(name).start(), Model()
     format_tree(trial, host, model, DEPTH, RECORD_LEN)
     client = host.client()
     records = lambda: [trial.dice.randbytes(RECORD_LEN) for _ in range(DEPTH + 1)]
@@ -75,7 +75,7 @@ def try_flip(trial, host, model, what, in_log, at, bit):
 
 def try_rot(trial, of_each=30):
     """Whichever bit of the log or of the header has changed: nothing wrong is answered, and no STORE is gone unnoticed."""
-    host, model = killed_host(trial)
+    host, model = killed_host(trial, "rot")
     refused, tried = {}, 0
     kinds = [("the file's front", False, list(range(32))), ("the header", False, list(range(4096, 4112)))]
     kinds += [(what, True, places) for what, places in places_of_log(host).items()]

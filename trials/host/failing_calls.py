@@ -1,0 +1,114 @@
+"""A host, one of whose calls on its files fails once: while it opens them, stores, or reads."""
+
+import collections
+import copy
+import re
+import shutil
+import signal
+import tempfile
+from pathlib import Path
+
+from trials import strace
+from trials.bucket_file import log_of
+from trials.bucket_host import Host
+from trials.host.kills import kill_children, random_store
+from trials.host.rot import DEPTH, RECORD_LEN, killed_host
+
+CALLS = ("pwrite64", "pread64", "fsync", "fdatasync")
+ERRORS = ("EIO", "ENOSPC")
+
+
+class Asked:
+    """A host that is asked under strace, and a model of what it has."""
+
+    def __init__(self, trial, source, model, under):
+        self.trial, self.model = trial, copy.deepcopy(model)
+        self.host = Host(trial.oramdisk, trial.folder / "failing")
+        for file in (source.path(), log_of(source.path())):
+            shutil.copyfile(file, self.host.folder / file.name)
+        self.host.start(under)
+        self.client = self.host.client()
+        self.unanswered, self.is_traced = 0, True
+
+    def ask_all(self, stores=6):
+        """Stores random paths. Returns whether each one was done, or had no answer and was done or not, as the host says then."""
+        for _ in range(stores):
+            body, then = random_store(self.trial.dice, DEPTH, RECORD_LEN), copy.deepcopy(self.model)
+            wanted, answer = then.answer(body), self.client.ask(body)
+            if answer == wanted:
+                self.model = then
+            elif answer is not None or not self.is_found(then):
+                return False
+        return True
+
+    def is_found(self, then):
+        """After a STORE without an answer: whether the host has what it had, or that and the STORE, whole."""
+        self.unanswered += 1
+        found = self.answers_again()
+        if found[0] is None:
+            # A host that can't open its files ends; it listens a moment before that.
+            self.host.wait()
+            self.host.start()
+            self.is_traced = False
+            found = self.answers_again()
+        self.model = next((model for model in (self.model, then) if found == answers_of(model)), None)
+        return self.model is not None
+
+    def end(self):
+        """Kills the host, and waits until it has let go of its files."""
+        if self.is_traced:
+            # strace ends once the host has ended.
+            kill_children(self.host.process)
+            self.host.wait()
+        else:
+            self.host.stop(signal.SIGKILL)
+
+    def answers_again(self):
+        """The answers to all FETCHes over a new connection."""
+        self.client.close()
+        self.client = self.host.client()
+        return [self.client.ask(body) for body in self.model.all_fetches()]
+
+    def is_kept(self):
+        """Whether a new process has the same."""
+        self.end()
+        self.host.start()
+        found = self.answers_again()
+        self.client.close()
+        self.host.stop()
+        return found == answers_of(self.model)
+
+
+def answers_of(model):
+    """The answers to all FETCHes."""
+    return [model.answer(body) for body in model.all_fetches()]
+
+
+def calls_of_life(trial, source, model):
+    """How often a host makes each call while it opens its files and answers the STOREs, and how often before its first answer."""
+    with tempfile.NamedTemporaryFile() as found:
+        asked = Asked(trial, source, model, strace.noting(",".join([*CALLS, "sendto"]), found.name))
+        trial.check("a host without failures", asked.ask_all() and asked.is_kept() and not asked.unanswered)
+        names = re.findall(r"^\d+ +(\w+)\(", Path(found.name).read_text(), re.MULTILINE)
+    return collections.Counter(names), collections.Counter(names[: names.index("sendto")])
+
+
+def try_failing_calls(trial, of_each=6):
+    """Whichever call fails: no STORE is answered that isn't there, and none is there in part. The host goes on, or ends and can be
+    started again."""
+    if not strace.is_usable():
+        trial.skip()
+        return
+    source, model = killed_host(trial, "before-failing")
+    in_all, at_first = calls_of_life(trial, source, model)
+    unanswered, tried = 0, 0
+    for call in CALLS:
+        # Half of them while it opens its files or before its first answer, and half of them after that, where there are any.
+        first, rest = range(1, at_first[call] + 1), range(at_first[call] + 1, in_all[call] + 1)
+        whens = [trial.dice.choice(part) for part in (first, rest) if part for _ in range(of_each)]
+        for error, when in ((error, when) for error in ERRORS for when in whens):
+            asked = Asked(trial, source, model, strace.failing(call, error, when))
+            trial.check(f"{call} {when} fails with {error}", asked.ask_all() and asked.is_kept(), asked.host.lines()[-2:])
+            unanswered, tried = unanswered + asked.unanswered, tried + 1
+    trial.check("STOREs without an answer", unanswered > tried // 2, (unanswered, tried))
+    print(f"{tried} calls failed, and {unanswered} STOREs had no answer", flush=True)
