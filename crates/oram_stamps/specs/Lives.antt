@@ -66,8 +66,9 @@ abbrev pub OlderStatesAreRefused : Type 0
 OlderStatesAreRefused = (k : Stamps) (host : Shown) → ((i : ℕ) → k.begun ≤ i → ¬ StandsAt k.may i host.begun)
     → (¬ IsAllowed k host) × (begun_number k ≤ host.begun.number → IsMismatch k host OlderState)
 
--- An example. A process is kept and sends its messages, of which only the first arrives; it ends. The next process starts from what was
--- kept, and the host shows it that the messages have begun to arrive. It is kept, and then its messages are carried out.
+-- An example. A process is kept and sends its messages. The first one arrives. Then the process ends, and the other messages are lost. The
+-- next process starts from what was kept, and the host shows it the stamp that the first message brought. This process is kept too, and
+-- the host carries out its messages.
 abbrev pub example_events : List Event
 example_events = Keeps 7 ∷ Sends ∷ Arrives ∷ Restarts ∷ Breaks ∷ Shows ∷ Keeps 8 ∷ Sends ∷ Arrives ∷ Arrives ∷ Answers ∷ []
 
