@@ -25,6 +25,10 @@ GivesCutFrame old new = (part : List ℕ) × (0 < length part) × IsUnfinished p
 abbrev pub GivesBrokenHead : Option (List ℕ) → Option (List ℕ) → Type 0
 GivesBrokenHead old new = (head : List ℕ) × (length head ≡ 4) × IsBroken head × Consumes old new head
 
+-- the reader gave a length greater than this one
+abbrev pub GivesLongHead : ℕ → Option (List ℕ) → Option (List ℕ) → Type 0
+GivesLongHead longest old new = (head : List ℕ) × (length head ≡ 4) × (longest < length_at head) × Consumes old new head
+
 -- the reader gave the length of a frame
 abbrev pub GivesHead : Option (List ℕ) → Option (List ℕ) → Type 0
 GivesHead old new = (head : List ℕ) × (length head ≡ 4) × (length_at head ≤ LONGEST_BODY)

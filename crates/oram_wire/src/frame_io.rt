@@ -4,7 +4,7 @@ ghost use Rattle.std.specs.Prelude.{◌≡◌, ◌≢◌, ◌⊎◌, ◌<◌, �
 ghost use Rattle.std.specs.Int.{w32, to_be_bytes};
 ghost use Rattle.std.specs.Io.KnownBytes.{Appends, Consumes, IsAtEnd};
 ghost use Rattle.oram_wire.specs.FrameStream.{IsBody, frame};
-ghost use Rattle.oram_wire.specs.FrameIo.{GivesBrokenHead, GivesCutFrame, GivesEnd, GivesFrame, GivesHead, GivesPart, TakesPart};
+ghost use Rattle.oram_wire.specs.FrameIo.{GivesBrokenHead, GivesCutFrame, GivesEnd, GivesFrame, GivesHead, GivesLongHead, GivesPart, TakesPart};
 ghost use Rattle.oram_wire.specs.declared.frame_io.FrameFault.TheVariants.{OutOfMemory};
 
 use crate::LONGEST_BODY;
@@ -123,6 +123,40 @@ pub fn read_body<R: Read>(alloc: Global, reader: &mut R, len: usize) -> Result<V
     Ok(body)
 }
 
+/// Reads one frame as [`next_frame`] does, but none whose body is longer than `longest`. It returns `Frame` for that one as soon as
+/// it has read the length, before it allocates memory for the body.
+pub fn next_frame_within<R: Read>(
+    alloc: Global,
+    reader: &mut R,
+    longest: usize,
+) -> Result<Option<Vec<u8>>, FrameFault>
+    requires { longest ≤ LONGEST_BODY }
+    ensures ok { IfOk result (λ next. MatchOption next
+        (GivesEnd (R.remaining reader.old) (R.remaining reader.new))
+        (λ body. (length body.items ≤ longest)
+        × GivesFrame (R.remaining reader.old) (R.remaining reader.new) body.items)) }
+
+    // The bytes that were read before each fault. If the reader fails, they are less than a whole frame.
+    ensures read { IsErrOf result FrameFault.Read
+        → GivesPart (R.remaining reader.old) (R.remaining reader.new) }
+    ensures frame { IsErrOf result FrameFault.Frame
+        → GivesLongHead longest (R.remaining reader.old) (R.remaining reader.new) }
+    ensures truncated { IsErrOf result FrameFault.Truncated
+        → GivesCutFrame (R.remaining reader.old) (R.remaining reader.new) }
+    ensures memory { IsErrOf result FrameFault.OutOfMemory
+        → GivesHead (R.remaining reader.old) (R.remaining reader.new) }
+{
+    let Some(len) = read_head(reader)? else {
+        return Ok(None);
+    };
+    let len = len as usize;
+    if len > longest {
+        return Err(FrameFault::Frame);
+    }
+    let body = read_body(alloc, reader, len)?;
+    Ok(Some(body))
+}
+
 /// Reads one frame, and no byte after it. Returns its body, or `None` if the input ends before a frame.
 ///
 /// It reads the length first, and then the body directly into the vector that it returns. It retries an interrupted
@@ -142,15 +176,7 @@ pub fn next_frame<R: Read>(alloc: Global, reader: &mut R) -> Result<Option<Vec<u
     ensures memory { IsErrOf result FrameFault.OutOfMemory
         → GivesHead (R.remaining reader.old) (R.remaining reader.new) }
 {
-    let Some(len) = read_head(reader)? else {
-        return Ok(None);
-    };
-    let len = len as usize;
-    if len > LONGEST_BODY {
-        return Err(FrameFault::Frame);
-    }
-    let body = read_body(alloc, reader, len)?;
-    Ok(Some(body))
+    next_frame_within(alloc, reader, LONGEST_BODY)
 }
 
 /// Writes all of `bytes`; if the writer fails, only a beginning of them. Doesn't flush the writer.

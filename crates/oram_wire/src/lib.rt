@@ -15,7 +15,9 @@ mod session_messages;
 mod sinks;
 
 pub use faults::WireFault;
-pub use frame_io::{FrameFault, WriteFault, fill, next_frame, put_frame, read_body, write};
+pub use frame_io::{
+    FrameFault, WriteFault, fill, next_frame, next_frame_within, put_frame, read_body, write,
+};
 pub use frames::{Fed, Frames};
 pub use host_messages::{
     GOOD, HEADER_LEN, HostAnswer, HostRequest, HostView, REFUSED, fetch_header, is_done,

@@ -2,7 +2,7 @@ use Rattle.std.proofs.Common.{◌≡◌, Err, ap, arith}
 use Rattle.std.proofs.lemmas.Result.{err_from_is_err_and}
 use Rattle.oram_wire.specs.declared.frame_io.FrameFault.TheVariants.{Read, Truncated}
 use Rattle.oram_wire.proofs.Transfers.{cut_body, err_is, part_of_body}
-use Rattle.oram_wire.proofs.frame_io.next_frame.Goals as goal
+use Rattle.oram_wire.proofs.frame_io.next_frame_within.Goals as goal
 
 pub returns-in_err-body-clause-read : goal.returns-in_err-body-clause-read
 returns-in_err-body-clause-read g c = λ e.
