@@ -5,6 +5,7 @@ functions can be tried in one check: an edit is refused if a goal of its own fun
 check for each edit would read the same libraries each time.
 """
 
+import time
 from tempfile import TemporaryDirectory
 
 from trials.edits.edit import read_edit
@@ -13,16 +14,17 @@ from trials.programs import crates_of
 
 
 class Batches:
-    """The edits of one crate, tried over the libraries in the folder `tree`, and what was refused."""
+    """The edits of one crate, tried over the libraries in the folder `tree`, and what was refused. No check begins once the clock
+    (`time.monotonic`, which all processes share) has passed `until`; the edits that this leaves out are counted."""
 
-    def __init__(self, folder, tree):
-        self.name, self.folder, self.tree, self.prover = folder.name, folder, tree, None
+    def __init__(self, folder, tree, until):
+        self.name, self.folder, self.tree, self.prover, self.until = folder.name, folder, tree, None, until
         # The crates of the repository that this one is made of.
         self.libraries = crates_of(self.name) - {self.name}
         self.texts = {str(file.relative_to(folder)): file.read_text() for file in (folder / "src").rglob("*.rt")}
         self.files = sorted((folder / "must-fail").glob("*.edit"))
         self.lines = []
-        self.refused = self.failed = self.checks = 0
+        self.refused = self.failed = self.checks = self.left_out = 0
 
     def size(self):
         return sum(map(len, self.texts.values()))
@@ -39,7 +41,7 @@ class Batches:
             self.lines.append(f"{self.name}: all were refused before, and nothing that they stand on has changed")
         else:
             self.try_batches(self.read_edits())
-            if not self.failed:
+            if not self.failed and not self.left_out:
                 kept.parent.mkdir(exist_ok=True)
                 kept.write_text(mark)
         self.prover = None
@@ -59,6 +61,9 @@ class Batches:
         that aren't edited is kept for the checks after it."""
         with TemporaryDirectory(prefix="edits-") as proved:
             while left:
+                if time.monotonic() > self.until:
+                    self.leave_out(len(left))
+                    break
                 batch = {edit.function: edit for edit in reversed(left)}.values()
                 left = [edit for edit in left if edit not in batch]
                 for edit in self.try_together(batch, proved):
@@ -79,6 +84,10 @@ class Batches:
         if passed and len(edits) == 1:
             self.lines += said.splitlines()[-12:]
         return passed
+
+    def leave_out(self, count):
+        self.left_out += count
+        self.lines.append(f"{self.name}: {count} edits are left out, since the time for edits is over")
 
     def fail(self, edit, why):
         self.failed += 1
