@@ -12,5 +12,8 @@
 mod laws;
 mod tree_scan;
 
-pub use laws::{honest_scans_are_sound, scan_example, sound_records_are_the_trees};
+pub use laws::{
+    found_blocks_are_the_contents, honest_scans_are_sound, scan_example,
+    sound_records_are_the_trees, whole_trees_give_the_content,
+};
 pub use tree_scan::{Finding, TreeScan};
