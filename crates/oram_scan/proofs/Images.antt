@@ -1,15 +1,15 @@
 -- Images of what a tree holds.
-use Rattle.std.proofs.Common.{◌≡◌, ◌≢◌, ◌⊎◌, inl, inr, ℕ, ◌<◌, List, Option, Some, None, IsSome, ap, sym, ◌∙◌, subst, refl, true, Contains}
+use Rattle.std.proofs.Common.{◌≡◌, inl, inr, ℕ, ◌<◌, List, Option, Some, None, IsSome, ap, sym, ◌∙◌, subst, refl, true, Contains}
 use Rattle.oram_geometry.specs.declared.Sizes.{Sizes}
-use Rattle.oram_geometry.specs.Sizes.{IsDevice, depth_of}
+use Rattle.oram_geometry.specs.Sizes.{depth_of}
 use Rattle.oram_hash.specs.Record.{sealed_part}
 use Rattle.oram_bucket.specs.Cell.{Cell}
 use Rattle.oram_bucket.specs.SealedBlocks.{Reads}
 use Rattle.oram_bucket.proofs.UniqueEncoding.{reads_once}
 use Rattle.oram_tree.specs.Access.{content_or_zeros}
-use Rattle.oram_tree.specs.Content.{Entry, HasContent, Map, entry_of, node_count}
+use Rattle.oram_tree.specs.Content.{Entry, Map, entry_of, node_count}
 use Rattle.oram_tree.specs.State.{IsStoredWith, State}
-use Rattle.oram_scan.specs.Blocks.{AreRead, FoundBlocksAreTheContents, IsFound, IsImageOf, WholeTreesGiveTheContent}
+use Rattle.oram_scan.specs.Blocks.{AreRead, FoundBlocksAreTheContents, IsFound, WholeTreesGiveTheContent}
 
 -- the tree holds each block that was found
 held_as_found : (opening : List ℕ → Option (List ℕ)) (overhead : ℕ) (d : Sizes) (t : State) (records : ℕ → List ℕ) (content : Map)
