@@ -1,2 +1,2 @@
 pub mod Numbers
-mod Rows
+pub mod WorkedRows
