@@ -1,0 +1,4 @@
+pub mod Scans
+pub mod Findings
+pub mod Example
+pub mod Images

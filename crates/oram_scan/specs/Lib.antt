@@ -1,0 +1,3 @@
+pub mod Scan
+pub mod Laws
+pub mod Blocks
