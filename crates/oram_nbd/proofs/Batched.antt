@@ -1,15 +1,15 @@
 -- The steps of a connection's loop: a batch, the request for which there was no memory, and the flush.
-use Rattle.std.proofs.Common.{◌≡◌, inl, inr, Bool, ℕ, ◌+◌, List, [], ◌++◌, length, map, Option, refl, sym, ap, ◌∙◌, subst}
+use Rattle.std.proofs.Common.{◌≡◌, inl, inr, Bool, false, ℕ, ◌+◌, List, [], ◌++◌, length, map, Option, refl, sym, ap, ◌∙◌, subst}
 use Rattle.std.proofs.lemmas.List.{length-map}
 use Rattle.std.specs.Io.KnownBytes.{Appends, Keeps}
 use Rattle.std.proofs.KnownBytes.{Appends-kept}
-use Rattle.oram_nbd.specs.Batches.{refusals_text, BreaksBatch, EndsBatch, HasRepliedToAll, HasBegun, HasGathered, IsWithoutMemory}
+use Rattle.oram_nbd.specs.Batches.{IsUncalled, refusals_text, BreaksBatch, EndsBatch, HasRepliedToAll, HasBegun, HasGathered, IsWithoutMemory}
 use Rattle.oram_nbd.specs.DeviceKind.{DeviceKind}
 use Rattle.oram_nbd.specs.Service.{whole_requests_text, replies_text, WholeRequest}
 use Rattle.oram_nbd.specs.Streams.{streams, IsBegunText, Streams}
 use Rattle.oram_nbd.specs.Transmission.{HasTransmitted, IsBehind, IsCutOff, IsLast, StopsServing}
 use Rattle.oram_nbd.specs.declared.batches.Close.{Close}
-use Rattle.oram_nbd.specs.declared.faults.NbdError.TheVariants.{NoMemory}
+use Rattle.oram_nbd.specs.declared.faults.NbdError.{NbdError}
 use Rattle.oram_nbd.specs.declared.faults.NbdFault.{NbdFault}
 use Rattle.oram_nbd.specs.declared.faults.NbdFault.TheVariants as fault
 use Rattle.oram_nbd.specs.declared.operations.Operation.{Operation}
@@ -49,26 +49,27 @@ module _ {D W E : Type 0} (kind : DeviceKind D W E) (old : D) (from : Streams) w
 
   module _ (count : ℕ) (mid : D) (now : Streams) (part : List ℕ) (s : Served kind old from count mid now part) where
     -- the request for which there was no memory, if there is one, is refused
-    module _ (size : ℕ) (same : size ≡ kind.size old) (sized : (may_lie : Bool) (world : W) (bytes : List ℕ) → kind.holds may_lie mid world bytes → length bytes ≡ kind.size old) (close : Close) (arrived : List WholeRequest) (rest : List ℕ)
+    module _ (size : ℕ) (same : size ≡ kind.size old) (sized : (may_lie : Bool) (world : W) (bytes : List ℕ) → kind.holds may_lie mid world bytes → length bytes ≡ kind.size old)
+        (honest : (world : W) (bytes : List ℕ) → kind.holds false mid world bytes → kind.failed mid → ⊥) (e : NbdError) (uncalled : IsUncalled (kind.failed mid) e) (close : Close) (arrived : List WholeRequest) (rest : List ℕ)
         (k : IsWithoutMemory close part now.unread arrived rest) where
-      refusal : HasRepliedToAll kind (kind.size old) mid mid arrived (refused_requests (kind.size old) arrived NoMemory)
-      refusal = refused_at_rest (kind.size old) mid arrived sized k.all
+      refusal : HasRepliedToAll kind (kind.size old) mid mid arrived (refused_requests (kind.size old) arrived e)
+      refusal = refused_at_rest (kind.size old) mid arrived e sized honest uncalled k.all
 
-      its_text : refusals_text size (map (λ (a : WholeRequest). a.request) arrived) NoMemory ≡ replies_text (refused_requests (kind.size old) arrived NoMemory)
-      its_text = ap (λ (n : ℕ). refusals_text n (map (λ (a : WholeRequest). a.request) arrived) NoMemory) same
-          ∙ text_refused (kind.size old) arrived NoMemory (map (λ (a : WholeRequest). a.request) arrived) (map (λ (a : WholeRequest). a.request) arrived) refl refl
+      its_text : refusals_text size (map (λ (a : WholeRequest). a.request) arrived) e ≡ replies_text (refused_requests (kind.size old) arrived e)
+      its_text = ap (λ (n : ℕ). refusals_text n (map (λ (a : WholeRequest). a.request) arrived) e) same
+          ∙ text_refused (kind.size old) arrived e (map (λ (a : WholeRequest). a.request) arrived) (map (λ (a : WholeRequest). a.request) arrived) refl refl
 
-      pub without_memory_served : (number : ℕ) (written : Option (List ℕ)) → length arrived ≡ number → Appends now.written written (refusals_text size (map (λ (a : WholeRequest). a.request) arrived) NoMemory)
+      pub without_memory_served : (number : ℕ) (written : Option (List ℕ)) → length arrived ≡ number → Appends now.written written (refusals_text size (map (λ (a : WholeRequest). a.request) arrived) e)
           → Served kind old from (count + number) mid (streams now.unread written) rest
       without_memory_served number written many wrote =
-          subst (λ (n : ℕ). Served kind old from (count + n) mid (streams now.unread written) rest) (length_same arrived (refused_requests (kind.size old) arrived NoMemory) refusal.same ∙ many)
-          (batch_answered kind old from count mid now part s mid written arrived (refused_requests (kind.size old) arrived NoMemory) rest k.split (λ f. f) refusal (subst (Appends now.written written) its_text wrote))
+          subst (λ (n : ℕ). Served kind old from (count + n) mid (streams now.unread written) rest) (length_same arrived (refused_requests (kind.size old) arrived e) refusal.same ∙ many)
+          (batch_answered kind old from count mid now part s mid written arrived (refused_requests (kind.size old) arrived e) rest k.split (λ f. f) refusal (subst (Appends now.written written) its_text wrote))
 
-      pub without_memory_broken : (written : Option (List ℕ)) → IsBegunText now.written written (refusals_text size (map (λ (a : WholeRequest). a.request) arrived) NoMemory)
+      pub without_memory_broken : (written : Option (List ℕ)) → IsBegunText now.written written (refusals_text size (map (λ (a : WholeRequest). a.request) arrived) e)
           → StopsServing kind old mid fault.Write from (streams now.unread written)
       without_memory_broken written begun =
-          let b : IsBegunText now.written written (replies_text (refused_requests (kind.size old) arrived NoMemory)) = subst (IsBegunText now.written written) its_text begun in
-          stopped_at_replies kind old from count mid now part s mid written arrived (refused_requests (kind.size old) arrived NoMemory) rest b.0 k.split (behind_left close rest now.unread k.left) refusal b.1
+          let b : IsBegunText now.written written (replies_text (refused_requests (kind.size old) arrived e)) = subst (IsBegunText now.written written) its_text begun in
+          stopped_at_replies kind old from count mid now part s mid written arrived (refused_requests (kind.size old) arrived e) rest b.0 k.split (behind_left close rest now.unread k.left) refusal b.1
 
     pub recounted : (n : ℕ) → count ≡ n → Served kind old from n mid now part
     recounted n same = subst (λ (k : ℕ). Served kind old from k mid now part) same s

@@ -1,5 +1,5 @@
 -- Requests that were carried out together, and their replies.
-use Rattle.std.proofs.Common.{◌≡◌, ◌⊎◌, inl, inr, Bool, true, ℕ, suc, ◌+◌, ◌-◌, ◌*◌, ◌%◌, ◌<◌, ◌≤◌, append_assoc, drop, drop-cons, get_or, length-drop, List, [], ◌∷◌, ◌++◌, All, length, map, Option, None, Some, refl, sym, ap, ◌∙◌, subst, arith, length-append, take, length-take-le}
+use Rattle.std.proofs.Common.{◌≡◌, ◌⊎◌, inl, inr, Bool, true, false, ℕ, suc, ◌+◌, ◌-◌, ◌*◌, ◌%◌, ◌<◌, ◌≤◌, append_assoc, drop, drop-cons, get_or, length-drop, List, [], ◌∷◌, ◌++◌, All, length, map, Option, None, Some, refl, sym, ap, ◌∙◌, subst, arith, length-append, take, length-take-le}
 use Rattle.std.proofs.lemmas.List.{append-nil, drop_all, length-map, map-append, take-append-drop, take-append-le, take_all, take_at}
 use Rattle.std.proofs.lemmas.Bool.{cases_lt}
 use Rattle.std.proofs.Math.Seq.{take-append-add}
@@ -8,7 +8,7 @@ use Rattle.std.specs.Io.KnownBytes.{Appends, Consumes}
 use Rattle.std.proofs.KnownBytes.{Appends-trans, Consumes-nil, Consumes-trans}
 use Rattle.std.proofs.lemmas.List.Elements.{All-append, All-cons, All-head, All-nil, All-tail}
 use Rattle.oram_nbd.specs.Accesses.{AsksFor, Range, calls_of, range_of, request_calls}
-use Rattle.oram_nbd.specs.Batches.{answers_text, refusals_text, reply_if, reply_of, AreCollected, AreServedBy, EndsBy, HasRepliedToAll, HasBegun, HasGathered, IsWithoutMemory, LeftBy, DoesRequest, DoesIfAccepted}
+use Rattle.oram_nbd.specs.Batches.{IsUncalled, answers_text, refusals_text, reply_if, reply_of, AreCollected, AreServedBy, EndsBy, HasRepliedToAll, HasBegun, HasGathered, IsWithoutMemory, LeftBy, DoesRequest, DoesIfAccepted}
 use Rattle.oram_nbd.specs.Beside.{GoesOn, Arrays, HasArrays}
 use Rattle.oram_nbd.specs.Bytes.{bytes_at}
 use Rattle.oram_nbd.specs.Calls.{SavesAll, SavesPart}
@@ -24,7 +24,7 @@ use Rattle.oram_nbd.specs.declared.requests.Command.TheVariants as command
 use Rattle.oram_nbd.specs.Messages.{payload_len, reply_text, request_text, IsRequest, SimpleReply}
 use Rattle.oram_nbd.specs.Messages.SimpleReply.{Done, Refused}
 use Rattle.oram_nbd.specs.Operations.{all_done, all_given, done_by, given_by, read_len, AreBegun, IsPartOf, IsPlaced, IsWithin, TouchSomeByte}
-use Rattle.oram_nbd.specs.Service.{after, array_after_requests, whole_request_of, given, given_len, refusal_of, touched_len, whole_requests_text, replies_text, AreRequestsBegun, RequestsTouchSomeByte, WholeRequest, FailsForGood, IsAnswer, IsWholeRequest, IsLeftIf, IsPartly, IsRefusal, IsReplied, IsReply, IsService, IsAnsweredBy, NeverFails, SaysFailed, SaysFault, AnsweredRequest}
+use Rattle.oram_nbd.specs.Service.{after, array_after_requests, whole_request_of, given, given_len, refusal_of, touched_len, whole_requests_text, replies_text, AreRequestsBegun, RequestsTouchSomeByte, WholeRequest, FailsForGood, IsAnswer, IsWholeRequest, IsLeftIf, IsPartly, IsRefusal, IsReplied, IsReply, IsService, IsAnsweredBy, NeverFails, SaysFailed, SaysFault, TellsFailure, EndsWith, AnsweredRequest}
 use Rattle.oram_nbd.specs.declared.faults.NbdError.{NbdError}
 use Rattle.oram_nbd.specs.declared.faults.NbdError.TheVariants.{Io, NoMemory, Shutdown}
 use Rattle.oram_nbd.specs.declared.operations.Operation.{Operation}
@@ -159,6 +159,25 @@ answered_refuse size failed (a ∷ arrived) (bytes ∷ given) alive = (
   ]),
 )
 
+-- The device hadn't failed, and all requests that aren't refused for their own sake were carried out.
+pub answered_tell : (size : ℕ) (failed failed' : Type 0) (arrived : List WholeRequest) (given : List (List ℕ)) → (failed → ⊥) → All (TellsFailure size failed failed') (answered_requests size arrived given)
+answered_tell size failed failed' [] given alive = All-nil (TellsFailure size failed failed')
+answered_tell size failed failed' (a ∷ arrived) [] alive = All-nil (TellsFailure size failed failed')
+answered_tell size failed failed' (a ∷ arrived) (bytes ∷ given) alive =
+    All-cons (TellsFailure size failed failed') (answered_with a (reply_of size a.request bytes)) (answered_requests size arrived given)
+    (record { told = λ f none. absurd (alive f); sound = λ says. absurd (never_io size a.request (refusal_of size a.request) bytes refl says) })
+    (answered_tell size failed failed' arrived given alive)
+
+done_ends : (o : Option NbdError) (bytes : List ℕ) → o ≡ None → IsRefusal (reply_if o (Done bytes)) → ⊥
+done_ends (Some e) bytes none refuses = cc
+done_ends None bytes none refuses = refuses
+
+pub answered_end : (size : ℕ) (arrived : List WholeRequest) (given : List (List ℕ)) → All (EndsWith size None) (answered_requests size arrived given)
+answered_end size [] given = All-nil (EndsWith size None)
+answered_end size (a ∷ arrived) [] = All-nil (EndsWith size None)
+answered_end size (a ∷ arrived) (bytes ∷ given) =
+    All-cons (EndsWith size None) (answered_with a (reply_of size a.request bytes)) (answered_requests size arrived given) (done_ends (refusal_of size a.request) bytes) (answered_end size arrived given)
+
 pub answered_service : (size : ℕ) (arrived : List WholeRequest) (ops : List Operation) (bytes : List ℕ) → All IsWholeRequest arrived → AreServedBy size arrived ops → length bytes ≡ size
     → IsService bytes (answered_requests size arrived (all_given ops bytes)) (all_done ops bytes)
 answered_service size [] [] bytes are served long = refl
@@ -228,6 +247,22 @@ refused_tell size (a ∷ arrived) e (inr rest) = refused_tell size arrived e res
 pub refused_never_fail : (size : ℕ) (arrived : List WholeRequest) (e : NbdError) → (e ≡ Io → ⊥) → NeverFails (refused_requests size arrived e)
 refused_never_fail size [] e other = tt
 refused_never_fail size (a ∷ arrived) e other = (λ says. other (io_by size a.request (refusal_of size a.request) e refl says), refused_never_fail size arrived e other)
+
+-- If the device had failed, the error is `EIO`; and it is `EIO` only if the device has failed.
+pub refused_tells : (size : ℕ) (failed failed' : Type 0) (arrived : List WholeRequest) (e : NbdError) → (failed → e ≡ Io) → (e ≡ Io → failed') → All (TellsFailure size failed failed') (refused_requests size arrived e)
+refused_tells size failed failed' [] e told sound = All-nil (TellsFailure size failed failed')
+refused_tells size failed failed' (a ∷ arrived) e told sound =
+    All-cons (TellsFailure size failed failed') (answered_with a (reply_if (refusal_of size a.request) (Refused e))) (refused_requests size arrived e)
+    (record {
+      told = λ f none. ap (λ (o : Option NbdError). reply_if o (Refused e)) none ∙ ap (λ (why : NbdError). Refused why) (told f);
+      sound = λ says. sound (io_by size a.request (refusal_of size a.request) e refl says);
+    })
+    (refused_tells size failed failed' arrived e told sound)
+
+pub refused_end : (size : ℕ) (arrived : List WholeRequest) (e : NbdError) → All (EndsWith size (Some e)) (refused_requests size arrived e)
+refused_end size [] e = All-nil (EndsWith size (Some e))
+refused_end size (a ∷ arrived) e =
+    All-cons (EndsWith size (Some e)) (answered_with a (reply_if (refusal_of size a.request) (Refused e))) (refused_requests size arrived e) (λ none. ap (λ (o : Option NbdError). reply_if o (Refused e)) none) (refused_end size arrived e)
 
 -- nothing was done
 pub refused_idle : (size : ℕ) (arrived : List WholeRequest) (e : NbdError) (bytes : List ℕ) → (e ≡ Io) ⊎ ((e ≡ NoMemory) ⊎ (e ≡ Shutdown)) → All IsWholeRequest arrived → length bytes ≡ size
@@ -377,16 +412,18 @@ module _ {D W E : Type 0} {kind : DeviceKind D W E} (size : ℕ) (old new : D) (
                     inl (subst (λ (l : List WholeRequest). (later.held ≡ array_after_requests l before.held) × SavesAll (RequestsTouchSomeByte size l) before later) (sym same)
                         (step.1 ∙ all_done_as_requested size arrived ops before.held collected.served long, all_weaker step.2 (some_touches size arrived ops collected.served))),
                   )));
+              tells = answered_tell size (kind.failed old) (kind.failed new) arrived given alive;
+              alike = (None, answered_end size arrived given);
             });
         reported = λ says. absurd (answered_tell_none size arrived given says);
       }
 
   -- the operations were begun, and all requests are refused
-  pub all_refused : (requests : List Request) (ops : List Operation) (e : NbdError) → AreCollected size arrived requests ops → (e ≡ Io) ⊎ ((e ≡ NoMemory) ⊎ (e ≡ Shutdown)) → (e ≡ Io → kind.failed new)
+  pub all_refused : (requests : List Request) (ops : List Operation) (e : NbdError) → AreCollected size arrived requests ops → (e ≡ Io) ⊎ ((e ≡ NoMemory) ⊎ (e ≡ Shutdown)) → (kind.failed old → e ≡ Io) → (e ≡ Io → kind.failed new)
       → (before after : List Request) (r : Request) → requests ≡ before ++ r ∷ after → refusal_of size r ≡ None
       → GoesOn kind.had kind.hears (HasArrays kind.holds kind.kept) old (λ may_lie before later. Begun ops before later × (e ≡ Io → may_lie ≡ true)) new
       → HasRepliedToAll kind size old new arrived (refused_requests size arrived e)
-  all_refused requests ops e collected why fails before after r split none goes = record {
+  all_refused requests ops e collected why told fails before after r split none goes = record {
     same = refused_same size arrived e;
     served = one_batch (refused_fit size arrived e why collected.all) (refused_refuse size (kind.failed old) arrived e)
         (record {
@@ -404,14 +441,17 @@ module _ {D W E : Type 0} {kind : DeviceKind D W E} (size : ℕ) (old new : D) (
                   ),
                 ),
               )));
+          tells = refused_tells size (kind.failed old) (kind.failed new) arrived e told fails;
+          alike = (Some e, refused_end size arrived e);
         });
     reported = λ says. fails (refused_tell size arrived e says);
   }
 
   -- the device stopped
-  pub all_begun : (requests : List Request) (ops : List Operation) → AreCollected size arrived requests ops → (before after : List Request) (r : Request) → requests ≡ before ++ r ∷ after → refusal_of size r ≡ None
+  pub all_begun : (requests : List Request) (ops : List Operation) → AreCollected size arrived requests ops → (kind.failed old → ⊥) → (before after : List Request) (r : Request) → requests ≡ before ++ r ∷ after → refusal_of size r ≡ None
       → GoesOn kind.had kind.hears (HasArrays kind.holds kind.kept) old (λ may_lie before later. Begun ops before later) new → HasBegun kind size old new arrived
-  all_begun requests ops collected before after r split none goes = record {
+  all_begun requests ops collected alive before after r split none goes = record {
+    alive = alive;
     accepted = accepted_in size arrived before after r (collected.same ∙ split) none;
     begun = weaker goes (λ may_lie world from to h step.
         let long = sized may_lie world from.held h.0 in (
@@ -420,22 +460,27 @@ module _ {D W E : Type 0} {kind : DeviceKind D W E} (size : ℕ) (old new : D) (
         ));
   }
 
--- a device that isn't called, where all requests are refused for lack of memory
-pub refused_at_rest : {D W E : Type 0} {kind : DeviceKind D W E} (size : ℕ) (d : D) (arrived : List WholeRequest)
-    → ((may_lie : Bool) (world : W) (bytes : List ℕ) → kind.holds may_lie d world bytes → length bytes ≡ size) → All IsWholeRequest arrived
-    → HasRepliedToAll kind size d d arrived (refused_requests size arrived NoMemory)
-refused_at_rest {kind = kind} size d arrived sized are = record {
-  same = refused_same size arrived NoMemory;
-  served = one_batch (refused_fit size arrived NoMemory (inr (inl refl)) are) (refused_refuse size (kind.failed d) arrived NoMemory)
+why_uncalled : {failed : Type 0} {e : NbdError} → IsUncalled failed e → (e ≡ Io) ⊎ ((e ≡ NoMemory) ⊎ (e ≡ Shutdown))
+why_uncalled u = elim u.either [ inl io ↦ inl io | inr memory ↦ inr (inl memory) ]
+
+-- A device that isn't called, where all requests are refused: if it has failed, because of that, and else for lack of memory.
+pub refused_at_rest : {D W E : Type 0} {kind : DeviceKind D W E} (size : ℕ) (d : D) (arrived : List WholeRequest) (e : NbdError)
+    → ((may_lie : Bool) (world : W) (bytes : List ℕ) → kind.holds may_lie d world bytes → length bytes ≡ size) → ((world : W) (bytes : List ℕ) → kind.holds false d world bytes → kind.failed d → ⊥)
+    → IsUncalled (kind.failed d) e → All IsWholeRequest arrived → HasRepliedToAll kind size d d arrived (refused_requests size arrived e)
+refused_at_rest {kind = kind} size d arrived e sized honest uncalled are = record {
+  same = refused_same size arrived e;
+  served = one_batch (refused_fit size arrived e (why_uncalled uncalled) are) (refused_refuse size (kind.failed d) arrived e)
       (record {
-        asks = inr (all_refusals size arrived NoMemory);
+        asks = inr (all_refusals size arrived e);
         leads = (at_rest (λ may_lie world before h. (
-          refused_idle size arrived NoMemory before.held (inr (inl refl)) are (sized may_lie world before.held h.0),
-          λ honest. refused_never_fail size arrived NoMemory (λ io. cc),
-          inr (all_refusals size arrived NoMemory, inl (refl, refl)),
+          refused_idle size arrived e before.held (why_uncalled uncalled) are (sized may_lie world before.held h.0),
+          λ true_world. refused_never_fail size arrived e (λ io. honest world before.held (subst (λ (b : Bool). kind.holds b d world before.held) true_world h.0) (uncalled.sound io)),
+          inr (all_refusals size arrived e, inl (refl, refl)),
         )));
+        tells = refused_tells size (kind.failed d) (kind.failed d) arrived e uncalled.told uncalled.sound;
+        alike = (Some e, refused_end size arrived e);
       });
-  reported = λ says. absurd (let none : NoMemory ≡ Io = refused_tell size arrived NoMemory says in cc);
+  reported = λ says. uncalled.sound (refused_tell size arrived e says);
 }
 
 -- the same, with the size of the device written in another way

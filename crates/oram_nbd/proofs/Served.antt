@@ -195,6 +195,7 @@ module _ {D W E : Type 0} (kind : DeviceKind D W E) (old : D) where
         served = s.served;
         whole = are;
         accepted = h.accepted;
+        alive = h.alive;
         begun = h.begun;
       },
       behind,

@@ -15,6 +15,7 @@ use Rattle.oram_nbd.specs.Transmission.{HasServedRequests, IsCutOff, IsLast}
 use Rattle.oram_nbd.specs.declared.batches.Close.{Close}
 use Rattle.oram_nbd.specs.declared.batches.Close.TheVariants.{Waits, NoRoom, Leaves, Breaks}
 use Rattle.oram_nbd.specs.declared.faults.NbdError.{NbdError}
+use Rattle.oram_nbd.specs.declared.faults.NbdError.TheVariants.{Io, NoMemory}
 use Rattle.oram_nbd.specs.declared.faults.NbdFault.{NbdFault}
 use Rattle.oram_nbd.specs.declared.faults.NbdFault.TheVariants as fault
 use Rattle.oram_nbd.specs.declared.operations.Operation.{Operation}
@@ -104,6 +105,12 @@ answers_text size (r ∷ requests) (bytes ∷ given) = reply_text r.cookie (repl
 abbrev pub refusals_text : ℕ → List Request → NbdError → List ℕ
 refusals_text size requests e = flat_map (λ r. reply_text r.cookie (reply_if (refusal_of size r) (Refused e))) requests
 
+-- The error of requests for which the device isn't called: if it has failed, they are told so, and else that memory ran out.
+pub record IsUncalled (failed : Type 0) (e : NbdError) : Type 0 where
+  pub told : failed → e ≡ Io
+  pub sound : e ≡ Io → failed
+  pub either : (e ≡ Io) ⊎ (e ≡ NoMemory)
+
 -- The result of a batch, for a device of this kind and of `size` bytes, which goes from one state to another.
 module _ {D W E : Type 0} (kind : DeviceKind D W E) (size : ℕ) (old new : D) (arrived : List WholeRequest) where
   -- Each request of the batch got its reply. If a reply says that the device has failed, it has.
@@ -112,9 +119,10 @@ module _ {D W E : Type 0} (kind : DeviceKind D W E) (size : ℕ) (old new : D) (
     pub served : HasServedRequests kind size old new answered
     pub reported : SaysFailed answered → kind.failed new
 
-  -- The device stopped at a batch in which at least one request isn't refused.
+  -- The device hadn't failed, and stopped at a batch in which at least one request isn't refused.
   pub record HasBegun : Type 0 where
     pub accepted : (before after : List WholeRequest) × (a : WholeRequest) × (arrived ≡ before ++ a ∷ after) × (refusal_of size a.request ≡ None)
+    pub alive : kind.failed old → ⊥
     pub begun : GoesOn kind.had kind.hears (HasArrays kind.holds kind.kept) old
         (λ may_lie before later. AreRequestsBegun arrived before.held later.held × SavesPart (AreRequestsBegun arrived) before later) new
 

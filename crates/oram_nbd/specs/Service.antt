@@ -193,6 +193,17 @@ abbrev pub SaysFailed : List AnsweredRequest → Type 0
 SaysFailed [] = ⊥
 SaysFailed (a ∷ answered) = (a.reply ≡ Refused Io) ⊎ SaysFailed answered
 
+-- A device that had failed says so: the reply to each request that isn't refused for its own sake is `EIO`. Only a device that
+-- has failed says so.
+pub record TellsFailure (size : ℕ) (had_failed has_failed : Type 0) (a : AnsweredRequest) : Type 0 where
+  pub told : had_failed → refusal_of size a.request ≡ None → a.reply ≡ Refused Io
+  pub sound : a.reply ≡ Refused Io → has_failed
+
+-- A request that isn't refused for its own sake was carried out, or else it was refused with this error.
+abbrev pub EndsWith : ℕ → Option NbdError → AnsweredRequest → Type 0
+EndsWith size None a = refusal_of size a.request ≡ None → IsRefusal a.reply → ⊥
+EndsWith size (Some e) a = refusal_of size a.request ≡ None → a.reply ≡ Refused e
+
 -- some reply says that the device has failed, that memory ran out, or that the request was given up
 abbrev pub SaysFault : List AnsweredRequest → Type 0
 SaysFault [] = ⊥

@@ -7,8 +7,9 @@ use Rattle.oram_nbd.specs.Beside.{GoesOn, Arrays, HasArrays}
 use Rattle.oram_nbd.specs.Calls.{SavesAll, SavesPart}
 use Rattle.oram_nbd.specs.DeviceKind.{DeviceKind}
 use Rattle.oram_nbd.specs.Messages.{payload_len, request_text, IsRequest}
-use Rattle.oram_nbd.specs.Service.{array_after_requests, whole_request_of, whole_requests_text, refusal_of, requests_text, replies_text, AnsweredRequest, AreRequestsBegun, FailsForGood, IsRefusal, IsReplied, IsService, IsWholeRequest, NeverFails, RequestsTouchSomeByte, SaysFault, WholeRequest}
+use Rattle.oram_nbd.specs.Service.{array_after_requests, whole_request_of, whole_requests_text, refusal_of, requests_text, replies_text, AnsweredRequest, AreRequestsBegun, EndsWith, FailsForGood, IsRefusal, IsReplied, IsService, IsWholeRequest, NeverFails, RequestsTouchSomeByte, SaysFault, TellsFailure, WholeRequest}
 use Rattle.oram_nbd.specs.Streams.{Streams}
+use Rattle.oram_nbd.specs.declared.faults.NbdError.{NbdError}
 use Rattle.oram_nbd.specs.declared.faults.NbdFault.{NbdFault}
 use Rattle.oram_nbd.specs.declared.faults.NbdFault.TheVariants.{Read, Truncated, Magic, Write, UnknownFlags, UnknownExport, TooManyOptions, OutOfMemory, Stopped}
 use Rattle.oram_nbd.specs.declared.requests.Command.TheVariants.{Disconnect}
@@ -63,11 +64,14 @@ module _ {D W E : Type 0} (kind : DeviceKind D W E) (size : ℕ) where
 
   -- A batch of requests was served. From each array that was held, they lead to one that is held. If the world doesn't lie,
   -- no reply says that the device failed. Which blocks the device was asked for, call by call, follows from where the ranges of
-  -- the requests lie; or all of them are refused.
+  -- the requests lie; or all of them are refused. The requests that aren't refused for their own sake were all carried out, or
+  -- all of them were refused with one error. Want of memory is no excuse for a device that had failed: it says that it has.
   pub record ServesBatch (old : D) (batch : List AnsweredRequest) (new : D) : Type 0 where
     pub leads : GoesOn kind.had kind.hears (HasArrays kind.holds kind.kept) old
         (λ may_lie before later. IsService before.held batch later.held × (may_lie ≡ false → NeverFails batch) × SavesBatch old batch new before later) new
     pub asks : AsksFor kind.asked old (request_calls (kind.block_len old) size (map (λ a. a.request) (map whole_request_of batch))) new ⊎ All (λ a. IsRefusal a.reply) batch
+    pub tells : All (TellsFailure size (kind.failed old) (kind.failed new)) batch
+    pub alike : (why : Option NbdError) × All (EndsWith size why) batch
 
   -- These requests were served, in batches, one after the other.
   pub record HasServedRequests (old new : D) (answered : List AnsweredRequest) : Type 0 where
@@ -78,13 +82,14 @@ module _ {D W E : Type 0} (kind : DeviceKind D W E) (size : ℕ) where
     pub served : FoldsTo {P = D} {A = List AnsweredRequest} ServesBatch old batches new
 
   -- These requests were served. Then the device stopped while it carried out a batch, in which at least one request isn't
-  -- refused. It was in the state `mid` before that batch. Some beginning of the batch is done, and the next process would hold
+  -- refused. It was in the state `mid` before that batch, and hadn't failed. Some beginning of the batch is done, and the next process would hold
   -- what it would have held before, or what some beginning of the batch leaves.
   pub record HasStopped (old new : D) (answered : List AnsweredRequest) (arrived : List WholeRequest) : Type 0 where
     pub mid : D
     pub served : HasServedRequests old mid answered
     pub whole : All IsWholeRequest arrived
     pub accepted : (before after : List WholeRequest) × (a : WholeRequest) × (arrived ≡ before ++ a ∷ after) × (refusal_of size a.request ≡ None)
+    pub alive : kind.failed mid → ⊥
     pub begun : GoesOn kind.had kind.hears (HasArrays kind.holds kind.kept) mid
         (λ may_lie before later. AreRequestsBegun arrived before.held later.held × SavesPart (AreRequestsBegun arrived) before later) new
 

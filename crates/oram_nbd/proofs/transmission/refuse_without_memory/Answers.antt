@@ -3,7 +3,6 @@ use Rattle.std.proofs.lemmas.Result.{err_from_is_err_and}
 use Rattle.std.specs.Io.KnownBytes.{Appends}
 use Rattle.oram_nbd.specs.Batches.{refusals_text}
 use Rattle.oram_nbd.specs.Streams.{IsBegunText}
-use Rattle.oram_nbd.specs.declared.faults.NbdError.TheVariants.{NoMemory}
 use Rattle.oram_nbd.specs.declared.requests.Request.{Request}
 use Rattle.oram_nbd.proofs.Gathered.{without_memory_one}
 use Rattle.oram_nbd.proofs.Pieces.{if_err}
@@ -16,7 +15,7 @@ returns-in_ok-put_refusals-in-NoRoom-clause-ok g c = λ part unread ends.
       [],
       k.1,
       refl,
-      subst (λ (r : Request). Appends (g.W.Write.contents c.args.writer.now) (g.W.Write.contents c.put_refusals.new.writer) (refusals_text c.args.size (r ∷ []) NoMemory)) (sym k.2)
+      subst (λ (r : Request). Appends (g.W.Write.contents c.args.writer.now) (g.W.Write.contents c.put_refusals.new.writer) (refusals_text c.args.size (r ∷ []) c.args.error)) (sym k.2)
           c.in_ok-put_refusals-in-NoRoom.ensures.ok,
     )
 
@@ -30,7 +29,7 @@ returns-in_err-put_refusals-in-NoRoom-clause-err g c =
             k.0 ∷ [],
             [],
             k.1,
-            subst (λ (r : Request). IsBegunText (g.W.Write.contents c.args.writer.now) (g.W.Write.contents c.put_refusals.new.writer) (refusals_text c.args.size (r ∷ []) NoMemory)) (sym k.2)
+            subst (λ (r : Request). IsBegunText (g.W.Write.contents c.args.writer.now) (g.W.Write.contents c.put_refusals.new.writer) (refusals_text c.args.size (r ∷ []) c.args.error)) (sym k.2)
                 c.in_err-put_refusals-in-NoRoom.ensures.err.1,
           ),
     )

@@ -31,7 +31,7 @@ returns-in_err-without_memory-clause-err g c =
     let two = batch_served _ _ _ _ _ _ _ _ _ _ _ inv.served inv.stays.same_size h _ _ call.stays.still_failed (call.ok h.arrived h.collected) in
     let wrong = c.in_err-without_memory.ensures.err in
     let k = wrong.1 h.part _ h.ends in
-    if_err _ _ _ _ p.1 (p.2 ∙ wrong.0) (without_memory_broken _ _ _ _ _ _ _ two _ c.of-sizes.ensures.size sized _ k.0 k.1 k.2 _ k.3)
+    if_err _ _ _ _ p.1 (p.2 ∙ wrong.0) (without_memory_broken _ _ _ _ _ _ _ two _ c.of-sizes.ensures.size sized c.uncalled_error-error.ensures.honest _ c.uncalled_error-error.ensures.error _ k.0 k.1 k.2 _ k.3)
 
 pub returns-in_err-flush-clause-err : goal.returns-in_err-flush-clause-err
 returns-in_err-flush-clause-err g c =
@@ -43,7 +43,7 @@ returns-in_err-flush-clause-err g c =
     λ may_lie world bytes held. c.blocks-blocks.ensures.held may_lie world bytes held ∙ call.stays.same_size ∙ inv.stays.same_size in
     let two = batch_served _ _ _ _ _ _ _ _ _ _ _ inv.served inv.stays.same_size h _ _ call.stays.still_failed (call.ok h.arrived h.collected) in
     let k = c.in_ok-without_memory.ensures.ok h.part _ h.ends in
-    let three = without_memory_served _ _ _ _ _ _ _ two _ c.of-sizes.ensures.size sized _ k.0 k.1 k.2 _ _ k.3 k.4 in
+    let three = without_memory_served _ _ _ _ _ _ _ two _ c.of-sizes.ensures.size sized c.uncalled_error-error.ensures.honest _ c.uncalled_error-error.ensures.error _ k.0 k.1 k.2 _ _ k.3 k.4 in
     let four = flushed _ _ _ _ _ _ _ three _ c.flush.ensures.keeps in
     if_err _ _ _ _ p.1 (p.2 ∙ c.in_err-flush.ensures.err) (flush_broken _ _ _ _ _ _ _ four (behind_left _ k.1 _ k.2.left))
 
@@ -57,7 +57,7 @@ returns-in_err-more-clause-err g c =
     λ may_lie world bytes held. c.blocks-blocks.ensures.held may_lie world bytes held ∙ call.stays.same_size ∙ inv.stays.same_size in
     let two = batch_served _ _ _ _ _ _ _ _ _ _ _ inv.served inv.stays.same_size h _ _ call.stays.still_failed (call.ok h.arrived h.collected) in
     let k = c.in_ok-without_memory.ensures.ok h.part _ h.ends in
-    let three = without_memory_served _ _ _ _ _ _ _ two _ c.of-sizes.ensures.size sized _ k.0 k.1 k.2 _ _ k.3 k.4 in
+    let three = without_memory_served _ _ _ _ _ _ _ two _ c.of-sizes.ensures.size sized c.uncalled_error-error.ensures.honest _ c.uncalled_error-error.ensures.error _ k.0 k.1 k.2 _ _ k.3 k.4 in
     let four = flushed _ _ _ _ _ _ _ three _ c.flush.ensures.keeps in
     let f = c.in_err-more.field-0.0 in
     if_err _ _ _ _ p.1 p.2 (cut_off _ _ _ _ _ _ _ four f (c.in_err-more.ensures.err k.1 _ k.2.left))
@@ -77,7 +77,7 @@ returns-then-not-more-clause-ok g c =
     λ may_lie world bytes held. c.blocks-blocks.ensures.held may_lie world bytes held ∙ call.stays.same_size ∙ inv.stays.same_size in
     let two = batch_served _ _ _ _ _ _ _ _ _ _ _ inv.served inv.stays.same_size h _ _ call.stays.still_failed (call.ok h.arrived h.collected) in
     let k = c.in_ok-without_memory.ensures.ok h.part _ h.ends in
-    let three = without_memory_served _ _ _ _ _ _ _ two _ c.of-sizes.ensures.size sized _ k.0 k.1 k.2 _ _ k.3 k.4 in
+    let three = without_memory_served _ _ _ _ _ _ _ two _ c.of-sizes.ensures.size sized c.uncalled_error-error.ensures.honest _ c.uncalled_error-error.ensures.error _ k.0 k.1 k.2 _ _ k.3 k.4 in
     let four = flushed _ _ _ _ _ _ _ three _ c.flush.ensures.keeps in
     let many : c.loop-batch_number.served + length c.gather-batch.result.0.requests.items + c.in_ok-without_memory.without_memory ≡ c.loop-batch_number.served + (c.len.result + c.in_ok-without_memory.without_memory) = omega (arith, c.len.ensures) in
     let five = recounted _ _ _ _ _ _ _ four _ many in
@@ -94,7 +94,7 @@ loop-batch_number-preserved g c =
     λ may_lie world bytes held. c.blocks-blocks.ensures.held may_lie world bytes held ∙ call.stays.same_size ∙ inv.stays.same_size in
     let two = batch_served _ _ _ _ _ _ _ _ _ _ _ inv.served inv.stays.same_size h _ _ call.stays.still_failed (call.ok h.arrived h.collected) in
     let k = c.in_ok-without_memory.ensures.ok h.part _ h.ends in
-    let three = without_memory_served _ _ _ _ _ _ _ two _ c.of-sizes.ensures.size sized _ k.0 k.1 k.2 _ _ k.3 k.4 in
+    let three = without_memory_served _ _ _ _ _ _ _ two _ c.of-sizes.ensures.size sized c.uncalled_error-error.ensures.honest _ c.uncalled_error-error.ensures.error _ k.0 k.1 k.2 _ _ k.3 k.4 in
     let four = flushed _ _ _ _ _ _ _ three _ c.flush.ensures.keeps in
     let many : c.loop-batch_number.served + length c.gather-batch.result.0.requests.items + c.in_ok-without_memory.without_memory ≡ c.loop-batch_number.served + (c.len.result + c.in_ok-without_memory.without_memory) = omega (arith, c.len.ensures) in
     let five = recounted _ _ _ _ _ _ _ four _ many in
