@@ -1,5 +1,6 @@
 pub mod Answered
 pub mod Carried
+pub mod Received
 pub mod Frames
 pub mod OneHost
 pub mod Streamed

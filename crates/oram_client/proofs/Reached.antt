@@ -12,6 +12,7 @@ use Rattle.oram_session.specs.declared.link.LinkFault.{LinkFault}
 use Rattle.oram_link_laws.specs.Runs.{Exchange, HostRun}
 use Rattle.oram_rounds.specs.Batches.{BatchOutcome, answered}
 use Rattle.oram_client.specs.OneHost.{AnswersFirst, LeadsToHost, StreamBatchesReachTheHost}
+use Rattle.oram_client.specs.AnswerLengths.{longest_answer}
 use Rattle.oram_client.specs.StreamBatches.{Carries, Connection, GivesFrames, IsClosed, cut_short}
 use Rattle.oram_client.proofs.Streamed.{same_frame}
 
@@ -88,12 +89,12 @@ read_some (Some left) bodies answers fault host after bytes leads gives =
 module _ {R W : Type 0} (remaining : R → Option (List ℕ)) (contents : W → Option (List ℕ)) where
   reached : (closed : Bool) (l m : Connection R W) (bodies : List (List ℕ)) (o : BatchOutcome) (exchanges : List Exchange) (host after : Host) (bytes : List ℕ)
       → closed ≡ false → remaining l.reader ≡ Some bytes → LeadsToHost host bodies bytes after
-      → MatchBool closed (IsClosed l o exchanges m) (Carries remaining contents l.reader l.writer bodies o exchanges m.reader m.writer)
+      → MatchBool closed (IsClosed l o exchanges m) (Carries remaining contents (longest_answer l.disk) l.reader l.writer bodies o exchanges m.reader m.writer)
       → HostRun host exchanges after × (is_ok o ≡ true → remaining m.reader ≡ Some [])
   reached true l m bodies o exchanges host after bytes unclosed known leads h = absurd (true≢false unclosed)
   reached false l m bodies (Ok answers) exchanges host after bytes unclosed known leads h =
-      let read : GivesFrames (Some bytes) (remaining m.reader) answers = subst (λ (old : Option (List ℕ)). GivesFrames old (remaining m.reader) answers) known h.0.read in
-      let done = read_all (remaining m.reader) bodies answers host after bytes leads read h.0.count in
+      let read : GivesFrames (Some bytes) (remaining m.reader) answers = subst (λ (old : Option (List ℕ)). GivesFrames old (remaining m.reader) answers) known h.0.received.read in
+      let done = read_all (remaining m.reader) bodies answers host after bytes leads read h.0.received.count in
       (subst (λ (es : List Exchange). HostRun host es after) (sym h.1) done.0, λ ok. done.1)
   reached false l m bodies (Err fault) exchanges host after bytes unclosed known leads h = (
     elim h.2 [
@@ -101,7 +102,7 @@ module _ {R W : Type 0} (remaining : R → Option (List ℕ)) (contents : W → 
           let none : exchanges ≡ cut_short bodies [] fault = h.1 ∙ ap (λ (as' : List (List ℕ)). cut_short bodies as' fault) unsent.none in
           subst (λ (es : List Exchange). HostRun host es after) (sym none) (unheard bodies fault host after leads.answers leads.given)
       | inr cut ↦
-          let read : GivesFrames (Some bytes) cut.stops.mid h.0 = subst (λ (old : Option (List ℕ)). GivesFrames old cut.stops.mid h.0) known cut.stops.read in
+          let read : GivesFrames (Some bytes) cut.stops.mid h.0 = subst (λ (old : Option (List ℕ)). GivesFrames old cut.stops.mid h.0) known cut.stops.received.read in
           subst (λ (es : List Exchange). HostRun host es after) (sym h.1) (read_some cut.stops.mid bodies h.0 fault host after bytes leads read)
     ],
     λ ok. absurd (true≢false (sym ok)),

@@ -13,6 +13,7 @@ use Rattle.oram_link_laws.specs.Runs.{Exchange, HostRun}
 use Rattle.oram_link_laws.specs.Streamed.{Supplies}
 use Rattle.oram_rounds.specs.Batches.{BatchOutcome, answered}
 use Rattle.oram_client.specs.OneHost.{StreamBatchesAreRun}
+use Rattle.oram_client.specs.AnswerLengths.{longest_answer}
 use Rattle.oram_client.specs.StreamBatches.{Carries, Connection, GivesFrames, IsClosed, cut_short}
 
 length_at-frame : (body after : List ℕ) → IsBody body → length_at (frame body ++ after) ≡ length body
@@ -67,11 +68,11 @@ some_answered (b ∷ bodies) (a ∷ answers) fault host bytes new supplies gives
 module _ {R W : Type 0} (remaining : R → Option (List ℕ)) (contents : W → Option (List ℕ)) where
   ran : (closed : Bool) (l m : Connection R W) (bodies : List (List ℕ)) (o : BatchOutcome) (exchanges : List Exchange) (host : Host) (bytes : List ℕ)
       → remaining l.reader ≡ Some bytes → Supplies host bodies bytes
-      → MatchBool closed (IsClosed l o exchanges m) (Carries remaining contents l.reader l.writer bodies o exchanges m.reader m.writer)
+      → MatchBool closed (IsClosed l o exchanges m) (Carries remaining contents (longest_answer l.disk) l.reader l.writer bodies o exchanges m.reader m.writer)
       → (left : Host) × HostRun host exchanges left
   ran true l m bodies o exchanges host bytes known supplies h = (host, subst (λ (es : List Exchange). HostRun host es host) (sym h.none) refl)
   ran false l m bodies (Ok answers) exchanges host bytes known supplies h =
-      let read : GivesFrames (Some bytes) (remaining m.reader) answers = subst (λ (old : Option (List ℕ)). GivesFrames old (remaining m.reader) answers) known h.0.read in
+      let read : GivesFrames (Some bytes) (remaining m.reader) answers = subst (λ (old : Option (List ℕ)). GivesFrames old (remaining m.reader) answers) known h.0.received.read in
       let run = all_answered bodies answers host bytes (remaining m.reader) supplies read in
       (run.0, subst (λ (es : List Exchange). HostRun host es run.0) (sym h.1) run.1)
   ran false l m bodies (Err fault) exchanges host bytes known supplies h = elim h.2 [
@@ -79,7 +80,7 @@ module _ {R W : Type 0} (remaining : R → Option (List ℕ)) (contents : W → 
         let none : exchanges ≡ cut_short bodies [] fault = h.1 ∙ ap (λ (as' : List (List ℕ)). cut_short bodies as' fault) unsent.none in
         (host, subst (λ (es : List Exchange). HostRun host es host) (sym none) (unheard host bodies fault))
     | inr cut ↦
-        let read : GivesFrames (Some bytes) cut.stops.mid h.0 = subst (λ (old : Option (List ℕ)). GivesFrames old cut.stops.mid h.0) known cut.stops.read in
+        let read : GivesFrames (Some bytes) cut.stops.mid h.0 = subst (λ (old : Option (List ℕ)). GivesFrames old cut.stops.mid h.0) known cut.stops.received.read in
         let run = some_answered bodies h.0 fault host bytes cut.stops.mid supplies read in
         (run.0, subst (λ (es : List Exchange). HostRun host es run.0) (sym h.1) run.1)
   ]

@@ -1,9 +1,11 @@
 -- A batch whose first connection breaks off, step by step.
-use Rattle.std.proofs.Common.{◌≡◌, ◌≢◌, ℕ, zero, suc, ◌≤◌, ◌||◌, arith, List, [], ◌∷◌, ◌++◌, Bool, true, false, Option, None, Some, Ok, Err, inl, inr, refl, sym, ap, ◌∙◌, subst, lit<, lit≤, bytes_eq}
+use Rattle.std.proofs.Common.{◌≡◌, ◌≢◌, ℕ, zero, suc, ◌≤◌, ◌||◌, arith, List, [], ◌∷◌, ◌++◌, length, Bool, true, false, Option, None, Some, Ok, Err, inl, inr, refl, sym, ap, ◌∙◌, subst, lit<, lit≤, bytes_eq}
 use Rattle.std.specs.Prelude.{if◌then◌else◌, is_ok, unwrap_or}
 use Rattle.std.specs.List.{All}
 use Rattle.std.proofs.lemmas.List.Elements.{All-cons, All-nil}
 use Rattle.std.proofs.lemmas.Slice.Eq.{bytes_eq-Decides}
+use Rattle.oram_geometry.specs.Least.{least_from}
+use Rattle.oram_geometry.specs.Sizes.{blocks_in, level_for, record_len_of, trees_of}
 use Rattle.oram_wire.specs.FrameStream.{IsBody, frame}
 use Rattle.oram_wire.specs.HostMessages.{done_answer, fetch_body, payload_answer, store_body}
 use Rattle.oram_wire.specs.declared.host_messages.HostAnswer.TheVariants.{Done, Payload}
@@ -23,7 +25,8 @@ use Rattle.oram_link_laws.proofs.Same.{look_past}
 use Rattle.oram_rounds.specs.Batches.{BatchOutcome}
 use Rattle.oram_rounds.specs.CatchUp.{PlainRun}
 use Rattle.oram_rounds.proofs.KeptPaths.{serves_fetch}
-use Rattle.oram_client.specs.OneHost.{AnswersFirst, Bytes, LeadToOneHost, LeadsToHost, NeverFails, OpensNext, PausesBetween, ReadsNoClock, TwoTriesExample, comes_over, done_frame, done_link, emptied, fresh, host_after, host_now, host_over, messages, ones, ones_host, path_frame, two_tries}
+use Rattle.oram_client.specs.AnswerLengths.{longest_answer}
+use Rattle.oram_client.specs.OneHost.{AnswersFirst, Bytes, LeadToOneHost, LeadsToHost, NeverFails, OpensNext, PausesBetween, ReadsNoClock, TwoTriesExample, comes_over, done_frame, done_link, emptied, fresh, host_after, host_now, host_over, messages, ones, ones_host, path_frame, this_disk, two_tries}
 use Rattle.oram_client.specs.Reconnect.{IsDelayed, ReconnectBatch, dialer_kind, first_pause}
 use Rattle.oram_client.specs.StreamBatches.{StreamBatch, connection}
 use Rattle.oram_client.specs.Attempts.{Attempt, Plainly, attempt_for}
@@ -226,13 +229,13 @@ abbrev sent : List ℕ
 sent = frame (store_body 0 0 ones) ++ frame (fetch_body 0 0)
 
 abbrev first_line : Bytes
-first_line = connection done_frame []
+first_line = connection done_frame [] this_disk
 
 abbrev second_line : Bytes
-second_line = connection (done_frame ++ path_frame) []
+second_line = connection (done_frame ++ path_frame) [] this_disk
 
 abbrev first_done : Bytes
-first_done = record { reader = []; writer = sent; closed = true }
+first_done = record { reader = []; writer = sent; disk = this_disk; closed = true }
 
 abbrev first_exchanges : List Exchange
 first_exchanges = (store_body 0 0 ones, Ok done_answer) ∷ (fetch_body 0 0, Err Closed) ∷ []
@@ -243,18 +246,26 @@ second_exchanges = (store_body 0 0 ones, Ok done_answer) ∷ (fetch_body 0 0, Ok
 two_fit : (a b : List ℕ) → IsBody a → IsBody b → All IsBody (a ∷ b ∷ [])
 two_fit a b one two = All-cons IsBody a (b ∷ []) one (All-cons IsBody b [] two (All-nil IsBody))
 
+path_within : length (payload_answer ones) ≤ longest_answer this_disk (fetch_body 0 0)
+unfolding record_len_of trees_of blocks_in level_for least_from
+path_within = lit≤ tt
+
 first_batch : StreamBatch known known first_line messages (Err Closed) first_exchanges first_done
 first_batch = record {
   closed = refl;
+  disk = refl;
   carried = (
     done_answer ∷ [],
     refl,
     inr (record {
       sent = record { fit = two_fit (store_body 0 0 ones) (fetch_body 0 0) (lit≤ tt) (lit≤ tt); wrote = refl };
       stops = record {
-        fewer = lit< tt;
+        first = store_body 0 0 ones ∷ [];
+        next = fetch_body 0 0;
+        others = [];
+        all = refl;
         mid = Some [];
-        read = (All-cons IsBody done_answer [] (lit≤ tt) (All-nil IsBody), refl);
+        received = record { count = refl; read = (All-cons IsBody done_answer [] (lit≤ tt) (All-nil IsBody), refl); within = (lit≤ tt, tt) };
         stop = inl (inl (refl, refl));
       };
     }),
@@ -264,11 +275,11 @@ first_batch = record {
 second_batch : StreamBatch known known second_line messages (Ok (done_answer ∷ payload_answer ones ∷ [])) second_exchanges emptied
 second_batch = record {
   closed = refl;
+  disk = refl;
   carried = (
     record {
       sent = record { fit = two_fit (store_body 0 0 ones) (fetch_body 0 0) (lit≤ tt) (lit≤ tt); wrote = refl };
-      count = refl;
-      read = (two_fit done_answer (payload_answer ones) (lit≤ tt) (lit≤ tt), refl);
+      received = record { count = refl; read = (two_fit done_answer (payload_answer ones) (lit≤ tt) (lit≤ tt), refl); within = (lit≤ tt, (path_within, tt)) };
     },
     refl,
   );

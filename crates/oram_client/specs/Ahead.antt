@@ -3,12 +3,13 @@ use Rattle.std.specs.Prelude.{◌≡◌, ◌≢◌, ℕ, ◌+◌, ◌<◌, ◌�
 use Rattle.std.specs.Io.KnownBytes.{Appends, Consumes}
 use Rattle.std.specs.List.{flat_map}
 use Rattle.oram_wire.specs.FrameStream.{frame}
-use Rattle.oram_wire.specs.FrameIo.{GivesBrokenHead, GivesHead, GivesPart, TakesPart}
+use Rattle.oram_wire.specs.FrameIo.{GivesHead, GivesLongHead, GivesPart, TakesPart}
 use Rattle.oram_wire.specs.declared.TheConstants.{LONGEST_BODY}
 use Rattle.oram_wire.specs.declared.sinks.SinkFault.{SinkFault}
 use Rattle.oram_wire.specs.declared.sinks.SinkFault.TheVariants.{Refused, Link, OutOfMemory}
 use Rattle.oram_host.specs.Refusals.{code_of}
 use Rattle.oram_host.specs.declared.refusals.HostRefusal.TheVariants as host
+use Rattle.oram_client.specs.AnswerLengths.{refusal_len}
 use Rattle.oram_client.specs.declared.refusals.Refusal.{Refusal}
 use Rattle.oram_client.specs.declared.refusals.Refusal.TheVariants.{Taken, NoRoom, Other}
 use Rattle.oram_wire.specs.HostMessages.{done_answer, refusal_answer}
@@ -28,11 +29,11 @@ most_due = 256
 abbrev pub dones : ℕ → List ℕ
 dones count = flat_map frame (replicate count done_answer)
 
--- No frame is read where an answer is due, and the fault says why.
-abbrev pub GivesNone : Option (List ℕ) → Option (List ℕ) → SinkFault → Type 0
-GivesNone old new Refused = ⊥
-GivesNone old new Link = GivesPart old new ⊎ GivesBrokenHead old new
-GivesNone old new OutOfMemory = GivesHead old new
+-- No frame is read where an answer of at most `longest` bytes is due, and the fault says why. Of a longer answer only the length is read.
+abbrev pub GivesNone : ℕ → Option (List ℕ) → Option (List ℕ) → SinkFault → Type 0
+GivesNone longest old new Refused = ⊥
+GivesNone longest old new Link = GivesPart old new ⊎ GivesLongHead longest old new
+GivesNone longest old new OutOfMemory = GivesHead old new
 
 -- what an answer other than done means: the tree already has a shape, the host has no room, or anything else
 abbrev pub Means : List ℕ → Refusal → Type 0
@@ -40,10 +41,11 @@ Means answer Taken = answer ≡ refusal_answer (code_of host.ShapeTaken)
 Means answer NoRoom = answer ≡ refusal_answer (code_of host.OutOfMemory)
 Means answer Other = (answer ≢ refusal_answer (code_of host.ShapeTaken)) × (answer ≢ refusal_answer (code_of host.OutOfMemory))
 
--- An answer is read, and it doesn't say that the host is done.
+-- An answer is read, and it doesn't say that the host is done. It is no longer than a refusal.
 pub record GivesOther (old new : Option (List ℕ)) (refusal : Option Refusal) (fault : SinkFault) : Type 0 where
   pub answer : List ℕ
   pub other : answer ≢ done_answer
+  pub within : length answer ≤ refusal_len
   pub read : Consumes old new (frame answer)
   pub meaning : Refusal
   pub means : Means answer meaning
@@ -62,7 +64,7 @@ module _ {R W : Type 0} (remaining : R → Option (List ℕ)) (contents : W → 
   pub record IsUndone (a : ToHost R W) (fault : SinkFault) (b : ToHost R W) : Type 0 where
     pub due : b.due ≡ a.due
     pub wrote : b.writer ≡ a.writer
-    pub read : GivesNone (remaining a.reader) (remaining b.reader) fault ⊎ GivesOther (remaining a.reader) (remaining b.reader) b.refusal fault
+    pub read : GivesNone refusal_len (remaining a.reader) (remaining b.reader) fault ⊎ GivesOther (remaining a.reader) (remaining b.reader) b.refusal fault
 
   -- The client wanted to read `count` answers, and stopped early. Either it read fewer of them, which all report a message as
   -- done, and the next one doesn't report that or can't be read. Or it couldn't flush what it had written before, and read
@@ -98,15 +100,15 @@ module _ {R W : Type 0} (remaining : R → Option (List ℕ)) (contents : W → 
     pub wrote : Appends (contents a.writer) (contents b.writer) (frame body)
     pub read : Consumes (remaining a.reader) (remaining b.reader) (frame answer)
 
-  -- A message was written, and no answer to it was read.
-  pub record IsUnanswered (a : ToHost R W) (body : List ℕ) (fault : SinkFault) (b : ToHost R W) : Type 0 where
+  -- A message was written, and no answer to it of at most `longest` bytes was read.
+  pub record IsUnanswered (longest : ℕ) (a : ToHost R W) (body : List ℕ) (fault : SinkFault) (b : ToHost R W) : Type 0 where
     pub due : b.due ≡ a.due
     pub wrote : Appends (contents a.writer) (contents b.writer) (frame body)
-    pub read : GivesNone (remaining a.reader) (remaining b.reader) fault
+    pub read : GivesNone longest (remaining a.reader) (remaining b.reader) fault
 
   -- A message wasn't written, or wasn't answered.
-  abbrev pub HasNoAnswer : ToHost R W → List ℕ → SinkFault → ToHost R W → Type 0
-  HasNoAnswer a body fault b = IsUnsent a body fault b ⊎ IsUnanswered a body fault b
+  abbrev pub HasNoAnswer : ℕ → ToHost R W → List ℕ → SinkFault → ToHost R W → Type 0
+  HasNoAnswer longest a body fault b = IsUnsent a body fault b ⊎ IsUnanswered longest a body fault b
 
   -- The client wrote messages one after another. Meanwhile it read `count` answers, which all report a message as done.
   pub record ArePut (a : ToHost R W) (bodies : List (List ℕ)) (b : ToHost R W) : Type 0 where

@@ -14,6 +14,7 @@ use Rattle.oram_client.specs.declared.dialer.Limits.{Limits}
 use Rattle.oram_client.specs.declared.dialer.Trouble.{Trouble}
 use Rattle.oram_client.specs.declared.dialer.Trouble.TheVariants.{OutOfReach}
 use Rattle.oram_client.specs.Reconnect.{DialerKind, IsDelayed, IsGivenUp, IsTried, LinkBatch, LinkLearns, MakesTries, NextTry, ReconnectBatch, ReconnectState, VainTry}
+use Rattle.oram_client.specs.AnswerLengths.{longest_answer}
 use Rattle.oram_client.specs.StreamBatches.{Carries, Connection, IsClosed, StreamBatch, cut_short}
 
 -- if the messages of two lists of exchanges are among these bodies, so are those of both lists together
@@ -48,9 +49,9 @@ faulty bodies o fault exchanges heard says all among =
 
 module _ {R W : Type 0} (remaining : R → Option (List ℕ)) (contents : W → Option (List ℕ)) where
   carried : (closed : Bool) (l m : Connection R W) (bodies : List (List ℕ)) (o : BatchOutcome) (exchanges : List Exchange)
-      → MatchBool closed (IsClosed l o exchanges m) (Carries remaining contents l.reader l.writer bodies o exchanges m.reader m.writer) → IsBatch bodies o exchanges
+      → MatchBool closed (IsClosed l o exchanges m) (Carries remaining contents (longest_answer l.disk) l.reader l.writer bodies o exchanges m.reader m.writer) → IsBatch bodies o exchanges
   carried true l m bodies o exchanges h = faulty bodies o Closed exchanges [] h.says h.none tt
-  carried false l m bodies (Ok answers) exchanges h = (h.0.count, [], tt, h.1)
+  carried false l m bodies (Ok answers) exchanges h = (h.0.received.count, [], tt, h.1)
   carried false l m bodies (Err fault) exchanges h =
       faulty bodies (Err fault) fault exchanges (cut_short bodies h.0 fault) refl h.1 (cut_among bodies bodies h.0 fault (λ x k. k))
 

@@ -11,6 +11,7 @@ use Rattle.oram_session.specs.declared.link.LinkFault.{LinkFault}
 use Rattle.oram_session.specs.declared.link.LinkFault.TheVariants.{Io, Closed, TooLong, TooLarge, OutOfMemory}
 use Rattle.oram_link_laws.specs.Runs.{Exchange}
 use Rattle.oram_rounds.specs.Batches.{BatchOutcome}
+use Rattle.oram_client.specs.AnswerLengths.{DiskSizes}
 use Rattle.oram_client.specs.StreamBatches.{Connection, StreamBatch, connection}
 use Rattle.oram_client.specs.declared.dialer.Trouble.{Trouble}
 use Rattle.oram_client.specs.declared.dialer.Trouble.TheVariants.{OutOfReach, NoRoom, AnotherDisk, NoDisk, OlderState, OlderHost, NoStamps}
@@ -59,12 +60,14 @@ abbrev pub mismatch_trouble : Mismatch → Trouble
 mismatch_trouble mismatch.OlderState = OlderState
 mismatch_trouble mismatch.OlderHost = OlderHost
 
--- the address of a disk's host, the identity of the disk that it has to keep, the key of that disk's stamps, and what is known of them
+-- the address of a disk's host, the identity of the disk that it has to keep, the key of that disk's stamps, what is known of them, and
+-- the disk's sizes
 pub record Destination : Type 0 where
   pub address : List ℕ
   pub identity : List ℕ
   pub key : List ℕ
   pub known : Stamps
+  pub disk : DiskSizes
 
 -- the message that asks for a disk's identity: the one record of tree 255
 abbrev pub greeting : List ℕ
@@ -87,24 +90,24 @@ Shows identity answer NoStamps = ⊥
 -- for streams whose bytes `remaining` and `contents` give
 module _ {S : Type 0} (remaining contents : S → Option (List ℕ)) where
   -- The first batch over a connection is the greeting alone.
-  abbrev pub SendsGreeting : S → S → BatchOutcome → List Exchange → Connection S S → Type 0
-  SendsGreeting reader writer outcome exchanges line = StreamBatch remaining contents (connection reader writer) (greeting ∷ []) outcome exchanges line
+  abbrev pub SendsGreeting : S → S → DiskSizes → BatchOutcome → List Exchange → Connection S S → Type 0
+  SendsGreeting reader writer disk outcome exchanges line = StreamBatch remaining contents (connection reader writer disk) (greeting ∷ []) outcome exchanges line
 
   -- The host answered with this identity.
-  abbrev pub IsGreetedOver : S → S → List ℕ → Connection S S → Type 0
-  IsGreetedOver reader writer identity line = (exchanges : List Exchange) × SendsGreeting reader writer (Ok (payload_answer identity ∷ [])) exchanges line
+  abbrev pub IsGreetedOver : S → S → DiskSizes → List ℕ → Connection S S → Type 0
+  IsGreetedOver reader writer disk identity line = (exchanges : List Exchange) × SendsGreeting reader writer disk (Ok (payload_answer identity ∷ [])) exchanges line
 
   -- Memory ran out before the host was asked, or the batch had a fault, or the host gave another
   -- answer.
-  abbrev pub IsUngreetedOver : S → S → List ℕ → Trouble → Type 0
-  IsUngreetedOver reader writer identity trouble = (trouble ≡ OutOfReach OutOfMemory)
-      ⊎ ((outcome : BatchOutcome) × (exchanges : List Exchange) × (line : Connection S S) × SendsGreeting reader writer outcome exchanges line
+  abbrev pub IsUngreetedOver : S → S → DiskSizes → List ℕ → Trouble → Type 0
+  IsUngreetedOver reader writer disk identity trouble = (trouble ≡ OutOfReach OutOfMemory)
+      ⊎ ((outcome : BatchOutcome) × (exchanges : List Exchange) × (line : Connection S S) × SendsGreeting reader writer disk outcome exchanges line
       × MatchResult outcome (λ answers. (answer : List ℕ) × (answers ≡ answer ∷ []) × Shows identity answer trouble) (λ fault. trouble ≡ OutOfReach fault))
 
   -- The host answered with this identity over some connection.
-  abbrev pub IsGreeted : List ℕ → Connection S S → Type 0
-  IsGreeted identity line = (reader : S) × (writer : S) × IsGreetedOver reader writer identity line
+  abbrev pub IsGreeted : DiskSizes → List ℕ → Connection S S → Type 0
+  IsGreeted disk identity line = (reader : S) × (writer : S) × IsGreetedOver reader writer disk identity line
 
   -- There was no connection, or the host didn't answer with this identity over one.
-  abbrev pub IsUngreeted : List ℕ → Trouble → Type 0
-  IsUngreeted identity trouble = ((fault : LinkFault) × (trouble ≡ OutOfReach fault)) ⊎ ((reader : S) × (writer : S) × IsUngreetedOver reader writer identity trouble)
+  abbrev pub IsUngreeted : DiskSizes → List ℕ → Trouble → Type 0
+  IsUngreeted disk identity trouble = ((fault : LinkFault) × (trouble ≡ OutOfReach fault)) ⊎ ((reader : S) × (writer : S) × IsUngreetedOver reader writer disk identity trouble)

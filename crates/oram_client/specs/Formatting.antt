@@ -1,5 +1,5 @@
 -- How a disk is formatted by messages that are sent ahead of their answers.
-use Rattle.std.specs.Prelude.{◌≡◌, ℕ, ◌+◌, ◌<◌, ◌⊎◌, List, [], ◌∷◌, ◌++◌, Option, length, map, slice_index_or}
+use Rattle.std.specs.Prelude.{◌≡◌, ℕ, ◌+◌, ◌<◌, ◌≤◌, ◌⊎◌, List, [], ◌∷◌, ◌++◌, Option, length, map, slice_index_or}
 use Rattle.std.specs.Io.KnownBytes.{Appends, Consumes}
 use Rattle.std.specs.List.{flat_map, range_with_len}
 use Rattle.oram_geometry.specs.declared.Sizes.{Sizes}
@@ -15,6 +15,7 @@ use Rattle.oram_core.specs.Formatting.{IsNew}
 use Rattle.oram_client.specs.declared.faults.FormattingFault.{FormattingFault}
 use Rattle.oram_client.specs.declared.faults.FormattingFault.TheVariants.{NotStored, OutOfMemory}
 use Rattle.oram_client.specs.declared.identity.TheConstants.{IDENTITY_TREE}
+use Rattle.oram_client.specs.AnswerLengths.{path_answer_len}
 use Rattle.oram_client.specs.Ahead.{ToHost, ArePut, AreTaken, HasAnswer, HasNoAnswer, IsDrained, IsStopped, IsUnput, dones}
 use Rattle.oram_client.specs.Faults.{formatting_fault}
 use Rattle.oram_client.specs.Identity.{IsUnowned, IsUnrecognized, own_messages}
@@ -55,8 +56,8 @@ module _ {R W : Type 0} (remaining : R → Option (List ℕ)) (contents : W → 
   -- The path of a tree was asked for, but there was no answer, or one that isn't genuine.
   abbrev pub IsUnheld : Sizes → ℕ → List ℕ → ℕ → ToHost R W → FormattingFault → ToHost R W → Type 0
   IsUnheld d overhead root tree a fault b =
-      ((why : SinkFault) × HasNoAnswer remaining contents a (fetch_body tree 0) why b × (fault ≡ formatting_fault b.refusal why))
-      ⊎ ((answer : List ℕ) × HasAnswer remaining contents a (fetch_body tree 0) answer b × IsFalse d overhead root tree answer × (fault ≡ NotStored))
+      ((why : SinkFault) × HasNoAnswer remaining contents (path_answer_len d overhead tree) a (fetch_body tree 0) why b × (fault ≡ formatting_fault b.refusal why))
+      ⊎ ((answer : List ℕ) × HasAnswer remaining contents a (fetch_body tree 0) answer b × (length answer ≤ path_answer_len d overhead tree) × IsFalse d overhead root tree answer × (fault ≡ NotStored))
 
   -- Genuine paths of the first trees were fetched. Then memory ran out elsewhere, or there was no genuine path of the
   -- next tree.

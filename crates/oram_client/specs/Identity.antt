@@ -1,10 +1,11 @@
 -- The identity of a disk at its host.
-use Rattle.std.specs.Prelude.{◌≡◌, ◌≢◌, ℕ, ◌⊎◌, List, [], ◌∷◌, ◌++◌, Option}
+use Rattle.std.specs.Prelude.{◌≡◌, ◌≢◌, ◌≤◌, ℕ, ◌⊎◌, List, [], ◌∷◌, ◌++◌, Option, length}
 use Rattle.oram_wire.specs.HostMessages.{fetch_body, payload_answer, put_body, shape_body}
 use Rattle.oram_wire.specs.declared.sinks.SinkFault.{SinkFault}
 use Rattle.oram_client.specs.declared.faults.FormattingFault.{FormattingFault}
 use Rattle.oram_client.specs.declared.faults.FormattingFault.TheVariants.{NotStored, OutOfMemory}
 use Rattle.oram_client.specs.declared.identity.TheConstants.{IDENTITY_TREE, IDENTITY_LEN}
+use Rattle.oram_client.specs.AnswerLengths.{identity_answer_len}
 use Rattle.oram_client.specs.Ahead.{ToHost, AreTaken, AreUntaken, HasAnswer, HasNoAnswer}
 use Rattle.oram_client.specs.Faults.{formatting_fault}
 use Rattle.oram_client.specs.StampMessages.{stamp_messages, stamp_put, stamps_shape_body}
@@ -61,5 +62,5 @@ module _ {R W : Type 0} (remaining : R → Option (List ℕ)) (contents : W → 
   -- The identity was asked for, but there was no answer, or another one.
   abbrev pub IsUnrecognized : List ℕ → ToHost R W → FormattingFault → ToHost R W → Type 0
   IsUnrecognized identity a fault b =
-      ((why : SinkFault) × HasNoAnswer remaining contents a (fetch_body IDENTITY_TREE 0) why b × (fault ≡ formatting_fault b.refusal why))
-      ⊎ ((answer : List ℕ) × HasAnswer remaining contents a (fetch_body IDENTITY_TREE 0) answer b × (answer ≢ payload_answer identity) × (fault ≡ NotStored))
+      ((why : SinkFault) × HasNoAnswer remaining contents identity_answer_len a (fetch_body IDENTITY_TREE 0) why b × (fault ≡ formatting_fault b.refusal why))
+      ⊎ ((answer : List ℕ) × HasAnswer remaining contents a (fetch_body IDENTITY_TREE 0) answer b × (length answer ≤ identity_answer_len) × (answer ≢ payload_answer identity) × (fault ≡ NotStored))

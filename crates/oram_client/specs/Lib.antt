@@ -7,6 +7,7 @@ pub mod BatchExchanges
 pub mod OneHost
 pub mod Dialer
 pub mod Ahead
+pub mod AnswerLengths
 pub mod Faults
 pub mod Identity
 pub mod Formatting

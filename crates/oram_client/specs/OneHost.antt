@@ -16,6 +16,7 @@ use Rattle.oram_link_laws.specs.Runs.{Exchange, HostRun, bodies_of}
 use Rattle.oram_link_laws.specs.Streamed.{Supplies}
 use Rattle.oram_rounds.specs.Batches.{BatchOutcome, answered}
 use Rattle.oram_rounds.specs.CatchUp.{PlainRun}
+use Rattle.oram_client.specs.AnswerLengths.{DiskSizes}
 use Rattle.oram_client.specs.Attempts.{Attempt, DialersAreBatches, Plainly}
 use Rattle.oram_client.specs.Reconnect.{DialerKind, ReconnectBatch, ReconnectState, dialer_kind}
 use Rattle.oram_client.specs.StreamBatches.{Connection, StreamBatch, connection}
@@ -137,11 +138,15 @@ abbrev pub host_after : ℕ → Host
 host_after zero = new_host
 host_after (suc count) = ones_host
 
+-- the sizes of this disk, which say how long an answer may be
+abbrev pub this_disk : DiskSizes
+this_disk = record { device = one_block.device; overhead = 0 }
+
 abbrev pub Bytes : Type 0
 Bytes = Connection (List ℕ) (List ℕ)
 
 abbrev pub OpensNext : ℕ → Limits → Bytes → ℕ → Type 0
-OpensNext count limits line more = (line ≡ connection (comes_over count) []) × (more ≡ suc count)
+OpensNext count limits line more = (line ≡ connection (comes_over count) [] this_disk) × (more ≡ suc count)
 
 abbrev pub NeverFails : ℕ → Limits → Trouble → ℕ → Type 0
 NeverFails count limits trouble more = ⊥
@@ -178,7 +183,7 @@ fresh = record { dialer = 0; line = None; reconnect_timeout = 1000; trouble = No
 
 -- the second connection, after it has carried the batch
 abbrev pub emptied : Bytes
-emptied = record { reader = []; writer = frame (store_body 0 0 ones) ++ frame (fetch_body 0 0); closed = false }
+emptied = record { reader = []; writer = frame (store_body 0 0 ones) ++ frame (fetch_body 0 0); disk = this_disk; closed = false }
 
 abbrev pub done_link : ReconnectState ℕ Bytes
 done_link = record { dialer = 2; line = Some emptied; reconnect_timeout = 1000; trouble = None }

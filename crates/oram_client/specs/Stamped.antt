@@ -102,7 +102,7 @@ module _ {S : Type 0} (remaining contents : S → Option (List ℕ)) where
 
   -- A connection was opened: the host gave the disk's identity, and stamps that it may have.
   abbrev pub Opens : Destination → Line → Destination → Type 0
-  Opens d line e = (greeted : Line) × IsGreeted remaining contents d.identity greeted × IsCompared d greeted line e
+  Opens d line e = (greeted : Line) × IsGreeted remaining contents d.disk d.identity greeted × IsCompared d greeted line e
 
   -- The host gave the disk's identity, but no stamps, or stamps that it may not have by what is known; or the connection failed then.
   abbrev pub IsUncompared : Destination → Line → Trouble → Type 0
@@ -113,8 +113,8 @@ module _ {S : Type 0} (remaining contents : S → Option (List ℕ)) where
 
   -- There was no connection, or the host didn't give the disk's identity over one, or no stamps that it may have.
   abbrev pub FailsToOpen : Destination → Trouble → Type 0
-  FailsToOpen d trouble = IsUngreeted remaining contents d.identity trouble
-      ⊎ ((greeted : Line) × IsGreeted remaining contents d.identity greeted × IsUncompared d greeted trouble)
+  FailsToOpen d trouble = IsUngreeted remaining contents d.disk d.identity trouble
+      ⊎ ((greeted : Line) × IsGreeted remaining contents d.disk d.identity greeted × IsUncompared d greeted trouble)
 
   -- There was no memory for the messages that put the stamps, and nothing was sent.
   pub record IsUnsent (d : Destination) (line : Line) (came : Attempt) (exchanges : List Exchange) (e : Destination) (line' : Line) : Type 0 where

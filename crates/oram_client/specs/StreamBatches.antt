@@ -1,26 +1,44 @@
 -- A connection over a reader and a writer that carries several messages at once.
-use Rattle.std.specs.Prelude.{◌≡◌, ◌⊎◌, ℕ, ◌<◌, Bool, false, ◌||◌, List, [], ◌∷◌, length, take, Option, Ok, Err, is_err, MatchBool}
+use Rattle.std.specs.Prelude.{◌≡◌, ◌⊎◌, ℕ, ◌<◌, ◌≤◌, Bool, false, ◌||◌, ⊤, List, [], ◌∷◌, ◌++◌, length, take, Option, Ok, Err, is_err, MatchBool}
 use Rattle.std.specs.Io.KnownBytes.{Appends, Consumes}
 use Rattle.std.specs.List.{All, flat_map}
 use Rattle.oram_wire.specs.FrameStream.{IsBody, frame}
-use Rattle.oram_wire.specs.FrameIo.{GivesFrame}
+use Rattle.oram_wire.specs.FrameIo.{GivesCutFrame, GivesEnd, GivesFrame, GivesHead, GivesLongHead, GivesPart}
 use Rattle.oram_wire.specs.declared.TheConstants.{LONGEST_BODY}
-use Rattle.oram_session.specs.Streams.{Receives}
+use Rattle.oram_session.specs.Outcome.{Outcome}
 use Rattle.oram_session.specs.declared.link.LinkFault.{LinkFault}
 use Rattle.oram_session.specs.declared.link.LinkFault.TheVariants.{Io, Closed, TooLong, TooLarge, OutOfMemory}
 use Rattle.oram_link_laws.specs.Repair.{IsAmong}
 use Rattle.oram_link_laws.specs.Runs.{Exchange}
+use Rattle.oram_client.specs.AnswerLengths.{DiskSizes, longest_answer}
 use Rattle.oram_rounds.specs.Batches.{BatchOutcome, answered}
 
 -- the connection
 pub record Connection (R W : Type 0) : Type 0 where
   pub reader : R
   pub writer : W
+  pub disk : DiskSizes  -- the disk of the host, which says how long an answer may be
   pub closed : Bool  -- whether a fault has closed it
 
 -- a new connection
-abbrev pub connection : {R W : Type 0} → R → W → Connection R W
-connection reader writer = record { reader = reader; writer = writer; closed = false }
+abbrev pub connection : {R W : Type 0} → R → W → DiskSizes → Connection R W
+connection reader writer disk = record { reader = reader; writer = writer; disk = disk; closed = false }
+
+-- The bytes read when an answer is due that has at most `longest` bytes, and the outcome that they give. Of a longer one only the length
+-- is read.
+abbrev pub ReceivesWithin : ℕ → Option (List ℕ) → Option (List ℕ) → Outcome → Type 0
+ReceivesWithin longest old new (Ok bytes) = GivesFrame old new bytes × (length bytes ≤ longest)
+ReceivesWithin longest old new (Err Io) = GivesPart old new
+ReceivesWithin longest old new (Err Closed) = GivesEnd old new ⊎ GivesCutFrame old new
+ReceivesWithin longest old new (Err TooLong) = GivesLongHead longest old new
+ReceivesWithin longest old new (Err TooLarge) = ⊥
+ReceivesWithin longest old new (Err OutOfMemory) = GivesHead old new
+
+-- none of the answers to these messages is longer than its message allows
+abbrev pub AreWithin : (List ℕ → ℕ) → List (List ℕ) → List (List ℕ) → Type 0
+AreWithin longest bodies [] = ⊤
+AreWithin longest [] (answer ∷ answers) = ⊥
+AreWithin longest (body ∷ bodies) (answer ∷ answers) = (length answer ≤ longest body) × AreWithin longest bodies answers
 
 -- the reader gave the frames of these bodies
 abbrev pub GivesFrames : Option (List ℕ) → Option (List ℕ) → List (List ℕ) → Type 0
@@ -49,12 +67,27 @@ cut_short [] answers fault = []
 cut_short (body ∷ bodies) [] fault = (body, Err fault) ∷ cut_short bodies [] fault
 cut_short (body ∷ bodies) (answer ∷ answers) fault = (body, Ok answer) ∷ cut_short bodies answers fault
 
--- These answers were read, fewer than `count`. Then no frame came, or there was no memory to keep one that came.
-pub record StopsAfter (old new : Option (List ℕ)) (count : ℕ) (answers : List (List ℕ)) (fault : LinkFault) : Type 0 where
-  pub fewer : length answers < count
+-- An answer to each of the messages was read.
+pub record AreReceived (longest : List ℕ → ℕ) (old new : Option (List ℕ)) (bodies answers : List (List ℕ)) : Type 0 where
+  pub count : length answers ≡ length bodies
+  pub read : GivesFrames old new answers
+  pub within : AreWithin longest bodies answers
+
+-- These answers were added to a list of answers.
+pub record AreAdded (longest : List ℕ → ℕ) (old new : Option (List ℕ)) (bodies before after : List (List ℕ)) : Type 0 where
+  pub answers : List (List ℕ)
+  pub received : AreReceived longest old new bodies answers
+  pub added : after ≡ before ++ answers
+
+-- Only the first messages have answers. Of the next one, no answer came that it allows, or there was no memory to keep the answer.
+pub record StopsAfter (longest : List ℕ → ℕ) (old new : Option (List ℕ)) (bodies answers : List (List ℕ)) (fault : LinkFault) : Type 0 where
+  pub first : List (List ℕ)
+  pub next : List ℕ
+  pub others : List (List ℕ)
+  pub all : bodies ≡ first ++ next ∷ others
   pub mid : Option (List ℕ)
-  pub read : GivesFrames old mid answers
-  pub stop : Receives mid new (Err fault) ⊎ ((fault ≡ OutOfMemory) × (answer : List ℕ) × GivesFrame mid new answer)
+  pub received : AreReceived longest old mid first answers
+  pub stop : ReceivesWithin (longest next) mid new (Err fault) ⊎ ((fault ≡ OutOfMemory) × (answer : List ℕ) × ReceivesWithin (longest next) mid new (Ok answer))
 
 -- The bodies were sent as frames.
 pub record AreSent {W : Type 0} (contents : W → Option (List ℕ)) (writer : W) (bodies : List (List ℕ)) (writer' : W) : Type 0 where
@@ -70,10 +103,9 @@ pub record IsClosed {R W : Type 0} (l : Connection R W) (o : BatchOutcome) (exch
 -- over a reader and a writer; these functions give the bytes still to be read and those written, if they are known
 module _ {R W : Type 0} (remaining : R → Option (List ℕ)) (contents : W → Option (List ℕ)) where
   -- The bodies were sent, and as many answers were read.
-  pub record AreAnswered (reader : R) (writer : W) (bodies answers : List (List ℕ)) (reader' : R) (writer' : W) : Type 0 where
+  pub record AreAnswered (longest : List ℕ → ℕ) (reader : R) (writer : W) (bodies answers : List (List ℕ)) (reader' : R) (writer' : W) : Type 0 where
     pub sent : AreSent contents writer bodies writer'
-    pub count : length answers ≡ length bodies
-    pub read : GivesFrames (remaining reader) (remaining reader') answers
+    pub received : AreReceived longest (remaining reader) (remaining reader') bodies answers
 
   -- The bodies couldn't be sent, and nothing was read.
   pub record AreUnsent (reader : R) (writer : W) (bodies answers : List (List ℕ)) (fault : LinkFault) (reader' : R) (writer' : W) : Type 0 where
@@ -82,18 +114,19 @@ module _ {R W : Type 0} (remaining : R → Option (List ℕ)) (contents : W → 
     pub unread : reader' ≡ reader
 
   -- The bodies were sent, and not all answers were read.
-  pub record AreCutShort (reader : R) (writer : W) (bodies answers : List (List ℕ)) (fault : LinkFault) (reader' : R) (writer' : W) : Type 0 where
+  pub record AreCutShort (longest : List ℕ → ℕ) (reader : R) (writer : W) (bodies answers : List (List ℕ)) (fault : LinkFault) (reader' : R) (writer' : W) : Type 0 where
     pub sent : AreSent contents writer bodies writer'
-    pub stops : StopsAfter (remaining reader) (remaining reader') (length bodies) answers fault
+    pub stops : StopsAfter longest (remaining reader) (remaining reader') bodies answers fault
 
   -- the messages, the outcome and the exchanges of a batch over an open connection
-  abbrev pub Carries : R → W → List (List ℕ) → BatchOutcome → List Exchange → R → W → Type 0
-  Carries reader writer bodies (Ok answers) exchanges reader' writer' =
-      AreAnswered reader writer bodies answers reader' writer' × (exchanges ≡ answered bodies answers)
-  Carries reader writer bodies (Err fault) exchanges reader' writer' = (answers : List (List ℕ)) × (exchanges ≡ cut_short bodies answers fault)
-      × (AreUnsent reader writer bodies answers fault reader' writer' ⊎ AreCutShort reader writer bodies answers fault reader' writer')
+  abbrev pub Carries : (List ℕ → ℕ) → R → W → List (List ℕ) → BatchOutcome → List Exchange → R → W → Type 0
+  Carries longest reader writer bodies (Ok answers) exchanges reader' writer' =
+      AreAnswered longest reader writer bodies answers reader' writer' × (exchanges ≡ answered bodies answers)
+  Carries longest reader writer bodies (Err fault) exchanges reader' writer' = (answers : List (List ℕ)) × (exchanges ≡ cut_short bodies answers fault)
+      × (AreUnsent reader writer bodies answers fault reader' writer' ⊎ AreCutShort longest reader writer bodies answers fault reader' writer')
 
   -- a batch
   pub record StreamBatch (l : Connection R W) (bodies : List (List ℕ)) (o : BatchOutcome) (exchanges : List Exchange) (m : Connection R W) : Type 0 where
     pub closed : m.closed ≡ (l.closed || is_err o)
-    pub carried : MatchBool l.closed (IsClosed l o exchanges m) (Carries l.reader l.writer bodies o exchanges m.reader m.writer)
+    pub disk : m.disk ≡ l.disk
+    pub carried : MatchBool l.closed (IsClosed l o exchanges m) (Carries (longest_answer l.disk) l.reader l.writer bodies o exchanges m.reader m.writer)

@@ -1,15 +1,16 @@
 //! A connection that sends messages to a host ahead of its answers.
-ghost use Rattle.std.specs.Prelude.{◌≡◌, ◌+◌, ◌<◌, ◌≤◌, ℕ, None, IfErr, IfOk, MatchBool, OnOk};
+ghost use Rattle.std.specs.Prelude.{◌≡◌, ◌+◌, ◌<◌, ◌≤◌, ℕ, length, None, IfErr, IfOk, MatchBool, OnOk};
 ghost use Rattle.std.specs.Io.KnownBytes.{Appends, Consumes, Keeps};
 ghost use Rattle.oram_wire.specs.FrameStream.{frame};
 ghost use Rattle.oram_wire.specs.HostMessages.{done_answer, fetch_body};
 ghost use Rattle.oram_client.specs.Ahead.{GivesNone, HasAnswer, HasNoAnswer, IsDrained, IsStopped, IsUndone, IsUnsent, most_due};
 
+use crate::answer_lengths::REFUSAL;
 use crate::refusals::Refusal;
 use oram_geometry::Device;
 use oram_wire::{
-    FrameFault, LONGEST_BODY, Sink, SinkFault, WriteFault, fetch_header, is_done, next_frame,
-    put_frame,
+    FrameFault, LONGEST_BODY, Sink, SinkFault, WriteFault, fetch_header, is_done,
+    next_frame_within, put_frame,
 };
 use std::alloc::Global;
 use std::io::{Read, Write};
@@ -123,13 +124,15 @@ impl<R: Read, W: Write, P> Ahead<R, W, P> {
         }
     }
 
-    /// Reads the next answer.
-    fn receive(&mut self) -> Result<Vec<u8>, SinkFault>
+    /// Reads the next answer. Of an answer longer than `longest` it reads only the length, and then it fails with `Link`.
+    fn receive(&mut self, longest: usize) -> Result<Vec<u8>, SinkFault>
+        requires { longest ≤ LONGEST_BODY }
         ensures ok { IfOk result (λ v. Consumes (R.remaining self.old.reader) (R.remaining self.new.reader) (frame v.items)) }
-        ensures err { IfErr result (λ fault. GivesNone (R.remaining self.old.reader) (R.remaining self.new.reader) fault) }
+        ensures within { IfOk result (λ v. length v.items ≤ longest) }
+        ensures err { IfErr result (λ fault. GivesNone longest (R.remaining self.old.reader) (R.remaining self.new.reader) fault) }
         ensures same { (self.new.writer ≡ self.old.writer) × (self.new.due ≡ self.old.due) }
     {
-        match next_frame(self.alloc, &mut self.reader) {
+        match next_frame_within(self.alloc, &mut self.reader, longest) {
             Ok(Some(body)) => Ok(body),
             Ok(None) => Err(SinkFault::Link),
             Err(FrameFault::Read) => Err(SinkFault::Link),
@@ -139,14 +142,17 @@ impl<R: Read, W: Write, P> Ahead<R, W, P> {
         }
     }
 
-    /// Fetches the path to leaf 0 of a tree and returns the host's answer. Call only while no other answer is due.
-    pub(crate) fn fetch(&mut self, tree: u8) -> Result<Vec<u8>, SinkFault>
+    /// Fetches the path to leaf 0 of a tree and returns the host's answer. Fails with `Link` if that is longer than `longest`. Call only
+    /// while no other answer is due.
+    pub(crate) fn fetch(&mut self, tree: u8, longest: usize) -> Result<Vec<u8>, SinkFault>
+        requires { longest ≤ LONGEST_BODY }
         ensures ok { IfOk result (λ v. HasAnswer R.remaining W.contents self.old (fetch_body tree 0) v.items self.new) }
-        ensures err { IfErr result (λ fault. HasNoAnswer R.remaining W.contents self.old (fetch_body tree 0) fault self.new) }
+        ensures within { IfOk result (λ v. length v.items ≤ longest) }
+        ensures err { IfErr result (λ fault. HasNoAnswer R.remaining W.contents longest self.old (fetch_body tree 0) fault self.new) }
     {
         self.send(&fetch_header(tree, 0))?;
         self.flush()?;
-        self.receive()
+        self.receive(longest)
     }
 }
 
@@ -159,7 +165,7 @@ impl<R: Read, W: Write, P: Progress> Ahead<R, W, P> {
         ensures same { self.new.writer ≡ self.old.writer }
         ensures err { IfErr result (λ fault. IsUndone R.remaining W.contents self.old fault self.new) }
     {
-        let answer = self.receive()?;
+        let answer = self.receive(REFUSAL)?;
         if !is_done(&answer) {
             self.refusal = Some(Refusal::of(&answer));
             return Err(SinkFault::Refused);

@@ -8,6 +8,7 @@ ghost use Rattle.oram_client.specs.Ahead.{HasAnswer};
 ghost use Rattle.oram_client.specs.Formatting.{AreSeen, AreTreesMade, AreTreesMadeInPart, IsFormattedAhead, IsFormattedInPart, IsUnheld, IsUnseen};
 
 use crate::ahead::{Ahead, Progress};
+use crate::answer_lengths::path_answer_len;
 use crate::faults::FormattingFault;
 use crate::identity::{check_identity, put_own};
 use crate::keys::Identity;
@@ -35,7 +36,7 @@ fn check_tree<R: Read, W: Write, P>(
         × IsAccepted (path_of device.now tree 0 overhead records) root.now) }
     ensures err { IfErr result (λ fault. IsUnheld R.remaining W.contents device.now overhead root.now tree ahead.old fault ahead.new) }
 {
-    let answer = match ahead.fetch(tree) {
+    let answer = match ahead.fetch(tree, path_answer_len(device, overhead, tree)) {
         Ok(answer) => answer,
         Err(fault) => return Err(ahead.formatting_fault(fault)),
     };

@@ -6,6 +6,7 @@ ghost use Rattle.oram_client.specs.StampMessages.{stamp_messages, stamp_node, st
 ghost use Rattle.oram_client.specs.Identity.{AreUntakenInTurn, AreUntakenThree, IsUnnamed, IsUnowned, IsUnrecognized, IsUnstamped, identity_messages, own_messages};
 
 use crate::ahead::{Ahead, Progress};
+use crate::answer_lengths::IDENTITY_ANSWER;
 use crate::faults::FormattingFault;
 use crate::keys::Identity;
 use oram_bytes::Bytes;
@@ -194,7 +195,7 @@ pub(crate) fn check_identity<R: Read, W: Write, P>(
     ensures ok { OnOk result (HasAnswer R.remaining W.contents ahead.old (fetch_body IDENTITY_TREE 0) (payload_answer identity.now.0) ahead.new) }
     ensures err { IfErr result (λ fault. IsUnrecognized R.remaining W.contents identity.now.0 ahead.old fault ahead.new) }
 {
-    let answer = match ahead.fetch(IDENTITY_TREE) {
+    let answer = match ahead.fetch(IDENTITY_TREE, IDENTITY_ANSWER) {
         Ok(answer) => answer,
         Err(fault) => return Err(ahead.formatting_fault(fault)),
     };

@@ -13,6 +13,7 @@
 #![tactic(auto)]
 
 mod ahead;
+mod answer_lengths;
 mod deed_history;
 mod dialer;
 mod disk_format;
@@ -34,6 +35,7 @@ mod tcp_dialer;
 mod timed_link;
 
 pub use ahead::{Ahead, Progress};
+pub use answer_lengths::AnswerLengths;
 pub use deed_history::DeedHistory;
 pub use dialer::{Dial, HostWatch, Limits, Trouble};
 pub use disk_format::format_ahead;

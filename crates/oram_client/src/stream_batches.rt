@@ -1,23 +1,24 @@
 //! Batches of messages over a reader and a writer.
-ghost use Rattle.std.specs.Prelude.{◌≡◌, ◌++◌, ◌∷◌, [], ℕ, List, length, IfOk, IfErr, OnOk};
+ghost use Rattle.std.specs.Prelude.{◌≡◌, ◌≤◌, ◌++◌, ◌∷◌, [], ℕ, List, length, IfOk, IfErr, OnOk};
 ghost use Rattle.std.specs.List.{All, flat_map};
 ghost use Rattle.oram_wire.specs.FrameStream.{IsBody, frame};
 ghost use Rattle.oram_session.specs.Outcome.{outcome_of};
-ghost use Rattle.oram_session.specs.Streams.{Receives};
 ghost use Rattle.oram_link_laws.specs.Runs.{Exchange};
 ghost use Rattle.oram_rounds.specs.Batches.{batch_outcome_of, texts};
-ghost use Rattle.oram_client.specs.StreamBatches.{AreSent, AreUnframed, Carries, FailsToSendAll, GivesFrames, StopsAfter, StreamBatch, connection};
+ghost use Rattle.oram_client.specs.AnswerLengths.{longest_answer};
+ghost use Rattle.oram_client.specs.StreamBatches.{AreAdded, AreReceived, AreSent, AreUnframed, Carries, FailsToSendAll, ReceivesWithin, StopsAfter, StreamBatch, connection};
 
+use crate::answer_lengths::AnswerLengths;
 use oram_rounds::BatchLink;
 use oram_session::LinkFault;
-use oram_wire::{FrameFault, LONGEST_BODY, WriteFault, next_frame, write};
+use oram_wire::{FrameFault, LONGEST_BODY, WriteFault, next_frame_within, write};
 use std::alloc::{AllocError, Global};
 use std::io::{Read, Write};
 use std::marker::Model;
 
 /// A connection to a host at the other end of a reader and a writer. A batch is written in one piece, each message as a
-/// frame, and flushed; then its answers are read, a frame each. Any fault closes the connection: from then on each
-/// batch fails with `Closed`, and nothing is read or written.
+/// frame, and flushed; then its answers are read, a frame each. An answer that is longer than an honest host's is refused once its
+/// length is read. Any fault closes the connection: from then on each batch fails with `Closed`, and nothing is read or written.
 ///
 /// All messages are written before the first answer is read. This doesn't block both sides: of a client's messages only
 /// the STOREs are long, and a host answers each of them with a frame of five or six bytes, which its socket holds for
@@ -27,6 +28,7 @@ use std::marker::Model;
 pub struct StreamBatches<R, W> {
     reader: R,
     writer: W,
+    lengths: AnswerLengths,
     closed: bool,
 }
 
@@ -35,17 +37,19 @@ impl<R, W> Model for StreamBatches<R, W> {
 
     ghost Value = { Connection R W };
 
-    ghost view = { λ l. record { reader = l.reader; writer = l.writer; closed = l.closed } };
+    ghost view = { λ l. record { reader = l.reader; writer = l.writer; disk = l.lengths; closed = l.closed } };
 }
 
 impl<R, W> StreamBatches<R, W> {
-    /// Makes a connection that sends messages to `writer` and receives answers from `reader`. Allocates nothing.
-    pub fn new(_alloc: Global, reader: R, writer: W) -> StreamBatches<R, W>
-        ensures { result ≡ connection reader writer }
+    /// Makes a connection that sends messages to `writer` and receives answers from `reader`, none of them longer than `lengths`
+    /// allows. Allocates nothing.
+    pub fn new(_alloc: Global, reader: R, writer: W, lengths: AnswerLengths) -> StreamBatches<R, W>
+        ensures { result ≡ connection reader writer lengths }
     {
         StreamBatches {
             reader,
             writer,
+            lengths,
             closed: false,
         }
     }
@@ -152,11 +156,13 @@ fn send_all<W: Write>(
     Ok(())
 }
 
-/// Receives the next frame and returns its body.
-fn receive<R: Read>(alloc: Global, reader: &mut R) -> Result<Vec<u8>, LinkFault>
-    ensures { Receives (R.remaining reader.old) (R.remaining reader.new) (outcome_of result) }
+/// Receives the next frame and returns its body. Of an answer longer than `longest` it reads only the length, and then it fails
+/// with `TooLong`.
+fn receive<R: Read>(alloc: Global, reader: &mut R, longest: usize) -> Result<Vec<u8>, LinkFault>
+    requires { longest ≤ LONGEST_BODY }
+    ensures { ReceivesWithin longest (R.remaining reader.old) (R.remaining reader.new) (outcome_of result) }
 {
-    match next_frame(alloc, reader) {
+    match next_frame_within(alloc, reader, longest) {
         Ok(Some(body)) => Ok(body),
         Ok(None) | Err(FrameFault::Truncated) => Err(LinkFault::Closed),
         Err(FrameFault::Read) => Err(LinkFault::Io),
@@ -176,21 +182,58 @@ fn push(answers: &mut Vec<Vec<u8>>, answer: Vec<u8>) -> Result<(), LinkFault>
     }
 }
 
-/// Receives `count` frames and returns their bodies.
+/// Receives an answer to each of the messages, and adds it to a list.
+fn receive_each<R: Read>(
+    alloc: Global,
+    reader: &mut R,
+    lengths: &AnswerLengths,
+    bodies: &[Vec<u8>],
+    answers: &mut Vec<Vec<u8>>,
+) -> Result<(), LinkFault>
+    ensures ok { OnOk result (AreAdded (longest_answer lengths.now) (R.remaining reader.old) (R.remaining reader.new) (texts bodies.now) (texts answers.old.items) (texts answers.new.items)) }
+    ensures err { IfErr result (λ fault. (more : List (List ℕ)) × StopsAfter (longest_answer lengths.now) (R.remaining reader.old) (R.remaining reader.new) (texts bodies.now) more fault) }
+{
+    for body in bodies {
+        let answer = receive(alloc, reader, lengths.longest(body))?;
+        push(answers, answer)?;
+    }
+    Ok(())
+}
+
+/// Receives an answer to each of the messages of both lists, and adds it to a list.
+fn receive_both<R: Read>(
+    alloc: Global,
+    reader: &mut R,
+    lengths: &AnswerLengths,
+    first: &[Vec<u8>],
+    last: &[Vec<u8>],
+    answers: &mut Vec<Vec<u8>>,
+) -> Result<(), LinkFault>
+    ensures ok { OnOk result (AreAdded (longest_answer lengths.now) (R.remaining reader.old) (R.remaining reader.new) (texts first.now ++ texts last.now) (texts answers.old.items) (texts answers.new.items)) }
+    ensures err { IfErr result (λ fault. (more : List (List ℕ)) × StopsAfter (longest_answer lengths.now) (R.remaining reader.old) (R.remaining reader.new) (texts first.now ++ texts last.now) more fault) }
+{
+    receive_each(alloc, reader, lengths, first, answers)?;
+    receive_each(alloc, reader, lengths, last, answers)
+}
+
+/// Receives an answer to each of the messages of all four lists.
 fn receive_all<R: Read>(
     alloc: Global,
     reader: &mut R,
-    count: usize,
+    lengths: &AnswerLengths,
+    before: &[Vec<u8>],
+    first: &[Vec<u8>],
+    between: &[Vec<u8>],
+    last: &[Vec<u8>],
 ) -> Result<Vec<Vec<u8>>, LinkFault>
-    ensures count { IfOk result (λ answers. length (texts answers.items) ≡ count) }
-    ensures ok { IfOk result (λ answers. GivesFrames (R.remaining reader.old) (R.remaining reader.new) (texts answers.items)) }
-    ensures err { IfErr result (λ fault. (answers : List (List ℕ)) × StopsAfter (R.remaining reader.old) (R.remaining reader.new) count answers fault) }
+    ensures ok { IfOk result (λ answers. AreReceived (longest_answer lengths.now) (R.remaining reader.old) (R.remaining reader.new)
+        ((texts before.now ++ texts first.now) ++ (texts between.now ++ texts last.now)) (texts answers.items)) }
+    ensures err { IfErr result (λ fault. (answers : List (List ℕ)) × StopsAfter (longest_answer lengths.now) (R.remaining reader.old) (R.remaining reader.new)
+        ((texts before.now ++ texts first.now) ++ (texts between.now ++ texts last.now)) answers fault) }
 {
     let mut answers = Vec::new(alloc);
-    for _ in 0..count {
-        let answer = receive(alloc, reader)?;
-        push(&mut answers, answer)?;
-    }
+    receive_both(alloc, reader, lengths, before, first, &mut answers)?;
+    receive_both(alloc, reader, lengths, between, last, &mut answers)?;
     Ok(answers)
 }
 
@@ -199,20 +242,17 @@ fn carry<R: Read, W: Write>(
     alloc: Global,
     reader: &mut R,
     writer: &mut W,
+    lengths: &AnswerLengths,
     before: &[Vec<u8>],
     first: &[Vec<u8>],
     between: &[Vec<u8>],
     last: &[Vec<u8>],
 ) -> Result<Vec<Vec<u8>>, LinkFault>
-    ensures { (exchanges : List Exchange) × Carries R.remaining W.contents
+    ensures { (exchanges : List Exchange) × Carries R.remaining W.contents (longest_answer lengths.now)
         reader.old writer.old ((texts before.now ++ texts first.now) ++ (texts between.now ++ texts last.now)) (batch_outcome_of result) exchanges reader.new writer.new }
 {
     send_all(alloc, writer, before, first, between, last)?;
-    receive_all(
-        alloc,
-        reader,
-        before.len() + first.len() + between.len() + last.len(),
-    )
+    receive_all(alloc, reader, lengths, before, first, between, last)
 }
 
 impl<R: Read, W: Write> StreamBatches<R, W> {
@@ -235,6 +275,7 @@ impl<R: Read, W: Write> StreamBatches<R, W> {
             alloc,
             &mut self.reader,
             &mut self.writer,
+            &self.lengths,
             before,
             first,
             between,

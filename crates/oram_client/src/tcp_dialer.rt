@@ -14,6 +14,7 @@ ghost use Rattle.oram_client.specs.Dialer as spec;
 ghost use Rattle.oram_wire.specs.declared.host_messages.HostAnswer.TheVariants.{Payload};
 ghost use Rattle.oram_client.specs.Dialer.{Shows, IsGreetedOver, IsUngreetedOver};
 
+use crate::answer_lengths::AnswerLengths;
 use crate::dialer::{Dial, Limits, Trouble};
 use crate::identity::{IDENTITY_TREE, STAMP_TREE, stamp_message};
 use crate::reconnect_link::elapsed;
@@ -51,6 +52,7 @@ pub struct TcpDialer<R> {
     /// The key of the disk's stamps.
     key: StampKey,
     known: Known,
+    lengths: AnswerLengths,
 }
 
 impl<R> Model for TcpDialer<R> {
@@ -59,20 +61,21 @@ impl<R> Model for TcpDialer<R> {
 
     ghost Value = { Destination };
 
-    ghost view = { λ d. record { address = string_bytes d.address; identity = d.identity; key = d.key.0; known = d.known } };
+    ghost view = { λ d. record { address = string_bytes d.address; identity = d.identity; key = d.key.0; known = d.known; disk = d.lengths } };
 }
 
 impl<R> TcpDialer<R> {
     /// Makes a dialer for the host at `address`, which is an IP address and a port, or `unix:` and the path of a socket. The
-    /// host has to keep the disk with `identity`, whose stamps have this key.
+    /// host has to keep the disk with `identity`, whose stamps have this key, and to give no answer that is longer than `lengths` allows.
     pub fn new(
         rt: R,
         address: String,
         identity: [u8; 32],
         key: StampKey,
         known: Known,
+        lengths: AnswerLengths,
     ) -> TcpDialer<R>
-        ensures { result ≡ record { address = string_bytes address; identity = identity; key = key.0; known = known } }
+        ensures { result ≡ record { address = string_bytes address; identity = identity; key = key.0; known = known; disk = lengths } }
     {
         TcpDialer {
             rt,
@@ -80,6 +83,7 @@ impl<R> TcpDialer<R> {
             identity,
             key,
             known,
+            lengths,
         }
     }
 }
@@ -117,14 +121,15 @@ fn greet<S: Read + Write, C: Clock + Copy>(
     writer: S,
     clock: C,
     limit: u64,
+    lengths: AnswerLengths,
     identity: &[u8; 32],
 ) -> Result<TimedLink<S, C>, Trouble>
 where
     S: Drop,
-    ensures ok { IfOk result (λ line. IsGreetedOver S.remaining S.contents reader writer identity.now line) }
-    ensures err { IfErr result (λ trouble. IsUngreetedOver S.remaining S.contents reader writer identity.now trouble) }
+    ensures ok { IfOk result (λ line. IsGreetedOver S.remaining S.contents reader writer lengths identity.now line) }
+    ensures err { IfErr result (λ trouble. IsUngreetedOver S.remaining S.contents reader writer lengths identity.now trouble) }
 {
-    let mut line = TimedLink::new(alloc, reader, writer, clock, limit)?;
+    let mut line = TimedLink::new(alloc, reader, writer, clock, limit, lengths)?;
     match line.call_all(alloc, &[], &[greeting(alloc)?]) {
         Ok(answers) => match judge(&answers[0], identity) {
             Ok(()) => Ok(line),
@@ -337,7 +342,16 @@ impl<R: Net + Clock + Copy> Dial for TcpDialer<R> {
             .saturating_sub(elapsed(begin, self.now()))
             .max(1);
         limit_silence(&both, Duration::from_millis(left.min(limits.silence)))?;
-        match greet(alloc, reader, writer, self.rt, left, &self.identity) {
+        let lengths = self.lengths.copy();
+        match greet(
+            alloc,
+            reader,
+            writer,
+            self.rt,
+            left,
+            lengths,
+            &self.identity,
+        ) {
             Ok(mut line) => match self.compare(alloc, &mut line, &both, limits.silence) {
                 Ok(()) => {
                     line.set_limit(limits.batch);

@@ -4,6 +4,7 @@ ghost use Rattle.oram_link_laws.specs.Runs.{Exchange};
 ghost use Rattle.oram_rounds.specs.Batches.{batch_outcome_of, texts};
 ghost use Rattle.oram_client.specs.StreamBatches.{StreamBatch, connection};
 
+use crate::answer_lengths::AnswerLengths;
 use crate::stream_batches::StreamBatches;
 use oram_rounds::BatchLink;
 use oram_session::LinkFault;
@@ -95,18 +96,19 @@ impl<S, C> Model for TimedLink<S, C> {
 }
 
 impl<S, C: Copy> TimedLink<S, C> {
-    /// Makes a link over the two halves of a connection. Each batch may take `limit` milliseconds, and fails after that.
-    /// Fails if memory runs out.
+    /// Makes a link over the two halves of a connection, which takes no answer that is longer than `lengths` allows. Each batch may
+    /// take `limit` milliseconds, and fails after that. Fails if memory runs out.
     pub fn new(
         alloc: Global,
         reader: S,
         writer: S,
         clock: C,
         limit: u64,
+        lengths: AnswerLengths,
     ) -> Result<TimedLink<S, C>, LinkFault>
     where
         S: Drop,
-        ensures ok { IfOk result (λ l. l ≡ connection reader writer) }
+        ensures ok { IfOk result (λ l. l ≡ connection reader writer lengths) }
         ensures err { IfErr result (λ fault. fault ≡ LinkFault.OutOfMemory) }
     {
         let Ok(ends) = Rc::new(alloc, Cell::new(u64::MAX)) else {
@@ -123,7 +125,7 @@ impl<S, C: Copy> TimedLink<S, C> {
             ends: ends.clone()?,
         };
         Ok(TimedLink {
-            line: StreamBatches::new(alloc, reader, writer),
+            line: StreamBatches::new(alloc, reader, writer, lengths),
             clock,
             limit,
             ends,

@@ -3,7 +3,9 @@
 use crate::clients::{ClientAttendant, ClientLook, Dismissal};
 use crate::watched_disk::{FailureKeeper, WatchedDisk};
 use oram_bucket::{ChaChaSeal, PlainSeal, Sealer};
-use oram_client::{FileKeeper, FilePlace, HostWatch, Keys, ReconnectLink, SealerKind, TcpDialer};
+use oram_client::{
+    AnswerLengths, FileKeeper, FilePlace, HostWatch, Keys, ReconnectLink, SealerKind, TcpDialer,
+};
 use oram_core::{Core, Reason};
 use oram_disk_client::{
     disk_in, host_fault, keep_failure, kept_failure, kept_in, keys_in, named, process_for,
@@ -301,17 +303,18 @@ fn serve_volume<S: Sealer>(
 }
 
 /// Makes the link to the host that the settings name. The link works only if that host keeps the disk with these keys, and shows
-/// stamps that it may have by what is known of them.
+/// stamps that it may have by what is known of them. It takes no answer that is longer than `lengths` allows.
 fn link_to<'a>(
     rt: &'a HostRuntime,
     settings: &DiskSettings,
     keys: &Keys,
     known: Known,
+    lengths: AnswerLengths,
 ) -> Result<HostLink<'a>, AllocError> {
     let alloc = rt.alloc();
     let host = settings.host.as_str();
     let address = String::from_str(alloc, host)?;
-    let dialer = TcpDialer::new(rt, address, keys.identity.0, keys.stamps, known);
+    let dialer = TcpDialer::new(rt, address, keys.identity.0, keys.stamps, known, lengths);
     let watch = HostStatusPrinter {
         rt,
         host: String::from_str(alloc, host)?,
@@ -360,7 +363,7 @@ fn reached<'a, S: Sealer>(
 ) -> Result<(Core<S>, RoundLink<HostLink<'a>>), Fault> {
     let alloc = rt.alloc();
     let known = known_in(alloc, settings, keys, &kept)?;
-    let mut link = link_to(rt, settings, keys, known)?;
+    let mut link = link_to(rt, settings, keys, known, AnswerLengths::of(&kept.core))?;
     check_host(alloc, &mut link, settings)?;
     let KeptCore { stores, core, .. } = kept;
     let device = core.device().copy();

@@ -2,12 +2,19 @@
 
 use crate::far_end::{Answers, FarEnd, HostBehaviour, Messages};
 use crate::links::write_answers;
-use oram_client::{Dial, HostWatch, Limits, ReconnectLink, StreamBatches, Trouble};
+use oram_client::{AnswerLengths, Dial, HostWatch, Limits, ReconnectLink, StreamBatches, Trouble};
+use oram_geometry::Device;
 use oram_rounds::BatchLink;
 use oram_session::LinkFault;
 use rows::{Page, RowFault, RowWords};
 use std::alloc::{AllocError, Global};
 use std::cell::RefCell;
+
+/// Returns how long the answers of the host of a disk of one block are. A path has one record of 88 bytes.
+fn lengths() -> Option<AnswerLengths> {
+    let device = Device::new(1, 16, 1, 1, 1).ok()?;
+    Some(AnswerLengths::new(device, 0))
+}
 
 /// Opens connections to one host. A digit for each says how many answers the host gives over it, in order.
 #[derive(Drop)]
@@ -51,7 +58,10 @@ impl<'a> Dial for Connections<'a> {
             return Err(Trouble::OutOfReach(LinkFault::Io));
         };
         far.reopen(u64::from(digit.saturating_sub(b'0')));
-        Ok(StreamBatches::new(alloc, Answers(self.far), Messages(self.far)))
+        let Some(lengths) = lengths() else {
+            return Err(Trouble::OutOfReach(LinkFault::Io));
+        };
+        Ok(StreamBatches::new(alloc, Answers(self.far), Messages(self.far), lengths))
     }
 
     fn carry(
@@ -155,4 +165,20 @@ pub fn refused(alloc: Global, words: &mut RowWords, page: &mut Page) -> Result<(
     let digits = words.text().as_bytes();
     let far = RefCell::new(FarEnd::new(alloc, 0, conduct));
     send_and_count(alloc, &far, digits, words, page)
+}
+
+/// `link long LENGTH MESSAGE`: over a connection comes the length of an answer of LENGTH bytes, and then the connection ends. Writes why
+/// the message has no answer.
+pub fn long(alloc: Global, words: &mut RowWords, page: &mut Page) -> Result<(), RowFault> {
+    let Some(lengths) = lengths() else {
+        return Err(RowFault::NoRow);
+    };
+    let head = (words.number() as u32).to_be_bytes();
+    let far = RefCell::new(FarEnd::new(alloc, 0, HostBehaviour::Honest));
+    let mut line = StreamBatches::new(alloc, head.as_slice(), Messages(&far), lengths);
+    let outcome = line.call_all(alloc, &[], &words.bodies(alloc));
+    if far.try_borrow().is_ok_and(|far| far.lacks_memory()) {
+        return Err(RowFault::OutOfMemory);
+    }
+    write_answers(outcome, page)
 }

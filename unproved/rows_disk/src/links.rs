@@ -363,6 +363,7 @@ pub fn answer(
         "plays" => plays(alloc, words, page),
         "talks" => batches::talks(alloc, words, page),
         "refused" => batches::refused(alloc, words, page),
+        "long" => batches::long(alloc, words, page),
         _ => Err(RowFault::NoRow),
     }
 }

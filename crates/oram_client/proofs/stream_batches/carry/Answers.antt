@@ -1,8 +1,9 @@
 use Rattle.std.proofs.Common.{[], ◌++◌, inl, refl}
 use Rattle.std.proofs.lemmas.Result.{err_from_is_err_and}
 use Rattle.oram_rounds.specs.Batches.{texts}
+use Rattle.oram_client.specs.AnswerLengths.{longest_answer}
 use Rattle.oram_client.specs.StreamBatches.{cut_short}
-use Rattle.oram_client.proofs.Carried.{carried, count_four}
+use Rattle.oram_client.proofs.Carried.{carried}
 use Rattle.oram_client.proofs.stream_batches.carry.Goals as goal
 
 pub returns-in_err-send_all : goal.returns-in_err-send_all
@@ -24,6 +25,5 @@ returns-in_err-send_all g c =
 
 pub returns : goal.returns
 returns g c =
-    carried g.R.Read.remaining g.W.Write.contents c.receive_all.result ((texts c.args.before.now ++ texts c.args.first.now) ++ (texts c.args.between.now ++ texts c.args.last.now)) _
-    c.args.reader.now c.receive_all.new.reader c.args.writer.now c.send_all.new.writer (count_four c.args.before.now c.args.first.now c.args.between.now c.args.last.now)
-    c.in_ok-send_all.ensures.ok c.receive_all.ensures.count c.receive_all.ensures.ok c.receive_all.ensures.err
+    carried g.R.Read.remaining g.W.Write.contents c.receive_all.result ((texts c.args.before.now ++ texts c.args.first.now) ++ (texts c.args.between.now ++ texts c.args.last.now)) (longest_answer c.args.lengths.now)
+    c.args.reader.now c.receive_all.new.reader c.args.writer.now c.send_all.new.writer c.in_ok-send_all.ensures.ok c.receive_all.ensures.ok c.receive_all.ensures.err

@@ -11,7 +11,7 @@ returns-in-Err-judge-clause-err g c =
     let answers = texts c.in-Ok.answers.items in
     let called = c.in-Ok.ensures in
     let batch = streams_are_batches g.S.Read.remaining g.S.Write.contents c.in_ok-line.line c.call_all.new.self (message ∷ []) (Ok answers) called.0 called.1 in
-    another g.S.Read.remaining g.S.Write.contents c.args.reader c.args.writer c.in_ok-line.line c.call_all.new.self (message ∷ [])
+    another g.S.Read.remaining g.S.Write.contents c.args.reader c.args.writer c.args.lengths c.in_ok-line.line c.call_all.new.self (message ∷ [])
     c.args.identity.now c.index.result.now.items answers called.0 c.in-Err-judge.trouble c.in_ok-line.ensures.ok
     (ap (λ (m : List ℕ). m ∷ []) c.in_ok-greeting.ensures.ok) called.1
     (only c.in-Ok.answers.items c.index.result.now batch.0 c.index.ensures)
@@ -20,6 +20,6 @@ returns-in-Err-judge-clause-err g c =
 pub returns-in-Err-clause-err : goal.returns-in-Err-clause-err
 returns-in-Err-clause-err g c =
     let message = c.in_ok-greeting.field-0.items in
-    none g.S.Read.remaining g.S.Write.contents c.args.reader c.args.writer c.in_ok-line.line c.call_all.new.self (message ∷ [])
+    none g.S.Read.remaining g.S.Write.contents c.args.reader c.args.writer c.args.lengths c.in_ok-line.line c.call_all.new.self (message ∷ [])
     c.args.identity.now c.in-Err.ensures.0 c.in-Err.fault c.in_ok-line.ensures.ok
     (ap (λ (m : List ℕ). m ∷ []) c.in_ok-greeting.ensures.ok) c.in-Err.ensures.1

@@ -16,7 +16,7 @@ use Rattle.oram_client.proofs.tcp_dialer.TcpDialer.carry_stamped.Goals as goal
 pub returns : goal.returns
 returns g c =
     let inside = c.self.inside in
-    let d : Destination = record { address = string_bytes inside.address; identity = inside.identity; key = inside.key.0; known = inside.known } in
+    let d : Destination = record { address = string_bytes inside.address; identity = inside.identity; key = inside.key.0; known = inside.known; disk = inside.lengths } in
     let e = c.learn_outcome.new.self in
     let came = attempt_of c.learn_outcome.result in
     let first = texts c.args.first.now in

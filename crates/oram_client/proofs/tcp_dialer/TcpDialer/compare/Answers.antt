@@ -1,7 +1,8 @@
 use Rattle.std.proofs.Common.{◌≡◌, ℕ, List, inl, refl, ap, subst}
 use Rattle.oram_sockets.specs.Connections.{bytes_of}
 use Rattle.oram_client.specs.Dialer.{Destination}
-use Rattle.oram_client.specs.Stamped.{GivesNoStamps}
+use Rattle.oram_client.specs.Stamped.{GivesNoStamps, GivesStamps}
+use Rattle.oram_client.proofs.Greeted.{mismatched}
 use Rattle.oram_client.proofs.tcp_dialer.TcpDialer.compare.Goals as goal
 
 pub returns-in-Err-clause-err : goal.returns-in-Err-clause-err
@@ -11,3 +12,10 @@ returns-in-Err-clause-err g c =
     let none = subst (λ (key : List ℕ). GivesNoStamps (bytes_of g.R.Stream.Read.remaining) (bytes_of g.R.Stream.Write.contents) key c.args.line.now c.in-Err.trouble c.ask_stamps.new.line)
     (ap (λ (d : Destination). d.key) c.self.view_is) c.in-Err.ensures.err in
     (refl, inl (c.ask_stamps.new.line, none))
+
+pub returns-in-Ok-limit_silence-clause-err : goal.returns-in-Ok-limit_silence-clause-err
+returns-in-Ok-limit_silence-clause-err g c =
+    let gives = subst (λ (key : List ℕ). GivesStamps (bytes_of g.R.Stream.Read.remaining) (bytes_of g.R.Stream.Write.contents) key c.args.line.now c.in-Ok.shown c.ask_stamps.new.line)
+    (ap (λ (d : Destination). d.key) c.self.view_is) c.in-Ok.ensures.ok in
+    mismatched (bytes_of g.R.Stream.Read.remaining) (bytes_of g.R.Stream.Write.contents) c.args.self.now c.take_over.new.self c.args.line.now c.ask_stamps.new.line c.in-Ok.shown c.take_over.result
+    gives c.take_over.ensures.err
