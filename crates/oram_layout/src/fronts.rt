@@ -16,11 +16,11 @@ pub(crate) const LETTERS_LEN: usize = 16;
 const NAME_LEN: usize = 8;
 
 /// The version of both files.
-const VERSION: u64 = 2;
+const VERSION: u64 = 3;
 
-const LETTERS: [u8; 16] = *b"VIDLAQEB\x02\0\0\0\0\0\0\0";
+const LETTERS: [u8; 16] = *b"VIDLAQEB\x03\0\0\0\0\0\0\0";
 
-const LOG_LETTERS: [u8; 16] = *b"VIDLAQEL\x02\0\0\0\0\0\0\0";
+const LOG_LETTERS: [u8; 16] = *b"VIDLAQEL\x03\0\0\0\0\0\0\0";
 
 const SQLITE_LETTERS: [u8; 16] = *b"SQLite format 3\0";
 

@@ -146,7 +146,7 @@ impl Redo {
     // Returns the batch's entries with a shut gate after them, and the place of that gate.
     fn spell(&self, alloc: Global, batch: &[Patch]) -> Result<(Vec<u8>, u64), RedoError>
         requires { All (Fits (bounds_of self.now)) (patches_of batch.now) }
-        ensures body { IfOk result (λ spelled. spelled.0.items ≡ entries (patches_of batch.now) ++ 0 ∷ []) }
+        ensures body { IfOk result (λ spelled. spelled.0.items ≡ entries (patches_of batch.now) ++ 15 ∷ []) }
         ensures end { IfOk result (λ spelled. spelled.1 ≡ self.now.end + length (entries (patches_of batch.now))) }
         ensures within { IfOk result (λ spelled. spelled.1 < self.now.bounds.log_end) }
         ensures in_range { IfOk result (λ spelled. spelled.1 < 2 ^ 64) }

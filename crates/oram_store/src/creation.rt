@@ -20,7 +20,7 @@ use crate::store::FileStore;
 use oram_layout::{
     ENTRY_LEN, Identity, TREES, Tree, entry_place, front_of, log_front_of, read_trees,
 };
-use oram_redo::{FileKind, FilePair, Redo, recover};
+use oram_redo::{FileKind, FilePair, Redo, SHUT, recover};
 use std::alloc::Global;
 
 /// Turns two empty files into a store without trees, with this identity. After `Ok` they are on the disk. After `Err`
@@ -29,6 +29,9 @@ pub fn create<F: FilePair>(files: &mut F, identity: &Identity) -> Result<(), Sto
     requires { (file : _) (i : ℕ) → F.model.seen files.old file i ≡ 0 }
     ensures records { OnOk result (IsBucketFile (replicate 256 None) (F.model.seen files.new Records)) }
     ensures log { OnOk result (IsLog bounds [] (F.model.seen files.new Log)) }
+
+    // The first gate is there and shut: a log without it counts as cut off.
+    ensures gate { OnOk result (F.model.seen files.new Log bounds.log_start ≡ 15) }
 
     // Each file says that it has this identity.
     ensures front { OnOk result (Has (front_bytes letters identity.now) 0 (F.model.seen files.new Records)) }
@@ -41,6 +44,7 @@ pub fn create<F: FilePair>(files: &mut F, identity: &Identity) -> Result<(), Sto
 {
     files.write_at(FileKind::Log, 0, &log_front_of(identity))?;
     files.write_at(FileKind::Records, 0, &front_of(identity))?;
+    files.write_at(FileKind::Log, BOUNDS.log_start, &[SHUT])?;
     files.sync(FileKind::Log)?;
     files.sync(FileKind::Records)?;
     Ok(())

@@ -11,7 +11,7 @@ use crate::faults::StoreFault;
 use crate::record_file::BOUNDS;
 use crate::store::FileStore;
 use oram_layout::{FRONT_LEN, Front, Identity, read_front, read_log_front};
-use oram_redo::{SystemPair, Unknown};
+use oram_redo::{SHUT, SystemPair, Unknown};
 use std::alloc::{AllocError, Global};
 use std::fs::{File, OpenFile, OpenOptions, TryLockError};
 use std::io::ErrorKind;
@@ -210,7 +210,7 @@ fn open_new(rt: &HostRuntime, name: &str) -> io::Result<File> {
 fn holds_entries(log: &File) -> io::Result<bool> {
     let mut gate = [0];
     let len = bytes_at(log, BOUNDS.log_start, &mut gate)?;
-    Ok(len > 0 && gate[0] != 0)
+    Ok(len > 0 && gate[0] != SHUT)
 }
 
 /// Refuses a log where a new one would be, unless an attempt to make a store has left it.
