@@ -73,6 +73,15 @@ def log_entries(log):
         raise Misread("the byte after the last entry")
 
 
+def generation_of(front):
+    """The greatest number in the sound fields of a front."""
+    fields = [front[at : at + 16] for at in (32, 48)]
+    numbers = [int.from_bytes(field[:8], "little") for field in fields if siphash(front[:32] + field[:8]) == int.from_bytes(field[8:], "little")]
+    if not numbers:
+        raise Misread("the fields of generations")
+    return max(numbers)
+
+
 def read_buckets(name):
     """A bucket file with its log, whose entries are put at their places."""
     file, log = Reader(Path(name).read_bytes(), "little"), Reader(Path(f"{name}-log").read_bytes(), "little")
@@ -80,8 +89,11 @@ def read_buckets(name):
     log.expect(b"VIDLAQEL", "its log begins so")
     if (file.number(8), log.number(8)) != (3, 3) or file.take(16) != log.take(16):
         raise Misread("the versions, or the identities")
-    data = bytearray(file.data)
-    for place, patch in log_entries(log.data):
+    data, entries = bytearray(file.data), list(log_entries(log.data))
+    ahead = generation_of(log.data) - generation_of(file.data)
+    if ahead not in ([0] if entries else [0, 1]):
+        raise Misread("the generations")
+    for place, patch in entries:
         data.extend(bytes(max(0, place + len(patch) - len(data))))
         data[place : place + len(patch)] = patch
     return Buckets(bytes(data), read_shapes(bytes(data[4096:8192])))

@@ -36,7 +36,7 @@ mod redo;
 mod steps;
 mod system;
 
-pub use batch::{Patch, SHUT, check_of};
+pub use batch::{OPEN, Patch, SHUT, check_of};
 pub use bounds::Bounds;
 pub use faults::RedoError;
 pub use file_pair::{FileKind, FilePair};

@@ -3,7 +3,7 @@
 //! A batch goes into the log in two writes, each with a sync: everything but its first gate, and then that gate. So a crash
 //! leaves an open gate with the whole batch, or a shut gate. Then the batch is written to its places, without a sync: whatever
 //! a crash does to them, replaying the log heals it.
-ghost use Rattle.std.specs.Prelude.{◌≡◌, ◌⊎◌, ◌<◌, ◌≤◌, ◌+◌, ◌^◌, ◌++◌, ◌∷◌, [], All, length, IfNone, IfOk, IfSome, IfErr, IsErrOf, OnErr, OnOk};
+ghost use Rattle.std.specs.Prelude.{◌≡◌, ◌⊎◌, ◌<◌, ◌≤◌, ◌+◌, ◌^◌, ◌++◌, ◌∷◌, [], ◌↔◌, All, IsTrue, length, IfNone, IfOk, IfSome, IfErr, IsErrOf, OnErr, OnOk};
 ghost use Rattle.oram_redo.specs.Batch.{patches_of};
 ghost use Rattle.oram_redo.specs.Content.{Content, Agrees, bytes_at, put};
 ghost use Rattle.oram_redo.specs.FilePair.{ComesAfter, HasFailed, LeavesOnly, ReadOnto, Rises, Torn, WritesNothing};
@@ -58,6 +58,13 @@ pub fn recover<F: FilePair>(alloc: Global, files: &mut F, bounds: Bounds) -> Res
 }
 
 impl Redo {
+    /// Returns whether the log has no entries.
+    pub fn is_empty(&self) -> bool
+        ensures { IsTrue result ↔ (end_of self.now ≡ (bounds_of self.now).log_start) }
+    {
+        self.end == self.bounds.log_start
+    }
+
     /// Reads `len` bytes of the records.
     pub fn read<F: FilePair>(
         &self,
