@@ -15,7 +15,7 @@ use oram_layout::{
     FRONT_LEN, Front, Generation, Identity, Newest, WHOLE_FRONT_LEN, newest_in, read_front,
     read_log_front,
 };
-use oram_redo::{FileKind, FilePair, OPEN, SHUT, SystemPair, Unknown, write_fronts};
+use oram_redo::{FileKind, OPEN, SHUT, SystemPair, Unknown, write_fronts};
 use std::alloc::{AllocError, Global};
 use std::fs::{File, OpenFile, OpenOptions, TryLockError};
 use std::io::ErrorKind;
@@ -226,12 +226,28 @@ fn open_files(
     lock(&records)?;
     let log = open_log(rt, alloc, path, &identity)?;
     let (generation, is_behind) = generation_of(&records, &log, &identity)?;
-    let mut files = SystemPair::new(Unknown, records, log, BOUNDS.log_end)?;
-    if is_behind {
-        let field = generation.field(FileKind::Records);
-        files.write_front(FileKind::Records, generation.place(), &field)?;
-    }
+    say_again(&records, &generation, is_behind)?;
+    let files = SystemPair::new(Unknown, records, log, BOUNDS.log_end)?;
     Ok((files, generation))
+}
+
+/// Writes the log's generation into the front of the file, although the file may say it already: if a sync has failed, in this
+/// process or an earlier one, a read may return a number that the disk lacks. The sync that follows covers it.
+fn say_again(records: &File, generation: &Generation, is_behind: bool) -> io::Result<()> {
+    let field = generation.field(FileKind::Records);
+    match records.write_all_at(&field, generation.place()) {
+        // A file system that copies on write may have no room for this, and still be read.
+        Err(error) if !is_behind && lacks_room(&error) => Ok(()),
+        written => written,
+    }
+}
+
+/// Returns whether a write failed because it found no room.
+fn lacks_room(error: &io::Error) -> bool {
+    matches!(
+        error.kind(),
+        ErrorKind::StorageFull | ErrorKind::QuotaExceeded
+    )
 }
 
 /// Opens the log of a file with this identity, at the path that any links on the way to the file lead to.
