@@ -14,8 +14,9 @@ class BucketFile:
 
     ENTRIES, LOG_START = 4096, 4096
 
-    # The first byte of an entry of the log, and the bytes of an entry besides those of its patch, before them and after them.
-    OPEN, HEAD_LEN, CHECK_LEN = b"\xff", 13, 8
+    # The first byte of an entry of the log, the byte after the last entry, and the bytes of an entry besides those of its patch,
+    # before them and after them.
+    OPEN, SHUT, HEAD_LEN, CHECK_LEN = b"\xff", b"\x0f", 13, 8
 
     def __init__(self, file):
         self.file, self.log = file, log_of(file)
@@ -37,7 +38,7 @@ class BucketFile:
                 at += self.HEAD_LEN + length + self.CHECK_LEN
         with open(self.log, "r+b") as file:
             file.seek(self.LOG_START)
-            file.write(b"\0")
+            file.write(self.SHUT)
 
     def entries(self):
         """The places in the log at which its entries begin, with their lengths, and the place at which the log ends."""

@@ -62,13 +62,24 @@ def log_entries(log):
     """The entries of a log: places, and the bytes that belong there."""
     reader = Reader(log, "little")
     reader.take(4096)
-    while not reader.is_at_end() and reader.number(1) == 255:
+    while (gate := reader.number(1)) == 255:
         head = reader.take(12)
         place, count = int.from_bytes(head[:8], "little"), int.from_bytes(head[8:], "little")
         patch = reader.take(count)
         if reader.number(8) != siphash(head + patch):
             raise Misread("the checksum of an entry")
         yield place, patch
+    if gate != 15:
+        raise Misread("the byte after the last entry")
+
+
+def generation_of(front):
+    """The greatest number in the sound fields of a front."""
+    fields = [front[at : at + 16] for at in (32, 48)]
+    numbers = [int.from_bytes(field[:8], "little") for field in fields if siphash(front[:32] + field[:8]) == int.from_bytes(field[8:], "little")]
+    if not numbers:
+        raise Misread("the fields of generations")
+    return max(numbers)
 
 
 def read_buckets(name):
@@ -76,10 +87,13 @@ def read_buckets(name):
     file, log = Reader(Path(name).read_bytes(), "little"), Reader(Path(f"{name}-log").read_bytes(), "little")
     file.expect(b"VIDLAQEB", "a bucket file begins so")
     log.expect(b"VIDLAQEL", "its log begins so")
-    if (file.number(8), log.number(8)) != (2, 2) or file.take(16) != log.take(16):
+    if (file.number(8), log.number(8)) != (3, 3) or file.take(16) != log.take(16):
         raise Misread("the versions, or the identities")
-    data = bytearray(file.data)
-    for place, patch in log_entries(log.data):
+    data, entries = bytearray(file.data), list(log_entries(log.data))
+    ahead = generation_of(log.data) - generation_of(file.data)
+    if ahead not in ([0] if entries else [0, 1]):
+        raise Misread("the generations")
+    for place, patch in entries:
         data.extend(bytes(max(0, place + len(patch) - len(data))))
         data[place : place + len(patch)] = patch
     return Buckets(bytes(data), read_shapes(bytes(data[4096:8192])))

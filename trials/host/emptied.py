@@ -21,7 +21,8 @@ def comes_to_be_empty(host):
 
 
 def try_emptied_log(trial, depth=3, record_len=500):
-    """The log is empty after a connection that stored something, and after a while without a message; and nothing is lost by that."""
+    """The log is empty after a connection that stored something, after a while without a message, and after a start; and nothing is lost
+    by that."""
     host, model = trial.host("emptied").start(), Model()
     format_tree(trial, host, model, depth, record_len)
     client = host.client()
@@ -41,5 +42,5 @@ def try_emptied_log(trial, depth=3, record_len=500):
     client = host.start().client()
     check_answers(trial, "what is there after a kill", client, model, model.all_fetches())
     client.close()
-    trial.check("a connection that stores nothing leaves the log as it is", BucketFile(host.path()).entries()[0])
+    trial.check("the log is empty after the start that found entries in it", not BucketFile(host.path()).entries()[0])
     host.stop()

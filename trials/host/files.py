@@ -70,7 +70,7 @@ def make_other_files(trial, folder):
     whole = host.path().read_bytes()
     first, newer, damaged, twice = (folder / name for name in ("earlier", "newer", "damaged", "twice"))
     first.write_bytes(whole[:8] + b"\1" + whole[9:])
-    newer.write_bytes(whole[:8] + b"\3" + whole[9:])
+    newer.write_bytes(whole[:8] + b"\4" + whole[9:])
     damaged.write_bytes(whole[:4097] + b"\x19" + whole[4098:])
     # A second tree where the first one is.
     twice.write_bytes(whole[:4112] + whole[4096:4112] + whole[4128:])

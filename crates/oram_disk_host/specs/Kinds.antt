@@ -7,7 +7,7 @@ use Rattle.oram_cli.specs.declared.hosts.HostFault.TheVariants as host
 use Rattle.oram_settings.specs.declared.differences.FixedKey.{FixedKey}
 use Rattle.oram_settings.specs.declared.differences.FixedKey.TheVariants as fixed
 use Rattle.oram_disk_host.specs.declared.kinds.FaultKind.{FaultKind}
-use Rattle.oram_disk_host.specs.declared.kinds.FaultKind.TheVariants.{CommandLine, Settings, File, Unformatted, Address, NotABucketFile, OlderFile, NewerFile, WithoutLog, LogOfAnotherFile, LogWithoutFile, Damaged, LogDamaged, Busy, NoFile, FileExists, Exists, Formatted, NotADisk, DamagedState, OlderState, ReplacedState, WrongKey, Changed, Host, OlderHost, NoStamps, StateNotKept, StateNotMade, UsedUp, InUse, Failed, NotFailed}
+use Rattle.oram_disk_host.specs.declared.kinds.FaultKind.TheVariants.{CommandLine, Settings, File, Unformatted, Address, NotABucketFile, OlderFile, NewerFile, WithoutLog, LogOfAnotherFile, LogWithoutFile, LogOlder, LogNewer, Damaged, LogDamaged, Busy, NoFile, FileExists, Exists, Formatted, NotADisk, DamagedState, OlderState, ReplacedState, WrongKey, Changed, Host, OlderHost, NoStamps, StateNotKept, StateNotMade, UsedUp, InUse, Failed, NotFailed}
 
 -- the text before the name of the settings with a changed value
 abbrev pub changed : FixedKey → List ℕ
@@ -25,6 +25,7 @@ front (File reason.Other) = codes "oramdisk: can't open, read or write "
 front Address = codes "oramdisk: can't listen at "
 front WithoutLog = codes "oramdisk: the log of "
 front LogOfAnotherFile = codes "oramdisk: the log of "
+front LogOlder = codes "oramdisk: the log of "
 front LogDamaged = codes "oramdisk: the log of "
 front LogWithoutFile = codes "oramdisk: there is no file "
 front NoFile = codes "oramdisk: there is no file "
@@ -77,6 +78,8 @@ rest NewerFile = codes " is a file of buckets of a newer version, and is left as
 rest WithoutLog = codes ", the file beside it with -log after its name, isn't there: put back the one that it was served with last\n"
 rest LogOfAnotherFile = codes ", the file beside it with -log after its name, is another file's: put back the one that it was served with last\n"
 rest LogWithoutFile = codes ", but its log, the file beside it with -log after its name, holds records of it: put the file back, or take the log away\n"
+rest LogOlder = codes ", the file beside it with -log after its name, is older than the file, and both are left as they are: put back the log that it was served with last\n"
+rest LogNewer = codes " is older than its log, the file beside it with -log after its name, and both are left as they are: put back the file that was served last\n"
 rest Damaged = codes " is damaged, and is left as it is: name another file, and format anew\n"
 rest LogDamaged = codes ", the file beside it with -log after its name, is damaged, and both are left as they are: put back copies of both that belong together, or name another file, and format anew\n"
 rest Busy = codes " is held by another process: end that one first\n"
@@ -104,8 +107,8 @@ rest NotFailed = codes " has not failed, and is left as it is: oramdisk serve se
 -- exists already; 10: a state that isn't one, is damaged, or is of an older version; 11, 12: a host that is out of reach, or that refuses;
 -- 13: a state that can't be kept; 14: no access left; 16: a disk in use; 17: a disk that has failed; 18: a disk that hasn't
 -- failed; 19: a host's file that is missing; 20 to 22: a host with another disk, with none, or without room; 23, 24: a key or
--- another value that isn't the one of the formatting; 25: a host's file of another version; 26: a file without its log, or a
--- log without its file; 27: a state that was replaced by a newer one; 28: no state; 29, 30: a host with an older file, or without the
+-- another value that isn't the one of the formatting; 25: a host's file of another version; 26: a file without its log, a
+-- log without its file, or one of the two that is older than the other; 27: a state that was replaced by a newer one; 28: no state; 29, 30: a host with an older file, or without the
 -- stamps of its disk
 abbrev pub status : FaultKind → ℕ
 status CommandLine = 2
@@ -143,6 +146,8 @@ status NewerFile = 25
 status WithoutLog = 26
 status LogOfAnotherFile = 26
 status LogWithoutFile = 26
+status LogOlder = 26
+status LogNewer = 26
 status ReplacedState = 27
 status OlderHost = 29
 status NoStamps = 30

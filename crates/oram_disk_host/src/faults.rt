@@ -58,6 +58,8 @@ pub fn store_fault(name: String, why: StoreFault) -> Fault
         StoreFault::WithoutLog => FaultKind::WithoutLog,
         StoreFault::LogOfAnotherFile => FaultKind::LogOfAnotherFile,
         StoreFault::LogWithoutFile => FaultKind::LogWithoutFile,
+        StoreFault::LogOlder => FaultKind::LogOlder,
+        StoreFault::LogNewer => FaultKind::LogNewer,
         StoreFault::Damaged => FaultKind::Damaged,
         StoreFault::LogDamaged => FaultKind::LogDamaged,
         StoreFault::NoRoom => FaultKind::File(FileReason::DiskFull),

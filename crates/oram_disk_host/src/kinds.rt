@@ -31,6 +31,9 @@ pub enum FaultKind {
     LogOfAnotherFile,
     /// The file of buckets of this name is missing, but its log is there.
     LogWithoutFile,
+    /// The log beside the file of buckets of this name is older than the file, or newer.
+    LogOlder,
+    LogNewer,
     /// The file of this name holds something that no host writes.
     Damaged,
     /// The log beside the file of buckets of this name isn't as a host writes it.
@@ -135,8 +138,10 @@ impl FaultKind {
             FaultKind::Unformatted => "oramdisk: there is no state ",
             FaultKind::File(FileReason::Other) => "oramdisk: can't open, read or write ",
             FaultKind::Address => "oramdisk: can't listen at ",
-            FaultKind::WithoutLog | FaultKind::LogOfAnotherFile | FaultKind::LogDamaged =>
-                "oramdisk: the log of ",
+            FaultKind::WithoutLog
+            | FaultKind::LogOfAnotherFile
+            | FaultKind::LogOlder
+            | FaultKind::LogDamaged => "oramdisk: the log of ",
             FaultKind::LogWithoutFile | FaultKind::NoFile => "oramdisk: there is no file ",
             FaultKind::WrongKey => "oramdisk: the key in ",
             FaultKind::Changed(key) => changed(key),
@@ -179,6 +184,10 @@ impl FaultKind {
                 ", the file beside it with -log after its name, is another file's: put back the one that it was served with last\n",
             FaultKind::LogWithoutFile =>
                 ", but its log, the file beside it with -log after its name, holds records of it: put the file back, or take the log away\n",
+            FaultKind::LogOlder =>
+                ", the file beside it with -log after its name, is older than the file, and both are left as they are: put back the log that it was served with last\n",
+            FaultKind::LogNewer =>
+                " is older than its log, the file beside it with -log after its name, and both are left as they are: put back the file that was served last\n",
             FaultKind::Damaged =>
                 " is damaged, and is left as it is: name another file, and format anew\n",
             FaultKind::LogDamaged =>
@@ -248,7 +257,11 @@ impl FaultKind {
             FaultKind::WrongKey => 23,
             FaultKind::Changed(_) => 24,
             FaultKind::OlderFile | FaultKind::NewerFile => 25,
-            FaultKind::WithoutLog | FaultKind::LogOfAnotherFile | FaultKind::LogWithoutFile => 26,
+            FaultKind::WithoutLog
+            | FaultKind::LogOfAnotherFile
+            | FaultKind::LogWithoutFile
+            | FaultKind::LogOlder
+            | FaultKind::LogNewer => 26,
             FaultKind::ReplacedState => 27,
             FaultKind::OlderHost => 29,
             FaultKind::NoStamps => 30,

@@ -22,22 +22,22 @@ front_letters_are front_letters identity bytes long is =
 pub starts_so : (needle bytes : List ℕ) (r : Bool) → r ≡ pointwise eqb needle (take (length needle) bytes) → Decides r (needle ≡ take (length needle) bytes)
 starts_so needle bytes r e = slice_eq-Decides Decides-eqb needle (take (length needle) bytes) r e
 
-letters_spelled : letters ≡ bucket_name ++ eight_bytes 2
+letters_spelled : letters ≡ bucket_name ++ eight_bytes 3
 unfolding eight_bytes
 letters_spelled = refl
 
 -- a file of this version isn't of a newer one
 pub ours_not_newer : (identity : Identity) (bytes : List ℕ) → IsFront letters identity bytes → IsNewer bytes → ⊥
 ours_not_newer identity bytes is newer =
-    let same : bucket_name ++ eight_bytes newer.version ≡ bucket_name ++ eight_bytes 2 = sym newer.begins ∙ front_letters_are letters identity bytes refl is ∙ letters_spelled in
-    let two : newer.version ≡ 2 = eight_bytes_one newer.version 2 newer.fits (omega arith) (append_cancel_left bucket_name (eight_bytes newer.version) (eight_bytes 2) same) in
+    let same : bucket_name ++ eight_bytes newer.version ≡ bucket_name ++ eight_bytes 3 = sym newer.begins ∙ front_letters_are letters identity bytes refl is ∙ letters_spelled in
+    let two : newer.version ≡ 3 = eight_bytes_one newer.version 3 newer.fits (omega arith) (append_cancel_left bucket_name (eight_bytes newer.version) (eight_bytes 3) same) in
     absurd (omega (arith, newer.above, two))
 
 -- and not of an older one
 pub ours_not_older : (identity : Identity) (bytes : List ℕ) → IsFront letters identity bytes → IsOlder bytes → ⊥
 ours_not_older identity bytes is older =
-    let same : bucket_name ++ eight_bytes older.version ≡ bucket_name ++ eight_bytes 2 = sym older.begins ∙ front_letters_are letters identity bytes refl is ∙ letters_spelled in
-    let two : older.version ≡ 2 = eight_bytes_one older.version 2 (omega (arith, older.below)) (omega arith) (append_cancel_left bucket_name (eight_bytes older.version) (eight_bytes 2) same) in
+    let same : bucket_name ++ eight_bytes older.version ≡ bucket_name ++ eight_bytes 3 = sym older.begins ∙ front_letters_are letters identity bytes refl is ∙ letters_spelled in
+    let two : older.version ≡ 3 = eight_bytes_one older.version 3 (omega (arith, older.below)) (omega arith) (append_cancel_left bucket_name (eight_bytes older.version) (eight_bytes 3) same) in
     absurd (omega (arith, older.below, two))
 
 -- a file has one version
@@ -64,7 +64,7 @@ first_sixteen bytes =
     sym (take-append-drop 8 (take 16 bytes)) ∙ ap (λ (l : List ℕ). l ++ drop 8 (take 16 bytes)) (take-take 8 16 bytes (omega arith))
     ∙ ap (λ (l : List ℕ). take 8 bytes ++ l) (drop-take 8 8 bytes)
 
-pub newer_from : (bytes : List ℕ) (version : ℕ) → bucket_name ≡ take 8 bytes → eight_bytes version ≡ take 8 (drop 8 bytes) → version < 2 ^ 64 → 2 < version → IsNewer bytes
+pub newer_from : (bytes : List ℕ) (version : ℕ) → bucket_name ≡ take 8 bytes → eight_bytes version ≡ take 8 (drop 8 bytes) → version < 2 ^ 64 → 3 < version → IsNewer bytes
 newer_from bytes version named said fits above = record {
   version = version;
   above = above;
@@ -72,21 +72,21 @@ newer_from bytes version named said fits above = record {
   begins = first_sixteen bytes ∙ ap (λ (l : List ℕ). l ++ take 8 (drop 8 bytes)) (sym named) ∙ ap (λ (l : List ℕ). bucket_name ++ l) (sym said);
 }
 
-pub newer_version : (bytes : List ℕ) (version : ℕ) → eight_bytes version ≡ take 8 (drop 8 bytes) → version < 2 ^ 64 → IsNewer bytes → 2 < version
+pub newer_version : (bytes : List ℕ) (version : ℕ) → eight_bytes version ≡ take 8 (drop 8 bytes) → version < 2 ^ 64 → IsNewer bytes → 3 < version
 newer_version bytes version said fits newer =
     let its : eight_bytes newer.version ≡ take 8 (drop 8 bytes) =
     sym (drop_at bucket_name (eight_bytes newer.version) 8 refl) ∙ ap (λ (l : List ℕ). drop 8 l) (sym newer.begins) ∙ drop-take 8 8 bytes in
     let same : newer.version ≡ version = eight_bytes_one newer.version version newer.fits fits (its ∙ sym said) in
     omega (arith, newer.above, same)
 
-pub older_from : (bytes : List ℕ) (version : ℕ) → bucket_name ≡ take 8 bytes → eight_bytes version ≡ take 8 (drop 8 bytes) → version < 2 → IsOlder bytes
+pub older_from : (bytes : List ℕ) (version : ℕ) → bucket_name ≡ take 8 bytes → eight_bytes version ≡ take 8 (drop 8 bytes) → version < 3 → IsOlder bytes
 older_from bytes version named said below = record {
   version = version;
   below = below;
   begins = first_sixteen bytes ∙ ap (λ (l : List ℕ). l ++ take 8 (drop 8 bytes)) (sym named) ∙ ap (λ (l : List ℕ). bucket_name ++ l) (sym said);
 }
 
-pub older_version : (bytes : List ℕ) (version : ℕ) → eight_bytes version ≡ take 8 (drop 8 bytes) → version < 2 ^ 64 → IsOlder bytes → version < 2
+pub older_version : (bytes : List ℕ) (version : ℕ) → eight_bytes version ≡ take 8 (drop 8 bytes) → version < 2 ^ 64 → IsOlder bytes → version < 3
 older_version bytes version said fits older =
     let its : eight_bytes older.version ≡ take 8 (drop 8 bytes) =
     sym (drop_at bucket_name (eight_bytes older.version) 8 refl) ∙ ap (λ (l : List ℕ). drop 8 l) (sym older.begins) ∙ drop-take 8 8 bytes in

@@ -9,3 +9,4 @@ pub mod Apart
 pub mod Slots
 pub mod EntryReads
 pub mod FrontBytes
+pub mod GenerationFields

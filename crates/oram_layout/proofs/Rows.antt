@@ -61,5 +61,5 @@ row_path : path_patches narrow 1 (1 ∷ 2 ∷ 3 ∷ 4 ∷ 5 ∷ 6 ∷ []) 0 2 �
 unfolding node_on
 row_path = refl
 
-row_front : front_bytes letters (record { 0 = 9 ∷ 8 ∷ [] }) ≡ 86 ∷ 73 ∷ 68 ∷ 76 ∷ 65 ∷ 81 ∷ 69 ∷ 66 ∷ 2 ∷ 0 ∷ 0 ∷ 0 ∷ 0 ∷ 0 ∷ 0 ∷ 0 ∷ 9 ∷ 8 ∷ []
+row_front : front_bytes letters (record { 0 = 9 ∷ 8 ∷ [] }) ≡ 86 ∷ 73 ∷ 68 ∷ 76 ∷ 65 ∷ 81 ∷ 69 ∷ 66 ∷ 3 ∷ 0 ∷ 0 ∷ 0 ∷ 0 ∷ 0 ∷ 0 ∷ 0 ∷ 9 ∷ 8 ∷ []
 row_front = refl

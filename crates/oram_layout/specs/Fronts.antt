@@ -6,9 +6,9 @@ use Rattle.oram_layout.specs.declared.fronts.Front.{Front}
 use Rattle.oram_layout.specs.declared.fronts.Front.TheVariants.{Ours, NewerVersion, OlderVersion, Sqlite, Empty, Another}
 use Rattle.oram_layout.specs.declared.fronts.Identity.{Identity}
 
--- "VIDLAQEL", and the version, 2, in 8 bytes
+-- "VIDLAQEL", and the version, 3, in 8 bytes
 abbrev pub log_letters : List ℕ
-log_letters = 86 ∷ 73 ∷ 68 ∷ 76 ∷ 65 ∷ 81 ∷ 69 ∷ 76 ∷ 2 ∷ 0 ∷ 0 ∷ 0 ∷ 0 ∷ 0 ∷ 0 ∷ 0 ∷ []
+log_letters = 86 ∷ 73 ∷ 68 ∷ 76 ∷ 65 ∷ 81 ∷ 69 ∷ 76 ∷ 3 ∷ 0 ∷ 0 ∷ 0 ∷ 0 ∷ 0 ∷ 0 ∷ 0 ∷ []
 
 -- "SQLite format 3", and a byte of 0
 abbrev pub sqlite_letters : List ℕ
@@ -27,17 +27,17 @@ pub record IsFront (letters : List ℕ) (identity : Identity) (bytes : List ℕ)
   pub whole : length identity.0 ≡ 16
   pub begins : take FRONT_LEN bytes ≡ front_bytes letters identity
 
--- the bytes begin with a bucket file's letters and a version above 2
+-- the bytes begin with a bucket file's letters and a version above 3
 pub record IsNewer (bytes : List ℕ) : Type 0 where
   pub version : ℕ
-  pub above : 2 < version
+  pub above : 3 < version
   pub fits : version < 2 ^ 64
   pub begins : take LETTERS_LEN bytes ≡ bucket_name ++ eight_bytes version
 
--- the bytes begin with a bucket file's letters and a version below 2
+-- the bytes begin with a bucket file's letters and a version below 3
 pub record IsOlder (bytes : List ℕ) : Type 0 where
   pub version : ℕ
-  pub below : version < 2
+  pub below : version < 3
   pub begins : take LETTERS_LEN bytes ≡ bucket_name ++ eight_bytes version
 
 -- if the file is one of ours, this holds of its identity

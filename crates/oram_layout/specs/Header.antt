@@ -9,9 +9,9 @@ use Rattle.oram_layout.specs.declared.entries.TheConstants.{ENTRIES_AT, TREES}
 use Rattle.oram_layout.specs.declared.trees.TheConstants.{ENTRY_LEN}
 use Rattle.oram_layout.specs.declared.trees.Tree.{Tree}
 
--- "VIDLAQEB", and the version, 2, in 8 bytes
+-- "VIDLAQEB", and the version, 3, in 8 bytes
 abbrev pub letters : List ℕ
-letters = 86 ∷ 73 ∷ 68 ∷ 76 ∷ 65 ∷ 81 ∷ 69 ∷ 66 ∷ 2 ∷ 0 ∷ 0 ∷ 0 ∷ 0 ∷ 0 ∷ 0 ∷ 0 ∷ []
+letters = 86 ∷ 73 ∷ 68 ∷ 76 ∷ 65 ∷ 81 ∷ 69 ∷ 66 ∷ 3 ∷ 0 ∷ 0 ∷ 0 ∷ 0 ∷ 0 ∷ 0 ∷ 0 ∷ []
 
 -- a number in 4 bytes, and in 8, the low byte first
 unfoldable pub four_bytes : ℕ → List ℕ

@@ -6,3 +6,4 @@ pub mod BucketFile
 pub mod Changes
 pub mod Fronts
 pub mod Laws
+pub mod Generations

@@ -2,9 +2,11 @@
 ghost use Rattle.std.specs.Prelude.{◌≡◌, ◌<◌, ◌↔◌, All, IfSome, IsTrue, take, Some};
 ghost use Rattle.oram_layout.specs.Fronts.{IfOurs, IsFront, IsNewer, IsOlder, front_bytes, log_letters, sqlite_letters};
 ghost use Rattle.oram_layout.specs.Header.{letters};
+ghost use Rattle.oram_layout.specs.Generations as generations;
 ghost use Rattle.oram_layout.specs.declared.fronts.Identity.{Identity};
 
 use crate::numbers::eight_bytes_in;
+use oram_redo::FileKind;
 
 /// The number of bytes at the beginning of a file that say what it is.
 pub const FRONT_LEN: usize = 32;
@@ -16,11 +18,11 @@ pub(crate) const LETTERS_LEN: usize = 16;
 const NAME_LEN: usize = 8;
 
 /// The version of both files.
-const VERSION: u64 = 2;
+const VERSION: u64 = 3;
 
-const LETTERS: [u8; 16] = *b"VIDLAQEB\x02\0\0\0\0\0\0\0";
+const LETTERS: [u8; 16] = *b"VIDLAQEB\x03\0\0\0\0\0\0\0";
 
-const LOG_LETTERS: [u8; 16] = *b"VIDLAQEL\x02\0\0\0\0\0\0\0";
+const LOG_LETTERS: [u8; 16] = *b"VIDLAQEL\x03\0\0\0\0\0\0\0";
 
 const SQLITE_LETTERS: [u8; 16] = *b"SQLite format 3\0";
 
@@ -91,13 +93,23 @@ pub fn read_log_front(bytes: &[u8]) -> Option<Identity>
     identity_behind(&LOG_LETTERS, bytes)
 }
 
-fn front_with(front_letters: &[u8; 16], identity: &Identity) -> [u8; 32]
+pub(crate) fn front_with(front_letters: &[u8; 16], identity: &Identity) -> [u8; 32]
     ensures { result ≡ front_bytes front_letters.now identity.now }
 {
     let mut front = [0; FRONT_LEN];
     front[..LETTERS_LEN].copy_from_slice(front_letters);
     front[LETTERS_LEN..].copy_from_slice(&identity.0);
     front
+}
+
+/// Returns the letters and the version that a file of this kind begins with.
+pub(crate) fn letters_of(kind: FileKind) -> &'static [u8; 16]
+    ensures { result.now ≡ generations.letters_of kind }
+{
+    match kind {
+        FileKind::Records => &LETTERS,
+        FileKind::Log => &LOG_LETTERS,
+    }
 }
 
 // Returns the identity after `front_letters`, if the bytes begin with both.

@@ -20,11 +20,11 @@ pub nothing_yet : (bounds : Bounds) (loose : List Patch) (before : Contents) (ba
 nothing_yet bounds loose before batch c keeps = record { front = keeps.front; stands = inl keeps.stands }
 
 -- what was written after the shut gate
-pub tail_written : (batch : List Patch) (tail body : List ℕ) (at : ℕ) (seen seen' : Contents) → entries batch ≡ 255 ∷ tail → body ≡ entries batch ++ 0 ∷ []
-    → Wrote Log at (take (length body - 1) (drop 1 body)) seen seen' → Has (tail ++ 0 ∷ []) at (seen' Log)
+pub tail_written : (batch : List Patch) (tail body : List ℕ) (at : ℕ) (seen seen' : Contents) → entries batch ≡ 255 ∷ tail → body ≡ entries batch ++ 15 ∷ []
+    → Wrote Log at (take (length body - 1) (drop 1 body)) seen seen' → Has (tail ++ 15 ∷ []) at (seen' Log)
 tail_written batch tail body at seen seen' spelled is wrote =
     let written : List ℕ = take (length body - 1) (drop 1 body) in
-    let rest : written ≡ tail ++ 0 ∷ [] = take_rest body 1 ∙ ap (λ (l : List ℕ). drop 1 l) is ∙ ap (λ (l : List ℕ). drop 1 (l ++ 0 ∷ [])) spelled in
+    let rest : written ≡ tail ++ 15 ∷ [] = take_rest body 1 ∙ ap (λ (l : List ℕ). drop 1 l) is ∙ ap (λ (l : List ℕ). drop 1 (l ++ 15 ∷ [])) spelled in
     let there : Has written at (seen' Log) = has_same written at (put written at (seen Log)) (seen' Log) (λ i low high. wrote.there i) (has-put written at (seen Log)) in
     subst (λ (l : List ℕ). Has l at (seen' Log)) rest there
 
@@ -71,7 +71,7 @@ module _ (redo : Redo) (loose : List Patch) (seen : Contents) (leave : Contents 
 
 -- The batch's entries are after the shut gate, all but their first gate, and a shut gate is after them.
 module _ (redo : Redo) (loose : List Patch) (seen : Contents) (leave : Contents → Type 0) (s : AreCrashConsistent redo loose seen leave) (sure : (c : Contents) → leave c → Agrees (c Log) (seen Log))
-    (batch : List Patch) (tail : List ℕ) (spelled : entries batch ≡ 255 ∷ tail) (whole : Has (tail ++ 0 ∷ []) (end_of redo + 1) (seen Log))
+    (batch : List Patch) (tail : List ℕ) (spelled : entries batch ≡ 255 ∷ tail) (whole : Has (tail ++ 15 ∷ []) (end_of redo + 1) (seen Log))
     (room : end_of redo + length (entries batch) < redo.bounds.log_end) (fits : All (Fits (bounds_of redo)) batch) where
   abbrev end : ℕ
   end = end_of redo
@@ -81,12 +81,12 @@ module _ (redo : Redo) (loose : List Patch) (seen : Contents) (leave : Contents 
 
   log_open : (l : Content) → ((i : ℕ) → (i < end ⊎ end + 1 ≤ i) → l i ≡ seen Log i) → l end ≡ 255 → IsLog (bounds_of redo) (s.patches ++ batch) l
   log_open l same gate =
-      let behind : Has (tail ++ 0 ∷ []) (end + 1) l = has_same (tail ++ 0 ∷ []) (end + 1) (seen Log) l (λ i low high. same i (inr low)) whole in
-      let rest : Has tail (end + 1) l = has_front tail (0 ∷ []) (end + 1) l behind in
+      let behind : Has (tail ++ 15 ∷ []) (end + 1) l = has_same (tail ++ 15 ∷ []) (end + 1) (seen Log) l (λ i low high. same i (inr low)) whole in
+      let rest : Has tail (end + 1) l = has_front tail (15 ∷ []) (end + 1) l behind in
       let one : Has (255 ∷ []) end l = (λ i. gate i ∷ []) in
       let both : Has (255 ∷ tail) end l = has-append (255 ∷ []) tail end l one rest in
-      let last : Has (0 ∷ []) (end + 1 + length tail) l = has_back tail (0 ∷ []) (end + 1) l behind in
-      let shut_at : l (end + 1 + length tail) ≡ 0 = cc in
+      let last : Has (15 ∷ []) (end + 1 + length tail) l = has_back tail (15 ∷ []) (end + 1) l behind in
+      let shut_at : l (end + 1 + length tail) ≡ 15 = cc in
       log_more (bounds_of redo) s.patches batch (seen Log) l end s.log s.end (λ i low. same i (inl low))
       (subst (λ (bs : List ℕ). Has bs end l) (sym spelled) both)
       (λ is. absurd (omega (arith, shut_at, sym (ap l (moved)) ∙ is))) room fits

@@ -125,10 +125,10 @@ module _ (redo : Redo) (loose : List Patch) (seen : Contents) (leave : Contents 
           gives = λ i spared. torn.other i ∙ sure d was i;
         }
 
-    pub consistent_shut : (seen' : Contents) (leave' : Contents → Type 0) → Wrote Log redo.bounds.log_start (0 ∷ []) seen seen' → ((c : Contents) → leave' c → Agrees (c Log) (seen' Log))
+    pub consistent_shut : (seen' : Contents) (leave' : Contents → Type 0) → Wrote Log redo.bounds.log_start (15 ∷ []) seen seen' → ((c : Contents) → leave' c → Agrees (c Log) (seen' Log))
         → Follows (Torn Log redo.bounds.log_start 1) leave leave' → AreCrashConsistent (record { bounds = redo.bounds; end = redo.bounds.log_start }) [] seen' leave'
     consistent_shut seen' leave' wrote log_sure follows =
-        let gate : seen' Log redo.bounds.log_start ≡ 0 = wrote.there redo.bounds.log_start ∙ gate_written 0 redo.bounds.log_start (seen Log) in
+        let gate : seen' Log redo.bounds.log_start ≡ 15 = wrote.there redo.bounds.log_start ∙ gate_written 15 redo.bounds.log_start (seen Log) in
         record {
           patches = [];
           log = log_none (bounds_of redo) (seen' Log) (omega (arith, s.log.within)) (λ one. absurd (omega (arith, gate, one)));

@@ -4,7 +4,6 @@ use Rattle.oram_redo.specs.Content.{Content, Agrees}
 use Rattle.oram_redo.specs.FilePair.{Contents}
 use Rattle.oram_redo.specs.Log.{HasOddGate, Patch, IsLog, AgreesBut, StandsFor, entry, entries, put_all}
 use Rattle.oram_redo.specs.declared.bounds.Bounds.{Bounds}
-use Rattle.oram_redo.specs.declared.file_pair.FileKind.{FileKind}
 use Rattle.oram_redo.specs.declared.file_pair.FileKind.TheVariants.{Records, Log}
 use Rattle.oram_redo.proofs.Bytes.{has_front}
 use Rattle.oram_redo.proofs.Heal.{put_all_heals}
@@ -17,10 +16,10 @@ logs_are_one bounds ps qs log p q =
 
 -- the gate after a log's last entry
 module _ (bounds : Bounds) (ps : List Patch) (log : Content) (end : ℕ) (is : IsLog bounds ps log) (ends : end ≡ bounds.log_start + length (entries ps)) where
-  pub odd_gate : (log end ≡ 0 → ⊥) → HasOddGate bounds log
+  pub odd_gate : (log end ≡ 15 → ⊥) → HasOddGate bounds log
   odd_gate odd = record { patches = ps; is = is; odd = λ zero. odd (ap log ends ∙ zero) }
 
-  pub no_odd_gate : log end ≡ 0 → HasOddGate bounds log → ⊥
+  pub no_odd_gate : log end ≡ 15 → HasOddGate bounds log → ⊥
   no_odd_gate zero has =
       let same : has.patches ≡ ps = logs_are_one bounds has.patches ps log has.is is in
       has.odd (ap (λ (qs : List Patch). log (bounds.log_start + length (entries qs))) same ∙ ap log (sym ends) ∙ zero)
@@ -33,9 +32,9 @@ files_stand_for_one bounds loose r s files a b i spared =
 pub replay_heals : (ps : List Patch) (c d : Content) → AgreesBut ps c d → Agrees (put_all ps c) (put_all ps d)
 replay_heals ps c d same i = put_all_heals ps c d i (same i)
 
--- files of zeros stand for zeros
-pub empty_stands : (bounds : Bounds) (ps : List Patch) (files : Contents) → ((file : FileKind) (i : ℕ) → files file i ≡ 0) → IsLog bounds ps (files Log) → (i : ℕ) → put_all ps (files Records) i ≡ 0
-empty_stands bounds [] files empty log i = empty Records i
-empty_stands bounds (p ∷ ps) files empty log i =
+-- records of zeros, and a log whose first gate is shut, stand for zeros
+pub empty_stands : (bounds : Bounds) (ps : List Patch) (files : Contents) → ((i : ℕ) → files Records i ≡ 0) → files Log bounds.log_start ≡ 15 → IsLog bounds ps (files Log) → (i : ℕ) → put_all ps (files Records) i ≡ 0
+empty_stands bounds [] files empty gate log i = empty i
+empty_stands bounds (p ∷ ps) files empty gate log i =
     let open_gate : files Log bounds.log_start ≡ 255 = entry_gate p bounds.log_start (files Log) (has_front (entry p) (entries ps) bounds.log_start (files Log) log.stands) in
-    absurd (omega (arith, open_gate, empty Log bounds.log_start))
+    absurd (omega (arith, open_gate, gate))

@@ -51,12 +51,12 @@ pub record IsLog (bounds : Bounds) (patches : List Patch) (log : Content) : Type
   pub within : bounds.log_start + length (entries patches) < bounds.log_end
   pub each : All (Fits bounds) patches
 
--- The gate after the log's last entry is neither open nor 0. A crash leaves that only if it tears the write of a single
--- byte; more likely, the byte has changed since.
+-- The gate after the log's last entry is neither open (255) nor shut (15). A crash leaves that only if it tears the write of a
+-- single byte; more likely, the byte has changed since, or the log was cut off there, where a read returns 0.
 pub record HasOddGate (bounds : Bounds) (log : Content) : Type 0 where
   pub patches : List Patch
   pub is : IsLog bounds patches log
-  pub odd : log (bounds.log_start + length (entries patches)) ≡ 0 → ⊥
+  pub odd : log (bounds.log_start + length (entries patches)) ≡ 15 → ⊥
 
 abbrev pub put_all : List Patch → Content → Content
 put_all [] c = c

@@ -12,11 +12,12 @@ pub const HEAD_LEN: usize = 13;
 /// The number of bytes of an entry's checksum, which come after those of its patch.
 pub const CHECK_LEN: usize = 8;
 
-/// The gate of an entry that counts. It differs from `SHUT` in each bit, so no single bit that changes turns one into the other.
+/// The gate of an entry that counts.
 pub const OPEN: u8 = 255;
 
-/// The gate after the last entry. The log ends at any byte but `OPEN`, but only this one is written there.
-pub const SHUT: u8 = 0;
+/// The gate after the last entry. The log ends at any byte but `OPEN`, but only this one is written there. It differs from `OPEN`
+/// in four bits, and in four from 0, which is what a read returns where a log was cut off.
+pub const SHUT: u8 = 15;
 
 /// Bytes to write at a place of the records' file.
 #[derive(Clone, Copy, Debug)]
@@ -79,7 +80,7 @@ fn push_entry(body: &mut Vec<u8>, patch: &Patch) -> Result<(), AllocError>
 /// Returns the batch's entries, and a shut gate after them.
 pub fn body_of(alloc: Global, batch: &[Patch]) -> Result<Vec<u8>, AllocError>
     requires { All (λ p. length p.1 < 2 ^ 32) (patches_of batch.now) }
-    ensures { IfOk result (λ body. body.items ≡ entries (patches_of batch.now) ++ 0 ∷ []) }
+    ensures { IfOk result (λ body. body.items ≡ entries (patches_of batch.now) ++ 15 ∷ []) }
 {
     let mut body = Vec::with_capacity(alloc, room_of(batch))?;
     for patch in batch {

@@ -7,7 +7,7 @@ ghost use Rattle.oram_redo.specs.Laws.{FilesStandForOne, LogsAreOne, ReplayHeals
 ghost use Rattle.oram_redo.specs.Log.{Fits, Keeps, StandsFor, put_all};
 ghost use Rattle.oram_redo.specs.Redo.{IsCrashConsistent, bounds_of};
 
-use crate::{Bounds, FilePair, Patch, Redo, RedoError, recover};
+use crate::{Bounds, FileKind, FilePair, Patch, Redo, RedoError, SHUT, recover};
 use std::alloc::Global;
 
 /// A log holds only one list of patches. So files stand for only one content of the records, except in loose places.
@@ -27,7 +27,7 @@ pub fn crash_keeps_records<F: FilePair>(redo: &Redo, files: &F)
         → F.model.may_leave files.now c → Keeps (bounds_of redo.now) loose (F.model.seen files.now) c }
 {}
 
-/// Opens empty files and commits one batch. Each crash from then on leaves files that have the batch, and nothing else.
+/// Begins a log in empty files, opens them and commits one batch. Each crash from then on leaves files that have the batch, and nothing else.
 pub fn first_commit<F: FilePair>(
     alloc: Global,
     files: &mut F,
@@ -38,6 +38,7 @@ pub fn first_commit<F: FilePair>(
     requires empty { (file : _) (i : ℕ) → F.model.seen files.old file i ≡ 0 }
     ensures { OnOk result (F.model.is_honest files.new → (c : Contents) → F.model.may_leave files.new c → StandsFor bounds [] (put_all (patches_of batch.now) (λ i. 0)) c) }
 {
+    files.write_at(FileKind::Log, bounds.log_start, &[SHUT])?;
     let mut redo = recover(alloc, files, bounds)?;
     redo.commit(alloc, files, batch)?;
     Ok(redo)

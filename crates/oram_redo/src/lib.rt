@@ -8,15 +8,16 @@
 //! rests on no checksum. A gate that is shut is never shut again, because a crash might tear that write and open the gate.
 //!
 //! The checksums are for what happens to the log afterwards: a disk that gets old, or a copy that goes wrong. The whole log
-//! is read and found sound before any of it is written to its place. A gate that is shut is 0, and differs from an open one
-//! in each bit: so a gate that is neither of the two has changed since, and such a log is refused. Only a crash that tears
-//! the write of a single byte would leave that too.
+//! is read and found sound before any of it is written to its place. A gate that is shut is 15: four bits make it an open one,
+//! and four make it 0. So a gate that is neither of the two has changed since, or the log was cut off before it, and such a log
+//! is refused. Only a crash that tears the write of a single byte would leave that too. So a new log needs a shut gate at its
+//! start before it is opened first.
 //!
 //! [`FilePair`] is the pair of files, as far as a contract can say what files do: what a read returns, what a crash may
 //! leave now, and what a crash at each past moment might have left. [`recover`] opens a pair. It syncs both files
 //! first, since a killed process leaves writes that no sync has covered. [`Redo::commit`] commits a batch, all of it or
 //! nothing. [`Redo::write_loose`] writes a patch that doesn't count yet. [`Redo::restart`] makes loose patches durable
-//! and empties the log. [`MemoryPair`] is a pair in memory, and [`SystemPair`] is a pair of the operating system's
+//! and empties the log. [`write_fronts`] writes what the caller keeps in the two files besides. [`MemoryPair`] is a pair in memory, and [`SystemPair`] is a pair of the operating system's
 //! files.
 //!
 //! The model of a crash: bytes outside the ranges that were written since the last sync do not change, and holes read
@@ -35,11 +36,12 @@ mod redo;
 mod steps;
 mod system;
 
-pub use batch::{Patch, check_of};
+pub use batch::{OPEN, Patch, SHUT, check_of};
 pub use bounds::Bounds;
 pub use faults::RedoError;
 pub use file_pair::{FileKind, FilePair};
 pub use laws::{crash_keeps_records, first_commit, one_reading, replay_heals};
 pub use memory::MemoryPair;
 pub use redo::{Redo, recover};
+pub use steps::write_fronts;
 pub use system::{Start, SystemPair, Unknown};

@@ -234,6 +234,11 @@ impl FilePair for MemoryPair {
         }
     }
 
+    /// A pair in memory has no fronts.
+    fn write_front(&mut self, _file: FileKind, _at: u64, _bytes: &[u8]) -> Result<(), RedoError> {
+        Ok(())
+    }
+
     fn errno(&self) -> Option<i32> {
         None
     }

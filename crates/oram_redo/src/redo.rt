@@ -3,7 +3,7 @@
 //! A batch goes into the log in two writes, each with a sync: everything but its first gate, and then that gate. So a crash
 //! leaves an open gate with the whole batch, or a shut gate. Then the batch is written to its places, without a sync: whatever
 //! a crash does to them, replaying the log heals it.
-ghost use Rattle.std.specs.Prelude.{◌≡◌, ◌⊎◌, ◌<◌, ◌≤◌, ◌+◌, ◌^◌, ◌++◌, ◌∷◌, [], All, length, IfNone, IfOk, IfSome, IfErr, IsErrOf, OnErr, OnOk};
+ghost use Rattle.std.specs.Prelude.{◌≡◌, ◌⊎◌, ◌<◌, ◌≤◌, ◌+◌, ◌^◌, ◌++◌, ◌∷◌, [], ◌↔◌, All, IsTrue, length, IfNone, IfOk, IfSome, IfErr, IsErrOf, OnErr, OnOk};
 ghost use Rattle.oram_redo.specs.Batch.{patches_of};
 ghost use Rattle.oram_redo.specs.Content.{Content, Agrees, bytes_at, put};
 ghost use Rattle.oram_redo.specs.FilePair.{ComesAfter, HasFailed, LeavesOnly, ReadOnto, Rises, Torn, WritesNothing};
@@ -58,6 +58,13 @@ pub fn recover<F: FilePair>(alloc: Global, files: &mut F, bounds: Bounds) -> Res
 }
 
 impl Redo {
+    /// Returns whether the log has no entries.
+    pub fn is_empty(&self) -> bool
+        ensures { IsTrue result ↔ (end_of self.now ≡ (bounds_of self.now).log_start) }
+    {
+        self.end == self.bounds.log_start
+    }
+
     /// Reads `len` bytes of the records.
     pub fn read<F: FilePair>(
         &self,
@@ -146,7 +153,7 @@ impl Redo {
     // Returns the batch's entries with a shut gate after them, and the place of that gate.
     fn spell(&self, alloc: Global, batch: &[Patch]) -> Result<(Vec<u8>, u64), RedoError>
         requires { All (Fits (bounds_of self.now)) (patches_of batch.now) }
-        ensures body { IfOk result (λ spelled. spelled.0.items ≡ entries (patches_of batch.now) ++ 0 ∷ []) }
+        ensures body { IfOk result (λ spelled. spelled.0.items ≡ entries (patches_of batch.now) ++ 15 ∷ []) }
         ensures end { IfOk result (λ spelled. spelled.1 ≡ self.now.end + length (entries (patches_of batch.now))) }
         ensures within { IfOk result (λ spelled. spelled.1 < self.now.bounds.log_end) }
         ensures in_range { IfOk result (λ spelled. spelled.1 < 2 ^ 64) }

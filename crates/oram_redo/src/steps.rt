@@ -79,6 +79,22 @@ pub fn write_synced<F: FilePair>(
     files.sync(file)
 }
 
+/// Writes bytes into the fronts of both files: into that of the log, which is then synced, and after that into that of the
+/// records, which are synced too.
+pub fn write_fronts<F: FilePair>(
+    files: &mut F,
+    at: u64,
+    log: &[u8],
+    records: &[u8],
+) -> Result<(), RedoError>
+    ensures nothing_written { WritesNothing F.model files.old files.new }
+    ensures failed { IfErr result (λ e. (e ≡ RedoError.Failed) × HasFailed F.model files.old files.new) }
+    ensures after { ComesAfter F.model files.old files.new }
+{
+    files.write_front(FileKind::Log, at, log)?;
+    files.write_front(FileKind::Records, at, records)
+}
+
 /// Writes a byte over a gate of the log, and syncs the log. That can't be taken back, so it fails with `Failed` even if
 /// it finds no room.
 pub fn set_gate<F: FilePair>(files: &mut F, at: u64, gate: u8) -> Result<(), RedoError>

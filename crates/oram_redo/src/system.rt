@@ -227,6 +227,11 @@ fn write_all(file: &File, at: u64, bytes: &[u8]) -> io::Result<()> {
     Ok(())
 }
 
+fn write_and_sync(file: &File, at: u64, bytes: &[u8]) -> io::Result<()> {
+    write_all(file, at, bytes)?;
+    file.sync_data()
+}
+
 // Writes zeros from one place of a file to another.
 fn write_zeros(file: &File, from: u64, end: u64) -> io::Result<()> {
     let zeros = [0; PIECE];
@@ -317,6 +322,20 @@ impl<S: Start> FilePair for SystemPair<S> {
                 self.grow_beside(file);
                 Ok(())
             }
+            Err(error) => {
+                self.errno.set(error.raw_os_error());
+                self.has_failed = true;
+                Err(RedoError::Failed)
+            }
+        }
+    }
+
+    fn write_front(&mut self, file: FileKind, at: u64, bytes: &[u8]) -> Result<(), RedoError> {
+        if self.has_failed {
+            return Err(RedoError::Failed);
+        }
+        match write_and_sync(self.file(file), at, bytes) {
+            Ok(()) => Ok(()),
             Err(error) => {
                 self.errno.set(error.raw_os_error());
                 self.has_failed = true;

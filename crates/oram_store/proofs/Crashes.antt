@@ -280,6 +280,8 @@ module _ {F : Type 0} (model : FileModel F) where
   reason_then old mid new fault.WithoutLog runs same reason = reason
   reason_then old mid new fault.LogOfAnotherFile runs same reason = reason
   reason_then old mid new fault.LogWithoutFile runs same reason = reason
+  reason_then old mid new fault.LogOlder runs same reason = reason
+  reason_then old mid new fault.LogNewer runs same reason = reason
   reason_then old mid new fault.Damaged runs same reason = reason
   reason_then old mid new fault.LogDamaged runs same reason = reason
 

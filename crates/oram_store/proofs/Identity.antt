@@ -4,15 +4,11 @@ use Rattle.std.specs.Prelude.{is_some}
 use Rattle.oram_host.specs.declared.refusals.HostRefusal.{HostRefusal}
 use Rattle.oram_host.specs.declared.refusals.HostRefusal.TheVariants.{ShapeTaken}
 use Rattle.oram_layout.specs.Limits.{TreeShape}
-use Rattle.oram_layout.specs.Records.{Records}
 use Rattle.oram_layout.specs.Trees.{Trees, shape_at}
-use Rattle.oram_store.specs.Answers.{Answers}
 use Rattle.oram_store.specs.Laws.{IdentityStays}
-use Rattle.oram_store.specs.Refusals.{RespondsWith, by_shape, is_fixed, when}
+use Rattle.oram_store.specs.Refusals.{by_shape, is_fixed, when}
 use Rattle.oram_store.specs.declared.store.TheConstants.{DISK_IDENTITY_TREE}
-use Rattle.oram_wire.specs.declared.host_messages.HostAnswer.{HostAnswer}
 use Rattle.oram_wire.specs.declared.host_messages.HostAnswer.TheVariants as answer
-use Rattle.oram_wire.specs.declared.host_messages.HostRequest.{HostRequest}
 use Rattle.oram_wire.specs.declared.host_messages.HostRequest.TheVariants as request
 
 refused : (why : HostRefusal) → Some why ≡ None → ⊥

@@ -66,7 +66,7 @@ pub holds_then : (trees : Trees) (one two : RecordsOf) (r : Content) → AreKept
 holds_then trees one two r same holds = record { file = holds.file; kept = λ tree node. holds.kept tree node ∙ same tree node }
 
 module _ {F : Type 0} (model : FileModel F) where
-  steady_same : (old new : FileValue F) (loose : List Patch) → IsSteady model old loose → ReadsOnly model old new → IsSteady model new loose
+  pub steady_same : (old new : FileValue F) (loose : List Patch) → IsSteady model old loose → ReadsOnly model old new → IsSteady model new loose
   steady_same old new loose s reads = record {
     bounded = ap bounds_of reads.redo ∙ s.bounded;
     consistent = consistent loose s.consistent;
@@ -76,6 +76,14 @@ module _ {F : Type 0} (model : FileModel F) where
       consistent : (l : List Patch) → IsCrashConsistent model old.redo l old.files → IsCrashConsistent model new.redo l new.files
       consistent l was = subst (λ (r : Redo). IsCrashConsistent model r l new.files) (sym reads.redo)
           (consistent_same old.redo l (model.seen old.files) (model.may_leave old.files) was (model.seen new.files) (model.may_leave new.files) reads.nothing.seen_same reads.nothing.leaves)
+
+  -- what only reads, or writes into the fronts, keeps what a crash finds
+  pub reads_passes : (old new : FileValue F) (loose : List Patch) → IsSteady model old loose → ReadsOnly model old new → Passes model loose (λ r. AgreesBut loose r (model.seen old.files Records)) old new
+  reads_passes old new loose s reads = record {
+    steady = λ running. steady_same old new loose s reads;
+    moments = leads_to model old.files new.files (model.may_leave old.files) (Finds (model.seen old.files) (λ r. AgreesBut loose r (model.seen old.files Records))) reads.nothing.moments
+        (λ c now. found_now model old loose c s now);
+  }
 
   pub holds_now : (trees : Trees) (v : FileValue F) (c : Contents) → IsSoundFile model trees v → model.may_leave v.files c → Finds (model.seen v.files) (Holds trees (records_in trees (model.seen v.files Records))) c
   holds_now trees v c s now =

@@ -1,4 +1,4 @@
--- What closing a store leaves.
+-- What a store leaves that has emptied its log.
 use Rattle.std.specs.Prelude.{[], OnOk, Result}
 use Rattle.oram_redo.specs.FilePair.{Contents, FileModel, LeavesOnly}
 use Rattle.oram_redo.specs.Log.{IsLog}
@@ -15,7 +15,7 @@ pub record IsClosed (trees : Trees) (records : Records) (c : Contents) : Type 0 
   pub log : IsLog bounds [] (c Log)
   pub holds : Holds trees records (c OfRecords)
 
--- A store is closed. `last` is its file when it is dropped.
+-- A store has emptied its log, or tried to. `last` is its file then.
 pub record Closes {F : Type 0} (model : FileModel F) (result : Result Unit StoreFault) (old : StoreValue F) (last : FileValue F) : Type 0 where
   pub sure : OnOk result (IsSound model old → (c : Contents) → model.may_leave last.files c → IsClosed old.trees (records_of model old) c)
   pub any_moment : IsSound model old → LeavesOnly model old.file.files last.files

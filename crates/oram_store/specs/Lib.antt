@@ -11,3 +11,4 @@ pub mod PendingCells
 pub mod KeptRecords
 pub mod Crashes
 pub mod AnswerBytes
+pub mod Matching

@@ -18,17 +18,20 @@ use crate::faults::StoreFault;
 use crate::record_file::{BOUNDS, RecordFile};
 use crate::store::FileStore;
 use oram_layout::{
-    ENTRY_LEN, Identity, TREES, Tree, entry_place, front_of, log_front_of, read_trees,
+    ENTRY_LEN, Generation, Identity, TREES, Tree, entry_place, front_of, log_front_of, read_trees,
 };
-use oram_redo::{FileKind, FilePair, Redo, recover};
+use oram_redo::{FileKind, FilePair, Redo, SHUT, recover};
 use std::alloc::Global;
 
-/// Turns two empty files into a store without trees, with this identity. After `Ok` they are on the disk. After `Err`
-/// they may be neither empty nor a store's, and have to be made again.
+/// Turns two empty files into a store without trees, with this identity, and with a log of the first generation. After `Ok` they are
+/// on the disk. After `Err` they may be neither empty nor a store's, and have to be made again.
 pub fn create<F: FilePair>(files: &mut F, identity: &Identity) -> Result<(), StoreFault>
     requires { (file : _) (i : ℕ) → F.model.seen files.old file i ≡ 0 }
     ensures records { OnOk result (IsBucketFile (replicate 256 None) (F.model.seen files.new Records)) }
     ensures log { OnOk result (IsLog bounds [] (F.model.seen files.new Log)) }
+
+    // The first gate is there and shut: a log without it counts as cut off.
+    ensures gate { OnOk result (F.model.seen files.new Log bounds.log_start ≡ 15) }
 
     // Each file says that it has this identity.
     ensures front { OnOk result (Has (front_bytes letters identity.now) 0 (F.model.seen files.new Records)) }
@@ -41,6 +44,7 @@ pub fn create<F: FilePair>(files: &mut F, identity: &Identity) -> Result<(), Sto
 {
     files.write_at(FileKind::Log, 0, &log_front_of(identity))?;
     files.write_at(FileKind::Records, 0, &front_of(identity))?;
+    files.write_at(FileKind::Log, BOUNDS.log_start, &[SHUT])?;
     files.sync(FileKind::Log)?;
     files.sync(FileKind::Records)?;
     Ok(())
@@ -85,8 +89,12 @@ fn recover_trees<F: FilePair>(
 
 impl<F: FilePair + Drop> FileStore<F> {
     /// Opens the files of a store, as a crash or a clean end has left them. The caller has to look at their fronts
-    /// first.
-    pub fn over(alloc: Global, mut files: F) -> Result<FileStore<F>, StoreFault>
+    /// first, and gives the generation of the log that they say.
+    pub fn over(
+        alloc: Global,
+        mut files: F,
+        generation: Generation,
+    ) -> Result<FileStore<F>, StoreFault>
         // If the files stand for the content of a bucket file, the store has its trees and its records.
         ensures found { IfOk result (λ store. F.model.is_honest store.file.files → (trees : Trees) (c : Content) → StandsFor bounds [] c (F.model.seen files) → IsBucketFile trees c
             → (store.trees ≡ trees) × IsSound F.model store × AreKept (records_in trees c) (records_of F.model store)) }
@@ -102,6 +110,6 @@ impl<F: FilePair + Drop> FileStore<F> {
         ensures err { IfErr result (λ why. (last : F) × IsNotOpened F.model why files last) }
     {
         let (redo, trees) = recover_trees(alloc, &mut files)?;
-        Ok(FileStore::new(alloc, RecordFile::new(files, redo), trees))
+        Ok(FileStore::new(alloc, RecordFile::new(files, redo, generation), trees))
     }
 }

@@ -30,6 +30,12 @@ pub enum StoreFault {
     /// There is a log that holds records, but no file of buckets beside it.
     #[error("it isn't there, but its log is, the file beside it with -log after its name: the two belong together, so put the file back, or move the log away for a new one")]
     LogWithoutFile,
+    /// The log is older than the file beside it.
+    #[error("its log, the file beside it with -log after its name, is older than it, and both are left as they are: put back the log that it was served with last")]
+    LogOlder,
+    /// The file is older than the log beside it.
+    #[error("it is older than its log, the file beside it with -log after its name, and both are left as they are: put back the file that the log was served with last")]
+    LogNewer,
     /// The file holds something that no store writes.
     #[error("it is damaged")]
     Damaged,

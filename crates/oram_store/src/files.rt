@@ -8,10 +8,14 @@ ghost use Rattle.oram_layout.specs.declared.fronts.Identity.{Identity};
 
 use crate::creation::create;
 use crate::faults::StoreFault;
+use crate::matching::check_generations;
 use crate::record_file::BOUNDS;
 use crate::store::FileStore;
-use oram_layout::{FRONT_LEN, Front, Identity, read_front, read_log_front};
-use oram_redo::{SystemPair, Unknown};
+use oram_layout::{
+    FRONT_LEN, Front, Generation, Identity, Newest, WHOLE_FRONT_LEN, newest_in, read_front,
+    read_log_front,
+};
+use oram_redo::{FileKind, OPEN, SHUT, SystemPair, Unknown, write_fronts};
 use std::alloc::{AllocError, Global};
 use std::fs::{File, OpenFile, OpenOptions, TryLockError};
 use std::io::ErrorKind;
@@ -32,8 +36,9 @@ const OWNERS_ALONE: u32 = 0o600;
 /// Opens the file of a store, or makes it if there is none. Its log is beside it, under the same name with `-log`
 /// appended. The two belong together.
 ///
-/// A file that isn't a store's, is damaged or is held by another process is refused and keeps its bytes. This reads
-/// only the header of the file. It reads the log, which has 64 MiB at most, and writes it over itself.
+/// A file that isn't a store's, is damaged, is held by another process, or lies beside a log of another moment is refused and keeps
+/// its bytes. This reads only the header of the file. It reads the log, which has 64 MiB at most, and writes it over itself. If the
+/// log has entries, it writes them to their places and empties it.
 ///
 /// After the disk has failed (`StoreFault::Io`, `StoreFault::Closed`), drop the store and open its file again with this
 /// function: everything that was acknowledged and committed is there.
@@ -43,12 +48,17 @@ pub fn open_store(rt: &HostRuntime, alloc: Global, path: &str) -> Result<BucketF
     ensures { IfOk result (λ store. (store.pending ≡ []) × (store.failure ≡ None) × (store.file.has_stopped ≡ false)) }
 {
     keep_freed_memory(alloc);
-    let files = if is_there(rt, path)? {
+    let (files, generation) = if is_there(rt, path)? {
         open_files(rt, alloc, path)?
     } else {
         make_files(rt, alloc, path)?
     };
-    FileStore::over(alloc, files)
+    let mut store = FileStore::over(alloc, files, generation)?;
+    // So a copy of the log that was made while no host ran is told from the log that this one goes on with.
+    if !store.has_empty_log() {
+        store.empty_log()?;
+    }
+    Ok(store)
 }
 
 /// Makes the C library keep freed memory. Otherwise it returns the memory of each large message to the system and takes
@@ -120,9 +130,49 @@ fn bytes_at(file: &File, at: u64, bytes: &mut [u8]) -> io::Result<usize>
 
 /// Returns the identity of a file of buckets.
 fn identity_of(records: &File) -> Result<Identity, StoreFault> {
-    let mut front = [0; FRONT_LEN];
+    let mut front = [0; WHOLE_FRONT_LEN];
     let len = bytes_at(records, 0, &mut front)?;
     identity_in(&front[..len])
+}
+
+/// Returns what the front of a file says of the log's generation. Fails with `spoilt` if it says nothing that is sound.
+fn newest_of(
+    kind: FileKind,
+    file: &File,
+    identity: &Identity,
+    spoilt: StoreFault,
+) -> Result<Newest, StoreFault> {
+    let mut front = [0; WHOLE_FRONT_LEN];
+    let len = bytes_at(file, 0, &mut front)?;
+    newest_in(kind, identity, &front[..len]).ok_or(spoilt)
+}
+
+/// Returns whether a log has entries. Fails with `LogDamaged` if its first gate is neither open nor shut.
+fn has_entries(log: &File) -> Result<bool, StoreFault> {
+    let mut gate = [0];
+    let len = bytes_at(log, BOUNDS.log_start, &mut gate)?;
+    match gate {
+        [OPEN] if len == 1 => Ok(true),
+        [SHUT] if len == 1 => Ok(false),
+        _ => Err(StoreFault::LogDamaged),
+    }
+}
+
+/// Returns the generation of a log, and whether the file doesn't say it yet. Refuses a log that belongs to another moment of this
+/// file.
+fn generation_of(
+    records: &File,
+    log: &File,
+    identity: &Identity,
+) -> Result<(Generation, bool), StoreFault> {
+    let in_file = newest_of(FileKind::Records, records, identity, StoreFault::Damaged)?;
+    let in_log = newest_of(FileKind::Log, log, identity, StoreFault::LogDamaged)?;
+    check_generations(&in_file, &in_log, has_entries(log)?)?;
+    let generation = Generation {
+        identity: *identity,
+        number: in_log.number,
+    };
+    Ok((generation, in_file.number != in_log.number))
 }
 
 /// Returns the identity in the first bytes of a file of buckets, or why another file is refused.
@@ -165,17 +215,39 @@ fn check_log_front(front: &[u8], identity: &Identity) -> Result<(), StoreFault>
     }
 }
 
-/// Opens the file of a store, and its log.
+/// Opens the file of a store, and its log. Returns the log's generation, too.
 fn open_files(
     rt: &HostRuntime,
     alloc: Global,
     path: &str,
-) -> Result<SystemPair<Unknown>, StoreFault> {
+) -> Result<(SystemPair<Unknown>, Generation), StoreFault> {
     let records = open_plain(rt, path, StoreFault::NotABucketFile)?;
     let identity = identity_of(&records)?;
     lock(&records)?;
     let log = open_log(rt, alloc, path, &identity)?;
-    Ok(SystemPair::new(Unknown, records, log, BOUNDS.log_end)?)
+    let (generation, is_behind) = generation_of(&records, &log, &identity)?;
+    say_again(&records, &generation, is_behind)?;
+    let files = SystemPair::new(Unknown, records, log, BOUNDS.log_end)?;
+    Ok((files, generation))
+}
+
+/// Writes the log's generation into the front of the file, although the file may say it already: if a sync has failed, in this
+/// process or an earlier one, a read may return a number that the disk lacks. The sync that follows covers it.
+fn say_again(records: &File, generation: &Generation, is_behind: bool) -> io::Result<()> {
+    let field = generation.field(FileKind::Records);
+    match records.write_all_at(&field, generation.place()) {
+        // A file system that copies on write may have no room for this, and still be read.
+        Err(error) if !is_behind && lacks_room(&error) => Ok(()),
+        written => written,
+    }
+}
+
+/// Returns whether a write failed because it found no room.
+fn lacks_room(error: &io::Error) -> bool {
+    matches!(
+        error.kind(),
+        ErrorKind::StorageFull | ErrorKind::QuotaExceeded
+    )
 }
 
 /// Opens the log of a file with this identity, at the path that any links on the way to the file lead to.
@@ -210,7 +282,7 @@ fn open_new(rt: &HostRuntime, name: &str) -> io::Result<File> {
 fn holds_entries(log: &File) -> io::Result<bool> {
     let mut gate = [0];
     let len = bytes_at(log, BOUNDS.log_start, &mut gate)?;
-    Ok(len > 0 && gate[0] != 0)
+    Ok(len > 0 && gate[0] != SHUT)
 }
 
 /// Refuses a log where a new one would be, unless an attempt to make a store has left it.
@@ -245,12 +317,12 @@ fn rename_new(rt: &HostRuntime, from: &str, to: &str) -> io::Result<()> {
     File::open(rt, folder_of(to))?.sync_all()
 }
 
-/// Makes the file of a store and its log, unless there is a log already.
+/// Makes the file of a store and its log, unless there is a log already. Returns the log's generation, too.
 fn make_files(
     rt: &HostRuntime,
     alloc: Global,
     path: &str,
-) -> Result<SystemPair<Unknown>, StoreFault> {
+) -> Result<(SystemPair<Unknown>, Generation), StoreFault> {
     let log_name = log_name(alloc, path)?;
     check_no_log(rt, log_name.as_str())?;
     make_and_rename(rt, alloc, path, log_name.as_str())
@@ -263,13 +335,22 @@ fn make_and_rename(
     alloc: Global,
     path: &str,
     log_name: &str,
-) -> Result<SystemPair<Unknown>, StoreFault> {
+) -> Result<(SystemPair<Unknown>, Generation), StoreFault> {
     let (new_file, new_log) = (new_name(alloc, path)?, new_name(alloc, log_name)?);
     let records = open_new_locked(rt, new_file.as_str(), path)?;
     let files = make_empty(rt, records, new_log.as_str())?;
     rename_new(rt, new_log.as_str(), log_name)?;
     rename_new(rt, new_file.as_str(), path)?;
     Ok(files)
+}
+
+/// Has the fronts of both files say this generation.
+fn say_both(files: &mut SystemPair<Unknown>, generation: &Generation) -> Result<(), StoreFault> {
+    let (log, records) = (
+        generation.field(FileKind::Log),
+        generation.field(FileKind::Records),
+    );
+    Ok(write_fronts(files, generation.place(), &log, &records)?)
 }
 
 /// Opens the file that is being made for a path, and locks it.
@@ -288,11 +369,14 @@ fn make_empty(
     rt: &HostRuntime,
     records: File,
     log_name: &str,
-) -> Result<SystemPair<Unknown>, StoreFault> {
+) -> Result<(SystemPair<Unknown>, Generation), StoreFault> {
     let log = open_new(rt, log_name)?;
     records.set_len(0)?;
     log.set_len(0)?;
     let mut files = SystemPair::new(Unknown, records, log, BOUNDS.log_end)?;
-    create(&mut files, &new_identity(rt)?)?;
-    Ok(files)
+    let first = Generation::first(new_identity(rt)?);
+    create(&mut files, &first.identity)?;
+    say_both(&mut files, &first.before())?;
+    say_both(&mut files, &first)?;
+    Ok((files, first))
 }

@@ -17,7 +17,7 @@ use crate::creation::create;
 use crate::faults::StoreFault;
 use crate::store::FileStore;
 use oram_bytes::Bytes;
-use oram_layout::{Identity, Shape};
+use oram_layout::{Generation, Identity, Shape};
 use oram_redo::FilePair;
 use oram_wire::{HostAnswer, HostRequest};
 use std::alloc::{AllocError, Global};
@@ -49,7 +49,7 @@ pub fn first_life<F: FilePair + Drop>(
         → Finds (F.model.seen store.file.files) (HoldsPath store.trees tree (sizes_of shape) leaf records) c)) }
 {
     create(&mut files, identity)?;
-    let mut store = FileStore::over(alloc, files)?;
+    let mut store = FileStore::over(alloc, files, Generation::first(*identity))?;
     if !is_stored(alloc, &mut store, tree, shape, leaf, records)? {
         return Ok(None);
     }

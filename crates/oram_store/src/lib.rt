@@ -14,6 +14,7 @@ mod creation;
 mod faults;
 mod files;
 mod laws;
+mod matching;
 mod record_file;
 mod sinks;
 mod store;

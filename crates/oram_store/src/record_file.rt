@@ -1,7 +1,7 @@
 //! The file of records with its redo log: what is read and written, and what stops it.
 //!
 //! Each call of the redo log is in a function of its own, because a proof carries along what is known about each call.
-ghost use Rattle.std.specs.Prelude.{◌≡◌, ◌⊎◌, ◌+◌, ◌<◌, ◌≤◌, ◌∷◌, [], All, true, false, length, IfErr, IfOk, IsErrOf, MatchResult, OnErr, OnOk};
+ghost use Rattle.std.specs.Prelude.{◌≡◌, ◌⊎◌, ◌+◌, ◌<◌, ◌≤◌, ◌∷◌, ◌↔◌, [], All, IsTrue, true, false, length, IfErr, IfOk, IsErrOf, MatchResult, OnErr, OnOk};
 ghost use Rattle.oram_redo.specs.Batch.{patches_of};
 ghost use Rattle.oram_redo.specs.Content.{Agrees, bytes_at, put};
 ghost use Rattle.oram_redo.specs.FilePair.{ReadOnto, Rises};
@@ -11,7 +11,8 @@ ghost use Rattle.oram_store.specs.RecordFile.{Calls, Commits, IsSteady, MayHave,
 ghost use Rattle.oram_redo.specs.declared.file_pair.FileKind.TheVariants.{Records};
 
 use crate::faults::StoreFault;
-use oram_redo::{Bounds, FilePair, Patch, Redo, RedoError};
+use oram_layout::Generation;
+use oram_redo::{Bounds, FileKind, FilePair, Patch, Redo, RedoError, write_fronts};
 use std::alloc::Global;
 use std::marker::Model;
 
@@ -27,6 +28,8 @@ pub(crate) const BOUNDS: Bounds = Bounds {
 pub(crate) struct RecordFile<F: FilePair> {
     files: F,
     redo: Redo,
+    /// The generation of the log, which both fronts say. No clause says what fronts hold.
+    generation: Generation,
     /// Whether, since the last sync of the records, a patch was written that the log doesn't have.
     is_loose: bool,
     /// Whether a call of the files has failed, so that they have to be opened again.
@@ -46,14 +49,15 @@ impl<F: FilePair> Model for RecordFile<F> {
 }
 
 impl<F: FilePair> RecordFile<F> {
-    /// Returns a record file over files that were opened, with their log.
-    pub(crate) fn new(files: F, redo: Redo) -> RecordFile<F>
+    /// Returns a record file over files that were opened, with their log, which has this generation.
+    pub(crate) fn new(files: F, redo: Redo, generation: Generation) -> RecordFile<F>
         requires { bounds_of redo ≡ bounds }
         ensures { result ≡ record { files = files; redo = redo; is_loose = false; has_stopped = false } }
     {
         RecordFile {
             files,
             redo,
+            generation,
             is_loose: false,
             has_stopped: false,
         }
@@ -142,8 +146,48 @@ impl<F: FilePair> RecordFile<F> {
         }
     }
 
-    /// Makes everything that was written durable, and empties the log.
+    /// Returns whether the log has no entries.
+    pub(crate) fn has_empty_log(&self) -> bool
+        ensures { IsTrue result ↔ (end_of self.now.redo ≡ bounds.log_start) }
+    {
+        self.redo.is_empty()
+    }
+
+    /// Makes everything that was written durable, and empties the log. A log that had entries begins a new generation, so that
+    /// a copy of it from before is told from it.
     pub(crate) fn restart(&mut self) -> Result<(), StoreFault>
+        ensures passes { (loose : _) → IsSteady F.model self.old loose
+            → Passes F.model [] (λ r. AgreesBut loose r (F.model.seen self.old.files Records)) self.old self.new }
+        ensures empty { OnOk result (end_of self.new.redo ≡ bounds.log_start) }
+        ensures sure { OnOk result (self.new.is_loose ≡ false) }
+        ensures same { Agrees (F.model.seen self.new.files Records) (F.model.seen self.old.files Records) }
+        ensures errors { IfErr result (λ fault. (fault ≡ StoreFault.Io) ⊎ (fault ≡ StoreFault.Closed)) }
+        ensures calls { Calls F.model result self.old self.new }
+        ensures running { OnOk result (self.new.has_stopped ≡ false) }
+    {
+        if self.has_empty_log() {
+            return self.settle();
+        }
+        self.begin_anew()
+    }
+
+    /// Makes everything that was written durable, empties the log, and begins a new generation.
+    fn begin_anew(&mut self) -> Result<(), StoreFault>
+        ensures passes { (loose : _) → IsSteady F.model self.old loose
+            → Passes F.model [] (λ r. AgreesBut loose r (F.model.seen self.old.files Records)) self.old self.new }
+        ensures empty { OnOk result (end_of self.new.redo ≡ bounds.log_start) }
+        ensures sure { OnOk result (self.new.is_loose ≡ false) }
+        ensures same { Agrees (F.model.seen self.new.files Records) (F.model.seen self.old.files Records) }
+        ensures errors { IfErr result (λ fault. (fault ≡ StoreFault.Io) ⊎ (fault ≡ StoreFault.Closed)) }
+        ensures calls { Calls F.model result self.old self.new }
+        ensures running { OnOk result (self.new.has_stopped ≡ false) }
+    {
+        self.settle()?;
+        self.begin_generation()
+    }
+
+    /// Makes everything that was written durable, and empties the log.
+    fn settle(&mut self) -> Result<(), StoreFault>
         ensures passes { (loose : _) → IsSteady F.model self.old loose
             → Passes F.model [] (λ r. AgreesBut loose r (F.model.seen self.old.files Records)) self.old self.new }
         ensures empty { OnOk result (end_of self.new.redo ≡ bounds.log_start) }
@@ -165,7 +209,30 @@ impl<F: FilePair> RecordFile<F> {
         }
     }
 
-    /// Makes the loose patches durable.
+    /// Has both fronts say that the log, which has no entries, begins a new generation. The log's front says it first: so what a
+    /// crash leaves is a file and a log of one generation, or a log without entries that is one ahead.
+    fn begin_generation(&mut self) -> Result<(), StoreFault>
+        ensures reads { ReadsOnly F.model self.old self.new }
+        ensures errors { IfErr result (λ fault. (fault ≡ StoreFault.Io) ⊎ (fault ≡ StoreFault.Closed)) }
+        ensures calls { Calls F.model result self.old self.new }
+        ensures running { OnOk result (self.new.has_stopped ≡ false) }
+    {
+        if self.has_stopped {
+            return Err(StoreFault::Closed);
+        }
+        let next = self.generation.next();
+        let (log, records) = (next.field(FileKind::Log), next.field(FileKind::Records));
+        match write_fronts(&mut self.files, next.place(), &log, &records) {
+            Ok(()) => {
+                self.generation = next;
+                Ok(())
+            }
+            Err(error) => Err(self.stopped_by(error)),
+        }
+    }
+
+    /// Makes the loose patches durable. Before the first entry of a log, it begins a new generation, so that a copy of the empty
+    /// log is told from the log that has entries.
     fn make_sure(&mut self) -> Result<(), StoreFault>
         ensures passes { (loose : _) → IsSteady F.model self.old loose
             → Passes F.model [] (λ r. AgreesBut loose r (F.model.seen self.old.files Records)) self.old self.new }
@@ -175,7 +242,10 @@ impl<F: FilePair> RecordFile<F> {
         ensures calls { Calls F.model result self.old self.new }
     {
         if self.is_loose {
-            self.restart()?;
+            return self.begin_anew();
+        }
+        if self.has_empty_log() {
+            return self.begin_generation();
         }
         Ok(())
     }

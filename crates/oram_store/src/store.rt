@@ -1,5 +1,5 @@
 //! The store: its trees, and what each request does to their records.
-ghost use Rattle.std.specs.Prelude.{◌≡◌, ◌≢◌, Contains, MatchOption, ◌⊎◌, ◌≤◌, ◌<◌, ◌+◌, ◌*◌, ◌^◌, ◌∷◌, [], ℕ, length, false, None, Some, IfErr, IfOk, IfSome, IsOk, IsSome, IsSomeAnd, MatchResult, OnErr, OnOk};
+ghost use Rattle.std.specs.Prelude.{◌≡◌, ◌≢◌, Contains, MatchOption, ◌⊎◌, ◌≤◌, ◌<◌, ◌+◌, ◌*◌, ◌^◌, ◌∷◌, ◌↔◌, [], ℕ, length, IsTrue, false, None, Some, IfErr, IfOk, IfSome, IsOk, IsSome, IsSomeAnd, MatchResult, OnErr, OnOk};
 ghost use Rattle.oram_host.specs.Path.{FitsAnswer, IsBehind};
 ghost use Rattle.oram_host.specs.Refusals.{code_of};
 ghost use Rattle.oram_layout.specs.Changes.{marks, path_patches, record_patch};
@@ -13,7 +13,8 @@ ghost use Rattle.oram_store.specs.KeptRecords.{Changes, IsSound, IsSoundFile, St
 ghost use Rattle.oram_store.specs.PendingCells.{AreCells};
 ghost use Rattle.oram_store.specs.Reasons.{IsReasonFor, ReportsWhy};
 ghost use Rattle.oram_store.specs.Refusals.{IsRefused, ChangesTrees, is_fixed, refusal_by};
-ghost use Rattle.oram_store.specs.RecordFile.{Calls, Commits, FileValue, IsReason, Runs};
+ghost use Rattle.oram_redo.specs.Redo.{end_of};
+ghost use Rattle.oram_store.specs.RecordFile.{Calls, Commits, IsReason, Runs, bounds};
 ghost use Rattle.oram_wire.specs.declared.host_messages.HostAnswer.{HostAnswer};
 ghost use Rattle.oram_wire.specs.declared.host_messages.HostRequest.{HostRequest};
 
@@ -506,25 +507,23 @@ impl<F: FilePair> FileStore<F> {
 }
 
 impl<F: FilePair> FileStore<F> {
+    /// Returns whether the log has no entries.
+    pub(crate) fn has_empty_log(&self) -> bool
+        ensures { IsTrue result ↔ (end_of self.now.file.redo ≡ bounds.log_start) }
+    {
+        self.file.has_empty_log()
+    }
+
     /// Commits the pending PUTs, syncs the records and empties the log, so that the next opening has nothing to replay. After
     /// `Ok` all records are on the disk, in their places.
     pub fn empty_log(&mut self) -> Result<(), StoreFault>
         ensures none_pending { OnOk result (self.new.pending ≡ []) }
         ensures trees { self.new.trees ≡ self.old.trees }
         ensures commits_puts { IsSound F.model self.old → CommitsPuts F.model self.old self.new }
+        ensures failure { OnOk result (self.new.failure ≡ self.old.failure) }
         ensures closes { Closes F.model result self.old self.new.file }
     {
         self.commit_puts()?;
         self.file.restart()
-    }
-}
-
-impl<F: FilePair + Drop> FileStore<F> {
-    /// Empties the log, and drops the store.
-    pub fn close(mut self) -> Result<(), StoreFault>
-        // `last` is the file when it is dropped.
-        ensures { (last : FileValue F) × Closes F.model result self last }
-    {
-        self.empty_log()
     }
 }

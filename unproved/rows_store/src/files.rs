@@ -7,7 +7,7 @@ use rows::{Page, RowFault, RowWords};
 use std::alloc::Global;
 
 /// The identity of new files. No answer shows it.
-const IDENTITY: Identity = Identity([0x5a; 16]);
+pub const IDENTITY: Identity = Identity([0x5a; 16]);
 
 /// Returns the files of a new store.
 pub fn created(alloc: Global) -> Result<MemoryPair, RowFault> {

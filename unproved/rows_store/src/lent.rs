@@ -69,6 +69,14 @@ impl<F: FilePair> FilePair for FailingFiles<'_, F> {
         self.files.sync(file)
     }
 
+    fn write_front(&mut self, file: FileKind, at: u64, bytes: &[u8]) -> Result<(), RedoError> {
+        let Some(calls) = self.calls.checked_sub(1) else {
+            return Err(RedoError::Failed);
+        };
+        self.calls = calls;
+        self.files.write_front(file, at, bytes)
+    }
+
     fn errno(&self) -> Option<i32> {
         self.files.errno()
     }

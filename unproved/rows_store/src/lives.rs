@@ -1,7 +1,8 @@
 //! Stores over the same files, one after the other. In its life, a store is opened, asked, and closed or cut off.
 
-use crate::files::{created, write_bytes};
+use crate::files::{IDENTITY, created, write_bytes};
 use crate::lent::FailingFiles;
+use oram_layout::Generation;
 use oram_redo::MemoryPair;
 use oram_store::{FileStore, StoreFault};
 use oram_wire::HostAnswer;
@@ -80,10 +81,13 @@ fn ask(
     Ok(())
 }
 
-/// Closes a store, and writes how that ends.
-fn close(store: FileStore<FailingFiles<'_, MemoryPair>>, page: &mut Page) -> Result<(), RowFault> {
+/// Has a store empty its log, and drops it. Writes how that ends.
+fn close(
+    mut store: FileStore<FailingFiles<'_, MemoryPair>>,
+    page: &mut Page,
+) -> Result<(), RowFault> {
     page.part();
-    match store.close() {
+    match store.empty_log() {
         Ok(()) => {
             page.word("closed");
             Ok(())
@@ -123,7 +127,7 @@ fn live(
         calls: life.calls,
         log_room: life.log_room,
     };
-    match FileStore::over(alloc, lent) {
+    match FileStore::over(alloc, lent, Generation::first(IDENTITY)) {
         Ok(store) => ask_each(store, bodies, life.is_closed, page),
         Err(fault) => write_fault(page, fault),
     }

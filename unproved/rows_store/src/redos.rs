@@ -2,7 +2,7 @@
 
 use crate::batches::{batch_of, patches_in};
 use crate::files::{file_in, write_bytes};
-use oram_redo::{Bounds, FilePair, MemoryPair, Redo, RedoError, recover};
+use oram_redo::{Bounds, FileKind, FilePair, MemoryPair, Redo, RedoError, SHUT, recover};
 use rows::{Page, RowFault, RowWords};
 use std::alloc::Global;
 
@@ -25,6 +25,15 @@ struct Opened {
 pub struct Redos {
     files: Option<MemoryPair>,
     opened: Option<Opened>,
+}
+
+/// Returns two files whose log has no entries, and which are empty otherwise.
+fn begun(alloc: Global) -> Result<MemoryPair, RowFault> {
+    let mut files = MemoryPair::new(alloc);
+    match files.write_at(FileKind::Log, BOUNDS.log_start, &[SHUT]) {
+        Ok(()) => Ok(files),
+        Err(_) => Err(RowFault::OutOfMemory),
+    }
 }
 
 /// Writes why a call was not carried out. Files in memory fail only if memory ran out.
@@ -158,7 +167,8 @@ impl Redos {
         }
     }
 
-    /// Answers a row about a redo log. `redo new` makes two empty files.
+    /// Answers a row about a redo log. `redo new` makes two files whose log has no entries, and which are
+    /// empty otherwise.
     pub fn answer(
         &mut self,
         alloc: Global,
@@ -167,7 +177,7 @@ impl Redos {
         page: &mut Page,
     ) -> Result<(), RowFault> {
         if name == "new" {
-            self.files = Some(MemoryPair::new(alloc));
+            self.files = Some(begun(alloc)?);
             self.opened = None;
             page.word("done");
             return Ok(());

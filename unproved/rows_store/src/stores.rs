@@ -1,8 +1,9 @@
 //! A store over two files in memory, compared with the bucket server in memory.
 
 use crate::answers::{ask, ask_bytes, write_answer};
-use crate::files::created;
+use crate::files::{IDENTITY, created};
 use oram_host::Server;
+use oram_layout::Generation;
 use oram_redo::{FileKind, FilePair, MemoryPair};
 use oram_store::{FileStore, StoreFault};
 use oram_wire::{Sink, SinkFault};
@@ -106,7 +107,7 @@ impl Stores {
     /// Opens a store over these files, and makes a server without trees.
     fn open(&mut self, alloc: Global, files: MemoryPair, page: &mut Page) -> Result<(), RowFault> {
         self.server = Some(Server::new(alloc));
-        match FileStore::over(alloc, files) {
+        match FileStore::over(alloc, files, Generation::first(IDENTITY)) {
             Ok(store) => {
                 self.store = Some(store);
                 page.word("done");
@@ -141,7 +142,7 @@ impl Stores {
     /// `store close`: closes the store, and writes how that ends. After that there is no store.
     fn close(&mut self, page: &mut Page) -> Result<(), RowFault> {
         match self.store.take() {
-            Some(store) => write_end(page, store.close()),
+            Some(mut store) => write_end(page, store.empty_log()),
             None => Err(RowFault::NoRow),
         }
     }

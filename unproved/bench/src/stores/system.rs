@@ -23,8 +23,8 @@ pub(crate) fn opened(rt: &HostRuntime, name: &str) -> io::Result<BucketFile> {
 }
 
 /// Closes a store, so that all of it is in its file. Every use of a store ends with this.
-pub(crate) fn close(store: BucketFile) -> io::Result<()> {
-    match store.close() {
+pub(crate) fn close(mut store: BucketFile) -> io::Result<()> {
+    match store.empty_log() {
         Ok(()) => Ok(()),
         Err(_) => Err(io::ErrorKind::Other.into()),
     }

@@ -18,6 +18,6 @@ returns c =
     let bytes = c.args.bytes.now in
     let named = (starts_so bucket_name bytes c.starts_with.result c.starts_with.ensures.value).0 c.if-not-starts_with.false in
     let version = c.eight_bytes_in.result in (
-      λ above. newer_from bytes version named c.eight_bytes_in.ensures (omega arith) (ltb-true 2 version above),
-      λ newer. lt-ltb 2 version (newer_version bytes version c.eight_bytes_in.ensures (omega arith) newer),
+      λ above. newer_from bytes version named c.eight_bytes_in.ensures (omega arith) (ltb-true 3 version above),
+      λ newer. lt-ltb 3 version (newer_version bytes version c.eight_bytes_in.ensures (omega arith) newer),
     )

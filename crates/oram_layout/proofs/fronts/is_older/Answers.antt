@@ -18,6 +18,6 @@ returns c =
     let bytes = c.args.bytes.now in
     let named = (starts_so bucket_name bytes c.starts_with.result c.starts_with.ensures.value).0 c.if-not-starts_with.false in
     let version = c.eight_bytes_in.result in (
-      λ below. older_from bytes version named c.eight_bytes_in.ensures (ltb-true version 2 below),
-      λ older. lt-ltb version 2 (older_version bytes version c.eight_bytes_in.ensures (omega arith) older),
+      λ below. older_from bytes version named c.eight_bytes_in.ensures (ltb-true version 3 below),
+      λ older. lt-ltb version 3 (older_version bytes version c.eight_bytes_in.ensures (omega arith) older),
     )

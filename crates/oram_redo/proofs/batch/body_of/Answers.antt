@@ -27,4 +27,4 @@ loop-patch-preserved c =
 
 pub returns : goal.returns
 returns c =
-    c.in_ok-push.ensures.items ∙ ap (λ (l : List ℕ). l ++ 0 ∷ []) (c.loop-patch.invariant ∙ ap (λ (l : List Patch). entries (patches_of l)) (take_all c.loop-patch.patch-index c.args.batch.now (omega arith)))
+    c.in_ok-push.ensures.items ∙ ap (λ (l : List ℕ). l ++ 15 ∷ []) (c.loop-patch.invariant ∙ ap (λ (l : List Patch). entries (patches_of l)) (take_all c.loop-patch.patch-index c.args.batch.now (omega arith)))

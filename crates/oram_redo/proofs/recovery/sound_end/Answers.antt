@@ -21,7 +21,7 @@ pub returns-clause-shut : goal.returns-clause-shut
 returns-clause-shut g c honest odd =
     let log = g.F.FilePair.model.seen c.args.files.now Log in
     let found = c.in_ok-end.ensures.end (c.read.ensures.after.honest honest) in
-    let gate : log c.in_ok-end.end ≡ 0 = here g c honest ∙ c.if-index-ne-SHUT.false in
+    let gate : log c.in_ok-end.end ≡ 15 = here g c honest ∙ c.if-index-ne-SHUT.false in
     no_odd_gate c.args.bounds found.0 log c.in_ok-end.end found.1 found.2 gate odd
 
 pub returns-then-index-ne-SHUT-clause-damaged : goal.returns-then-index-ne-SHUT-clause-damaged

@@ -1,6 +1,5 @@
 use Rattle.std.proofs.Common.{inl, [], true, false, Ok, Err, refl, subst, ap, sym, ◌∙◌}
 use Rattle.oram_redo.specs.Batch.{patches_of}
-use Rattle.oram_redo.specs.declared.faults.RedoError.{RedoError}
 use Rattle.oram_store.specs.RecordFile.{Calls, FileValue, MayHave}
 use Rattle.oram_store.specs.declared.faults.StoreFault.TheVariants as fault
 use Rattle.oram_store.proofs.Crashes.{stopped_passes}

@@ -1,4 +1,4 @@
-use Rattle.std.proofs.Common.{◌≡◌, [], ap, subst}
+use Rattle.std.proofs.Common.{◌≡◌, [], subst}
 use Rattle.oram_store.specs.Close.{Closes}
 use Rattle.oram_store.specs.Crashes.{CommitsPuts}
 use Rattle.oram_store.specs.KeptRecords.{IsSound, StoreValue}

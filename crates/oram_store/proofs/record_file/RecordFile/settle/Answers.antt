@@ -4,7 +4,7 @@ use Rattle.oram_redo.specs.declared.file_pair.FileKind.TheVariants.{Records}
 use Rattle.oram_store.specs.RecordFile.{Calls, FileValue, IsSteady, Passes}
 use Rattle.oram_store.proofs.Crashes.{failed_passes, found_by, restart_passes, stopped_passes}
 use Rattle.oram_store.proofs.Outcomes.{calls_closed, calls_made}
-use Rattle.oram_store.proofs.record_file.RecordFile.restart.Goals as goal
+use Rattle.oram_store.proofs.record_file.RecordFile.settle.Goals as goal
 
 pub returns-then-self-clause-passes : goal.returns-then-self-clause-passes
 returns-then-self-clause-passes g c loose s =
