@@ -108,10 +108,10 @@ module _ {S : Type 0} (remaining contents : S → Option (List ℕ)) where
     done_put = stamp_put d.key Done d.known.current
 
     put_begun : IsStampPut begun_put
-    put_begun = (0, record_text d.key Begun d.known.current, refl)
+    put_begun = (0, record_text d.key Begun d.known.current, omega arith, refl)
 
     put_done : IsStampPut done_put
-    put_done = (1, record_text d.key Done d.known.current, refl)
+    put_done = (1, record_text d.key Done d.known.current, omega arith, refl)
 
     abbrev Carried : Attempt → Type 0
     Carried came = (exchanges : List Exchange) × CarriesStamped remaining contents d line (first ++ last) came exchanges e line'

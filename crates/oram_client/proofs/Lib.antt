@@ -19,3 +19,6 @@ pub mod NextProcess
 pub mod FolderExample
 pub mod Between
 pub mod TakenStamps
+pub mod TreesApart
+pub mod StampedHost
+pub mod TreesApartExample

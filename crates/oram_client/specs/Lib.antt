@@ -3,6 +3,7 @@ pub mod Keys
 pub mod FileKeeper
 pub mod Reconnect
 pub mod StreamBatches
+pub mod TreesApart
 pub mod BatchExchanges
 pub mod OneHost
 pub mod Dialer
@@ -21,3 +22,4 @@ pub mod Attempts
 pub mod StampMessages
 pub mod Stamped
 pub mod StampedBatches
+pub mod StampedHost

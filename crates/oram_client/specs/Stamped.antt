@@ -1,5 +1,5 @@
 -- A dialer whose host has to show stamps that it may have, and which puts the stamp of the last keeping there with each batch.
-use Rattle.std.specs.Prelude.{◌≡◌, ◌≢◌, ◌⊎◌, ℕ, List, [], ◌∷◌, ◌++◌, length, Option, Result, Ok, Err, MatchResult}
+use Rattle.std.specs.Prelude.{◌≡◌, ◌≢◌, ◌⊎◌, ℕ, ◌<◌, ◌^◌, List, [], ◌∷◌, ◌++◌, length, Option, Result, Ok, Err, MatchResult}
 use Rattle.oram_wire.specs.HostMessages.{done_answer, no_room_answer, payload_answer, put_body, shape_body}
 use Rattle.oram_wire.specs.declared.host_messages.TheConstants.{GOOD, REFUSED}
 use Rattle.oram_session.specs.declared.link.LinkFault.{LinkFault}
@@ -60,7 +60,7 @@ between begun first done last = ((begun ∷ []) ++ first) ++ ((done ∷ []) ++ l
 
 -- a message that puts a record into the stamps' tree
 abbrev pub IsStampPut : List ℕ → Type 0
-IsStampPut body = (node : ℕ) × (bytes : List ℕ) × (body ≡ put_body STAMP_TREE node bytes)
+IsStampPut body = (node : ℕ) × (bytes : List ℕ) × (node < 2 ^ 32) × (body ≡ put_body STAMP_TREE node bytes)
 
 -- some of the exchanges whose messages put stamps are left out, and no others
 abbrev pub LeavesOut : List Exchange → List Exchange → Type 0

@@ -1,6 +1,8 @@
 //! Laws about batches over connections that lead to one host.
 ghost use Rattle.oram_client.specs.OneHost.{AnswersAreTheHosts, ExchangesAreOfOneHost, ExchangesAreOfTheTries, FaultsAreOfMemory, StreamBatchesAreRun, StreamBatchesReachTheHost, TwoTriesExample};
 ghost use Rattle.oram_client.specs.Reconnect.{dialer_kind};
+ghost use Rattle.oram_client.specs.StampedHost.{PathMessagesAreAboutOthers, StampedBatchesReachTheHost};
+ghost use Rattle.oram_client.specs.TreesApart.{TreesApartExample, TreesAreApart};
 
 use crate::dialer::Dial;
 use std::io::{Read, Write};
@@ -50,4 +52,27 @@ pub fn stream_batches_are_run<R: Read, W: Write>()
 /// over a link hold.
 pub fn two_tries_example()
     ensures { TwoTriesExample }
+{}
+
+/// A law about definitions: a host that is honest in some exchanges is also honest in those of them that aren't about one of its trees,
+/// whatever that tree keeps, and the other trees become the same.
+pub fn trees_are_apart()
+    ensures { TreesAreApart }
+{}
+
+/// A law about definitions: a batch that goes between its stamps, over a connection that leads to an honest host, has the exchanges of a
+/// host to which no stamps were put. So the laws about links and their hosts hold of a host without its stamps' tree.
+pub fn stamped_batches_reach_the_host<S: Read + Write>()
+    ensures { StampedBatchesReachTheHost S.remaining S.contents }
+{}
+
+/// A law about definitions: the FETCHes and STOREs of a device's paths are about other trees than the stamps', as
+/// [`stamped_batches_reach_the_host`] requires.
+pub fn path_messages_are_about_others()
+    ensures { PathMessagesAreAboutOthers }
+{}
+
+/// A host with stamps is sent a stamp and a FETCH, and one without them the FETCH alone: the premises of [`trees_are_apart`] hold.
+pub fn trees_apart_example()
+    ensures { TreesApartExample }
 {}

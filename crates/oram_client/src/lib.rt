@@ -52,7 +52,9 @@ pub use keys::{
 };
 pub use law::{
     answers_are_the_hosts, exchanges_are_of_one_host, exchanges_are_of_the_tries,
-    faults_are_of_memory, stream_batches_are_run, stream_batches_reach_the_host, two_tries_example,
+    faults_are_of_memory, path_messages_are_about_others, stamped_batches_reach_the_host,
+    stream_batches_are_run, stream_batches_reach_the_host, trees_apart_example, trees_are_apart,
+    two_tries_example,
 };
 pub use next_process::{
     found_file_is_read_back, next_process_example, next_process_finds_what_was_kept,
