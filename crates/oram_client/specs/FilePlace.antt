@@ -1,10 +1,8 @@
 -- A place for a file in a folder.
-use Rattle.std.specs.Prelude.{◌≡◌, ◌≢◌, ◌⊎◌, ◌++◌, ℕ, Bool, List, ◌∷◌, Option, codes}
-use Rattle.std.specs.declared.io.ErrorKind.{ErrorKind}
-use Rattle.std.specs.declared.io.ErrorKind.TheVariants.{NotFound}
-use Rattle.oram_cli.specs.FileFaults.{IsFaultOf}
+use Rattle.std.specs.Global.{Global}
+use Rattle.std.specs.Prelude.{◌≡◌, ℕ, Bool, List, ◌∷◌, Option, String}
 use Rattle.oram_cli.specs.declared.file_faults.FileFault.{FileFault}
-use Rattle.oram_cli.specs.declared.file_faults.FileFault.TheVariants.{OutOfMemory}
+use Rattle.oram_client.specs.NamedFiles.{IsFailedForOne, IsKeptName, IsKeptUnread}
 use Rattle.oram_client.specs.Replacement.{FileDeed}
 use Rattle.oram_client.specs.DeedHistory.{PlaceNote, Found, IsNoted, IsPossible}
 use Rattle.oram_client.specs.PowerLoss.{FolderHistory}
@@ -23,14 +21,18 @@ pub record NotesFound (p : FilePlaceState) (file : Option (List ℕ)) (q : FileP
   pub name : q.name ≡ p.name
   pub noted : q.notes ≡ Found file ∷ p.notes
 
--- A name couldn't be looked up, so nothing is known of its file: the fault has the system's reason, which isn't that there is
--- no such file.
-abbrev pub IsUnknown : List ℕ → FileFault → Type 0
-IsUnknown name why = (kind : ErrorKind) × (kind ≢ NotFound) × IsFaultOf name kind why
-
--- That is so of the file's own name, or of that of the file that was set aside; or memory ran out.
+-- One of the two names couldn't be looked up, so nothing is known of the file: the fault has the system's reason, which isn't
+-- that there is no such file; or memory ran out.
 abbrev pub IsNotLookedUp : List ℕ → FileFault → Type 0
-IsNotLookedUp name why = IsUnknown name why ⊎ (IsUnknown (name ++ codes ".aside") why ⊎ (why ≡ OutOfMemory))
+IsNotLookedUp = IsFailedForOne (λ _ _. Unit {0})
+
+-- The kept file wasn't read: for such a reason, or because there is no file of either name.
+abbrev pub IsNotRead : List ℕ → FileFault → Type 0
+IsNotRead = IsKeptUnread (λ _ _. Unit {0})
+
+-- The file's own name, or that of the file that was set aside.
+abbrev pub IsItsName : List ℕ → Option (String Global) → Type 0
+IsItsName = IsKeptName (λ _. Unit {0}) (λ _ _. Unit {0})
 
 -- The folder may now be this one.
 abbrev pub PlaceMayBe : FilePlaceState → FolderHistory → Type 0

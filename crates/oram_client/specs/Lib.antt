@@ -16,6 +16,8 @@ pub mod Replacement
 pub mod PowerLoss
 pub mod DeedHistory
 pub mod FilePlace
+pub mod NamedFiles
+pub mod NewFile
 pub mod NextProcess
 pub mod FolderExample
 pub mod Attempts

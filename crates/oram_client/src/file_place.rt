@@ -4,37 +4,23 @@
 //! record that only contracts read, and that record defines what a reader may find. [`FilePlace::read`] notes the file
 //! that it has read there. The prover can't check that a method really makes the calls of the deed that it notes, or that
 //! the file which is noted is the one in the folder: for that, read the code here.
-ghost use Rattle.std.specs.IoError.{error_kind};
-ghost use Rattle.std.specs.Prelude.{◌≡◌, ◌≢◌, ◌⊎◌, ◌++◌, [], None, Some, codes, false, true, string_bytes, IfErr, IfOk, IfSome, IsErrAnd, MatchOption, MatchResult, OnErr};
-ghost use Rattle.oram_cli.specs.FileFaults.{IsFaultOf};
-ghost use Rattle.oram_client.specs.FilePlace.{IsNotLookedUp, IsUnknown, NotesFound};
+ghost use Rattle.std.specs.Prelude.{◌≡◌, [], None, Some, IfErr, IfOk, MatchOption, OnErr};
+ghost use Rattle.oram_client.specs.FilePlace.{IsItsName, IsNotLookedUp, IsNotRead, NotesFound};
 ghost use Rattle.oram_client.specs.KeptFile.{kept_file};
 ghost use Rattle.oram_client.specs.Replacement.{IsStepOf, Writes};
 
 use crate::deed_history::DeedHistory;
 use crate::file_step::{FileFailure, FileStep, step_result};
-use crate::kept_file::{Head, put_kept_file};
+use crate::kept_file::Head;
+use crate::named_files::{SystemFiles, aside_name, kept_bytes_in, kept_name_in};
+use crate::new_file::{SystemFile, make_file};
 use crate::place::Place;
-use oram_cli::{FileFault, call_fault, create_for_owner, folder_of, new_name, sync_folder};
+use oram_cli::{FileFault, folder_of, new_name, sync_folder};
 use std::alloc::{AllocError, Global};
-use std::fs::{Metadata, OpenFile};
 use std::io::ErrorKind;
 use std::marker::Model;
 use std::rt::Files;
 use std::{fs, io};
-
-/// How many times [`kept_bytes`] looks at both names. A file that is being kept meanwhile always has one of the two
-/// names, but may change from one to the other between two looks.
-const LOOKS: u32 = 4;
-
-/// Returns the name of the file that is set aside.
-fn aside_name(alloc: Global, name: &str) -> Result<String, AllocError>
-    ensures { IfOk result (λ aside. string_bytes aside ≡ name.now ++ codes ".aside") }
-{
-    let mut aside = String::from_str(alloc, name)?;
-    aside.push_str(".aside")?;
-    Ok(aside)
-}
 
 /// Returns `done`, but `Ok` if it failed only because the file doesn't exist.
 fn ignore_missing(done: io::Result<()>) -> io::Result<()> {
@@ -118,22 +104,16 @@ impl<R: Files + AllocGlobal> FilePlace<R> {
 }
 
 impl<R: Files> FilePlace<R> {
-    /// Creates the new file, for the owner alone.
-    fn create(&self) -> io::Result<R::File> {
-        create_for_owner(&self.rt, self.new_name.as_str())
-    }
-
-    /// Creates the new file and writes it, and syncs it if `sync` is set.
+    /// Creates the new file and writes it, and syncs it if `sync` is set, as [`make_file`] does.
     fn write_new(&self, head: &Head, process: &[u8], sync: bool) -> Result<(), FileFailure>
         ensures { IfErr result (λ why. IsStepOf (Writes sync (kept_file head.now process.now)) why.step) }
     {
-        let mut file = step_result(FileStep::Create, self.create())?;
-        let written = put_kept_file(&mut file, head, process);
-        step_result(FileStep::Write, written)?;
-        if sync {
-            step_result(FileStep::Sync, file.sync_all())?;
-        }
-        Ok(())
+        let mut file = SystemFile {
+            rt: &self.rt,
+            name: self.new_name.as_str(),
+            file: None,
+        };
+        make_file(&mut file, head, process, sync)
     }
 
     fn rename(&self, from: &str, to: &str) -> io::Result<()> {
@@ -190,59 +170,21 @@ impl<R: Files> Place for FilePlace<R> {
     }
 }
 
-/// Returns whether there is a file of the name that was looked up, from what the system gave for it. Only the error `NotFound`
-/// says that there is none. After any other error, for example that its folder may not be searched, nothing is known of the
-/// file.
-fn is_there(alloc: Global, looked_up: io::Result<Metadata>, name: &str) -> Result<bool, FileFault>
-    ensures ok { IfOk result (λ there. MatchResult looked_up (λ _. there ≡ true) (λ error. (there ≡ false) × (error_kind error ≡ ErrorKind.NotFound))) }
-    ensures err { IfErr result (λ why. IsErrAnd looked_up (λ error. (error_kind error ≢ ErrorKind.NotFound) × IsFaultOf name.now (error_kind error) why)) }
-    ensures fault { IfErr result (IsUnknown name.now) }
-{
-    match looked_up {
-        Ok(_) => Ok(true),
-        Err(error) => {
-            if error.kind() == ErrorKind::NotFound {
-                Ok(false)
-            } else {
-                Err(call_fault(alloc, name, &error))
-            }
-        }
-    }
-}
-
 /// Returns the name under which the kept file `name` is found now: its own, or that of the file that was set aside. A link
 /// counts as the file even if what it leads to is missing, for example because its disk isn't mounted.
 ///
 /// Fails if one of the two names can't be looked up, with the system's reason, or if memory runs out.
 pub fn kept_name<R: Files + AllocGlobal>(rt: &R, name: &str) -> Result<Option<String>, FileFault>
-    ensures found { IfOk result (λ found. IfSome found (λ it. (string_bytes it ≡ name.now) ⊎ (string_bytes it ≡ name.now ++ codes ".aside"))) }
+    ensures found { IfOk result (IsItsName name.now) }
     ensures fault { IfErr result (IsNotLookedUp name.now) }
 {
-    let alloc = rt.alloc();
-    if is_there(alloc, fs::symlink_metadata(rt, name), name)? {
-        return Ok(Some(String::from_str(alloc, name)?));
-    }
-    let aside_name = aside_name(alloc, name)?;
-    let aside = fs::symlink_metadata(rt, aside_name.as_str());
-    if is_there(alloc, aside, aside_name.as_str())? {
-        return Ok(Some(aside_name));
-    }
-    Ok(None)
+    kept_name_in(rt.alloc(), &SystemFiles { rt }, name)
 }
 
 /// Reads the kept file `name`. If there is none, it reads the file that was set aside: a process that ended before it
 /// renamed the new file into place has left only that one.
-pub fn kept_bytes<R: Files + AllocGlobal>(rt: &R, name: &str) -> Result<Vec<u8>, FileFault> {
-    let aside_name = aside_name(rt.alloc(), name)?;
-    for _ in 0..LOOKS {
-        for found in [name, aside_name.as_str()] {
-            match fs::read(rt, found) {
-                Ok(bytes) => return Ok(bytes),
-                Err(error) if error.kind() == ErrorKind::NotFound => {}
-                Err(error) => return Err(call_fault(rt.alloc(), found, &error)),
-            }
-        }
-    }
-    let missing = io::Error::from(ErrorKind::NotFound);
-    Err(call_fault(rt.alloc(), name, &missing))
+pub fn kept_bytes<R: Files + AllocGlobal>(rt: &R, name: &str) -> Result<Vec<u8>, FileFault>
+    ensures { IfErr result (IsNotRead name.now) }
+{
+    kept_bytes_in(rt.alloc(), &SystemFiles { rt }, name)
 }

@@ -26,6 +26,8 @@ mod identity;
 mod kept_file;
 mod keys;
 mod law;
+mod named_files;
+mod new_file;
 mod next_process;
 mod place;
 mod reconnect_link;
@@ -56,6 +58,7 @@ pub use law::{
     stream_batches_are_run, stream_batches_reach_the_host, trees_apart_example, trees_are_apart,
     two_tries_example,
 };
+pub use named_files::{NamedFiles, SystemFiles, kept_name_in, read_if_there};
 pub use next_process::{
     found_file_is_read_back, next_process_example, next_process_finds_what_was_kept,
 };
