@@ -1,3 +1,5 @@
 pub mod Faults
+pub mod HostAsked
 pub mod HostFaults
 pub mod Sealers
+pub mod Serving

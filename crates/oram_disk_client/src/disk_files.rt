@@ -5,7 +5,7 @@ ghost use Rattle.oram_cli.specs.declared.file_faults.FileFault.{FileFault};
 ghost use Rattle.oram_client.specs.KeptFile.{kept_file};
 ghost use Rattle.oram_client.specs.Keys as derived;
 ghost use Rattle.oram_core.specs.Core.{scheme_of};
-ghost use Rattle.oram_disk_client.specs.Faults.{IsAbout, IsMissing, IsNoProcessFor, IsNotKeptFor, IsUnreadFor, was_text};
+ghost use Rattle.oram_disk_client.specs.Faults.{IsAbout, IsFaultFound, IsMissing, IsNoProcessFor, IsNotKeptFor, IsOfKind, IsUnreadFor, was_text};
 ghost use Rattle.oram_disk_client.specs.Sealers as spec;
 ghost use Rattle.oram_geometry.specs.declared.Sizes.{Sizes};
 ghost use Rattle.oram_rounds.specs.Batches.{texts};
@@ -17,8 +17,8 @@ ghost use Rattle.oram_settings.specs.Differences as formatted;
 use oram_bucket::Sealer;
 use oram_cli::{FileFault, FileReason, InputFault, LockFault, StateLock, linked_name, lock_state};
 use oram_client::{
-    DiskKey, FileFailure, Head, KeptFault, KeptFile, Keys, SealerKind, WrongKey, kept_name,
-    keys_for, read_kept_file,
+    DiskKey, FileFailure, Head, KeptFault, KeptFile, Keys, NamedFiles, SealerKind, WrongKey,
+    kept_name_in, keys_for, read_kept_file,
 };
 use oram_disk_host::{Fault, FaultKind, settings_text};
 use oram_geometry::Device;
@@ -77,27 +77,43 @@ fn is_missing(fault: &FileFault) -> bool
     matches!(fault, FileFault::File(_, FileReason::Missing))
 }
 
-/// Returns the bytes in `read`, the result of reading the kept file `state` of a disk. Fails with [`FaultKind::Unformatted`] if there is no kept file, and with the system's reason if that can't be
-/// found out.
-pub fn state_bytes<R: Files + AllocGlobal>(
-    rt: &R,
+/// Returns the fault for a kept file of the name `state` that couldn't be read because it doesn't exist, where `found` is the name
+/// that it has now. A link has the file's name even if what it leads to is missing, for example because its disk isn't mounted.
+fn missing_fault(
+    alloc: Global,
+    missing: FileFault,
+    found: Result<Option<String>, FileFault>,
+    state: &str,
+) -> Fault
+    ensures { IsFaultFound missing found state.now result }
+{
+    match found {
+        Ok(None) => named(alloc, FaultKind::Unformatted, state),
+        Ok(Some(_)) => missing.into(),
+        Err(fault) => fault.into(),
+    }
+}
+
+/// Returns the bytes in `read`, the result of reading the kept file `state` of a disk. Fails with [`FaultKind::Unformatted`] if
+/// there is no kept file, which it then looks up in `files`, and with the system's reason if that can't be found out.
+pub fn state_bytes<N: NamedFiles>(
+    alloc: Global,
+    files: &N,
     read: Result<Vec<u8>, FileFault>,
     state: &str,
 ) -> Result<Vec<u8>, Fault>
     ensures ok { IfOk result (λ bytes. read ≡ Ok bytes) }
-    ensures fault { (why : FileFault) → read ≡ Err why → IfErr result (λ fault. IsUnreadFor why state.now fault) }
+    ensures fault { (why : FileFault) → read ≡ Err why → IfErr result (IsUnreadFor (N.there files.now) (N.unseen files.now) why state.now) }
 {
     let fault = match read {
         Ok(bytes) => return Ok(bytes),
         Err(fault) => fault,
     };
-    let alloc = rt.alloc();
-    // A link has the file's name even if what it leads to is missing, for example because its disk isn't mounted.
-    if is_missing(&fault) && kept_name(rt, state)?.is_none() {
-        Err(named(alloc, FaultKind::Unformatted, state))
-    } else {
-        Err(fault.into())
+    if !is_missing(&fault) {
+        return Err(fault.into());
     }
+    let found = kept_name_in(alloc, files, state);
+    Err(missing_fault(alloc, fault, found, state))
 }
 
 /// Takes the lock of a disk's state, so that no other process serves, formats or retries that disk.
@@ -289,7 +305,9 @@ pub fn process_for<S: Sealer>(
 }
 
 /// Returns the fault that a state can't be kept in the file `state`, with the step that failed and the system's reason.
-pub fn unkept(alloc: Global, kind: FaultKind, state: &str, failure: FileFailure) -> Fault {
+pub fn unkept(alloc: Global, kind: FaultKind, state: &str, failure: FileFailure) -> Fault
+    ensures { IsOfKind kind result }
+{
     match format!(in alloc; "{state} ({failure})") {
         Ok(text) => Fault::About(kind, text),
         Err(_) => Fault::OutOfMemory,

@@ -5,10 +5,11 @@ ghost use Rattle.oram_client.specs.FilePlace.{FilePlaceState, NotesFound};
 
 use crate::disk_files::{disk_in, keys_in, named, sealer_of, take_lock, unkept};
 use crate::failures::forget_failure;
-use oram_bucket::{ChaChaSeal, PlainSeal, Sealer};
+use crate::serving::{DiskSealer, keeper_for, sealer_in};
+use oram_bucket::Sealer;
 use oram_cli::{HostFault, SocketFault, buffered, limit_silence};
 use oram_client::{
-    Ahead, DiskKey, FileKeeper, FilePlace, FormattingFault, Head, Keys, Progress, Salt, SealerKind,
+    Ahead, DiskKey, FileKeeper, FilePlace, FormattingFault, Head, Keys, Progress, Salt,
     format_ahead,
 };
 use oram_core::Core;
@@ -225,14 +226,15 @@ pub fn format_disk(rt: &HostRuntime, name: String) -> Result<(), Fault> {
     let place = free_place(FilePlace::new(rt, alloc, settings.state.as_str())?)?;
     // A failure that an earlier disk left, which has been removed since, says nothing about this one.
     forget_failure(rt, settings.state.as_str())?;
-    let sealer = sealer_of(settings.sealer);
-    let head = Head::new(&DiskKey(settings.key), new_salt(rt)?, sealer);
+    let salt = new_salt(rt)?;
+    let head = Head::new(&DiskKey(settings.key), salt, sealer_of(settings.sealer));
     let keys = keys_in(alloc, &settings, &head, name.as_str())?;
-    let mut keeper = FileKeeper::new(place, head, settings.sync);
-    match sealer {
-        SealerKind::Plain => format_with(rt, device, PlainSeal, &mut keeper, &keys, &settings),
-        SealerKind::ChaCha20 => {
-            let sealer = ChaChaSeal { key: keys.sealer.0 };
+    let mut keeper = keeper_for(place, head, &settings);
+    match sealer_in(&head, &keys) {
+        DiskSealer::Plain(sealer) => {
+            format_with(rt, device, sealer, &mut keeper, &keys, &settings)
+        }
+        DiskSealer::ChaCha20(sealer) => {
             format_with(rt, device, sealer, &mut keeper, &keys, &settings)
         }
     }

@@ -10,8 +10,10 @@
 mod disk_files;
 mod failures;
 mod format_command;
+mod host_asked;
 mod host_faults;
 mod new_disk;
+mod serving;
 mod status_command;
 
 pub use disk_files::{
@@ -19,6 +21,10 @@ pub use disk_files::{
 };
 pub use failures::{keep_failure, kept_failure};
 pub use format_command::format_disk;
+pub use host_asked::{ReachedCore, reached};
 pub use host_faults::{host_fault, host_fault_kind};
 pub use new_disk::make_folder;
+pub use serving::{
+    DiskSealer, LockedDisk, Stop, UnfailedDisk, keeper_for, sealer_in, stop_fault, tape_for,
+};
 pub use status_command::{print_status, retry};

@@ -2,9 +2,9 @@
 
 use crate::disk_files::{disk_in, kept_in, keys_in, named, process_for, state_bytes, take_lock};
 use crate::failures::{forget_failure, kept_failure};
-use oram_bucket::{ChaChaSeal, PlainSeal};
+use crate::serving::{DiskSealer, sealer_in};
 use oram_cli::{call_fault, is_locked};
-use oram_client::{SealerKind, kept_bytes, kept_name};
+use oram_client::{SystemFiles, kept_bytes, kept_name};
 use oram_disk_host::{Fault, FaultKind};
 use oram_settings::{Status, failure_text, report, report_json, status_of};
 use std::alloc::{AllocError, Global};
@@ -70,7 +70,7 @@ fn print_report(
     is_json: bool,
 ) -> Result<(), Fault> {
     let alloc = rt.alloc();
-    let failure = kept_failure(rt, state)?;
+    let failure = kept_failure(alloc, &SystemFiles { rt }, state)?;
     let is_used = is_locked(rt, state)?;
     let text = if is_json {
         json_of(alloc, status, is_used, failure.as_deref())?
@@ -93,17 +93,16 @@ pub fn print_status(rt: &HostRuntime, name: String, is_json: bool) -> Result<(),
     let alloc = rt.alloc();
     let (settings, _) = disk_in(rt, name.as_str())?;
     let state = settings.state.as_str();
-    let file = state_bytes(rt, kept_bytes(rt, state), state)?;
+    let file = state_bytes(alloc, &SystemFiles { rt }, kept_bytes(rt, state), state)?;
     let kept = kept_in(alloc, file.as_slice(), state)?;
     let keys = keys_in(alloc, &settings, &kept.head, name.as_str())?;
-    let status = match kept.head.sealer {
-        SealerKind::Plain => {
-            let process = process_for(alloc, &settings, name.as_str(), &kept, PlainSeal)?;
+    let status = match sealer_in(&kept.head, &keys) {
+        DiskSealer::Plain(sealer) => {
+            let process = process_for(alloc, &settings, name.as_str(), &kept, sealer)?;
             status_of(&process.core)
         }
-        SealerKind::ChaCha20 => {
-            let key = keys.sealer.0;
-            let process = process_for(alloc, &settings, name.as_str(), &kept, ChaChaSeal { key })?;
+        DiskSealer::ChaCha20(sealer) => {
+            let process = process_for(alloc, &settings, name.as_str(), &kept, sealer)?;
             status_of(&process.core)
         }
     };

@@ -1,19 +1,21 @@
 //! Serves a disk to NBD clients, one connection after the other.
 
+ghost use Rattle.std.specs.Prelude.{◌≡◌, true};
+
 use crate::clients::{ClientAttendant, ClientLook, Dismissal};
 use crate::watched_disk::{FailureKeeper, WatchedDisk};
-use oram_bucket::{ChaChaSeal, PlainSeal, Sealer};
+use oram_bucket::Sealer;
 use oram_client::{
-    AnswerLengths, FileKeeper, FilePlace, HostWatch, Keys, ReconnectLink, SealerKind, TcpDialer,
+    AnswerLengths, FileKeeper, FilePlace, HostWatch, Keys, ReconnectLink, SystemFiles, TcpDialer,
 };
-use oram_core::{Core, Reason};
+use oram_core::Reason;
 use oram_disk_client::{
-    disk_in, host_fault, keep_failure, kept_failure, kept_in, keys_in, named, process_for,
-    state_bytes, take_lock, unkept,
+    DiskSealer, LockedDisk, ReachedCore, Stop, UnfailedDisk, disk_in, keep_failure, keeper_for,
+    kept_in, keys_in, named, process_for, reached, sealer_in, stop_fault, tape_for,
 };
 use oram_disk_host::{Fault, FaultKind, listen_at, not_accepted, time};
 use oram_nbd::{BlockDevice, DiskFault, NbdFault, is_stop, serve};
-use oram_rounds::{BatchLink, Keeper, KeptCore, RoundLink, record_len};
+use oram_rounds::{BatchLink, Keeper, KeptCore};
 use oram_session::{ChaChaTape, Tape};
 use oram_settings::{DiskSettings, counted, failure_text, relative_to, serving_text};
 use oram_sockets::{Connection, Listener, Look, Peer, listen_at_path, watch};
@@ -173,6 +175,7 @@ fn serve_client_alone<R: Net + Clock + Eprint + AllocGlobal, D: BlockDevice>(
 struct FailureFile<'a> {
     rt: &'a HostRuntime,
     state: String,
+    is_told: bool,
 }
 
 impl<'a> FailureFile<'a> {
@@ -189,7 +192,14 @@ impl<'a> FailureFile<'a> {
 
 impl<'a, S: Sealer, B: BatchLink, K: Keeper, T: Tape> FailureKeeper<Volume<S, B, K, T>>
     for FailureFile<'a> {
+    ghost told = { λ file. file.is_told ≡ true };
+
+    fn is_told(&self) -> bool {
+        self.is_told
+    }
+
     fn keep_failure(&mut self, volume: &Volume<S, B, K, T>) {
+        self.is_told = true;
         if let Some(reason) = volume.core.failure() {
             let _passed_over = self.print(reason);
             // If it can't be kept, the next process finds the failure again.
@@ -259,29 +269,20 @@ type DiskKeeper<'a> = FileKeeper<FilePlace<&'a HostRuntime>>;
 type DiskVolume<'a, S> = Volume<S, HostLink<'a>, DiskKeeper<'a>, ChaChaTape>;
 
 /// Returns why a disk stopped.
-fn stopped<S: Sealer>(alloc: Global, volume: &DiskVolume<'_, S>, settings: DiskSettings) -> Fault {
-    if let Some(failure) = volume.keeper.failure() {
-        unkept(
-            alloc,
-            FaultKind::StateNotKept,
-            settings.state.as_str(),
-            failure,
-        )
-    } else if volume.core.next_ticket() >= volume.core.device().lifetime() {
-        Fault::About(FaultKind::UsedUp, settings.state)
-    } else {
-        match volume.link.inner().trouble() {
-            // The link returns a fault without giving up only if memory ran out.
-            None if volume.core.failure().is_none() => Fault::OutOfMemory,
-            trouble => host_fault(alloc, trouble, &settings),
-        }
-    }
+fn stopped<S: Sealer>(alloc: Global, volume: &DiskVolume<'_, S>, settings: &DiskSettings) -> Fault {
+    let stop = Stop {
+        unkept: volume.keeper.failure(),
+        is_used_up: volume.core.next_ticket() >= volume.core.device().lifetime(),
+        has_failed: volume.core.failure().is_some(),
+        trouble: volume.link.inner().trouble(),
+    };
+    stop_fault(alloc, settings, stop)
 }
 
 /// Serves a disk until it stops, and returns why. It first carries out the commands that still wait from before.
 fn serve_volume<S: Sealer>(
     rt: &HostRuntime,
-    settings: DiskSettings,
+    settings: &DiskSettings,
     clients: &Clients,
     mut volume: DiskVolume<'_, S>,
 ) -> Result<(), Fault> {
@@ -290,8 +291,11 @@ fn serve_volume<S: Sealer>(
     let state = String::from_str(alloc, settings.state.as_str())?;
     let mut disk = WatchedDisk {
         disk: volume,
-        keeper: FailureFile { rt, state },
-        is_kept: false,
+        keeper: FailureFile {
+            rt,
+            state,
+            is_told: false,
+        },
     };
     disk.watch();
     match resumed {
@@ -340,55 +344,22 @@ fn known_in<S: Sealer>(
     }
 }
 
-/// Asks the host whether it keeps this disk, and compares its stamps with what is known of them.
-fn check_host(
-    alloc: Global,
-    link: &mut HostLink<'_>,
-    settings: &DiskSettings,
-) -> Result<(), Fault> {
-    match link.reach(alloc) {
-        Ok(()) => Ok(()),
-        Err(trouble) if trouble.lacks_memory() => Err(Fault::OutOfMemory),
-        Err(trouble) => Err(host_fault(alloc, Some(trouble), settings)),
-    }
-}
-
-/// Returns the link of a process to its host, at which its STOREs wait. It first asks the host whether it keeps this
-/// disk, and compares its stamps with what is known of them.
-fn reached<'a, S: Sealer>(
-    rt: &'a HostRuntime,
-    settings: &DiskSettings,
-    keys: &Keys,
-    kept: KeptCore<S>,
-) -> Result<(Core<S>, RoundLink<HostLink<'a>>), Fault> {
-    let alloc = rt.alloc();
-    let known = known_in(alloc, settings, keys, &kept)?;
-    let mut link = link_to(rt, settings, keys, known, AnswerLengths::of(&kept.core))?;
-    check_host(alloc, &mut link, settings)?;
-    let KeptCore { stores, core, .. } = kept;
-    let device = core.device().copy();
-    match RoundLink::with_kept(alloc, link, device, record_len(&core), stores) {
-        Some(link) => Ok((core, link)),
-        None => Err(named(alloc, FaultKind::NotADisk, settings.state.as_str())),
-    }
-}
-
 /// Serves the disk of a process that was kept, until it stops. The process goes on with `keeper`, whose place has found the
 /// file that the process was read from.
 fn serve_process<S: Sealer>(
     rt: &HostRuntime,
-    settings: DiskSettings,
+    settings: &DiskSettings,
     clients: &Clients,
     keeper: DiskKeeper<'_>,
     keys: &Keys,
     kept: KeptCore<S>,
 ) -> Result<(), Fault> {
-    let (core, link) = reached(rt, &settings, keys, kept)?;
-    let trees = core.device().trees();
-    let tape = ChaChaTape {
-        key: keys.tape.0,
-        trees,
-    };
+    let alloc = rt.alloc();
+    let known = known_in(alloc, settings, keys, &kept)?;
+    let lengths = AnswerLengths::of(&kept.core);
+    let link = link_to(rt, settings, keys, known, lengths)?;
+    let ReachedCore { core, link } = reached(alloc, link, settings, kept)?;
+    let tape = tape_for(keys, core.device());
     let volume = Volume {
         core,
         link,
@@ -458,29 +429,27 @@ fn clients_at(rt: &HostRuntime, place: &str, name: &str) -> Result<Clients, Faul
     }
 }
 
-/// Serves the disk whose settings were read from the file `name`, until it stops. It first carries out the commands that still
+/// Serves a disk whose settings were read from the file `name`, until it stops. It first carries out the commands that still
 /// wait from before.
 fn serve_kept(
     rt: &HostRuntime,
-    settings: DiskSettings,
-    name: String,
+    disk: &UnfailedDisk,
+    name: &str,
     clients: &Clients,
 ) -> Result<(), Fault> {
     let alloc = rt.alloc();
-    let state = settings.state.as_str();
-    let mut place = FilePlace::new(rt, alloc, state)?;
-    let file = state_bytes(rt, place.read(), state)?;
-    let kept = kept_in(alloc, file.as_slice(), state)?;
-    let keys = keys_in(alloc, &settings, &kept.head, name.as_str())?;
-    let keeper = FileKeeper::new(place, kept.head, settings.sync);
-    match kept.head.sealer {
-        SealerKind::Plain => {
-            let process = process_for(alloc, &settings, name.as_str(), &kept, PlainSeal)?;
+    let settings = disk.settings();
+    let (place, file) = disk.read_state(rt)?;
+    let kept = kept_in(alloc, file.as_slice(), settings.state.as_str())?;
+    let keys = keys_in(alloc, settings, &kept.head, name)?;
+    let keeper = keeper_for(place, kept.head, settings);
+    match sealer_in(&kept.head, &keys) {
+        DiskSealer::Plain(sealer) => {
+            let process = process_for(alloc, settings, name, &kept, sealer)?;
             serve_process(rt, settings, clients, keeper, &keys, process)
         }
-        SealerKind::ChaCha20 => {
-            let sealer = ChaChaSeal { key: keys.sealer.0 };
-            let process = process_for(alloc, &settings, name.as_str(), &kept, sealer)?;
+        DiskSealer::ChaCha20(sealer) => {
+            let process = process_for(alloc, settings, name, &kept, sealer)?;
             serve_process(rt, settings, clients, keeper, &keys, process)
         }
     }
@@ -488,16 +457,12 @@ fn serve_kept(
 
 /// Serves the disk whose settings are in the file `name`, until it stops.
 ///
-/// It takes the lock and listens for clients before it reads the state. Otherwise another process could still advance
-/// the state, and this one would go on from an older one.
+/// It takes the lock, looks for a failure and listens for clients before it reads the state.
 pub(crate) fn serve_disk(rt: &HostRuntime, name: String) -> Result<(), Fault> {
     let (settings, _) = disk_in(rt, name.as_str())?;
-    let _lock = take_lock(rt, settings.state.as_str())?;
-    if kept_failure(rt, settings.state.as_str())?.is_some() {
-        return Err(Fault::About(FaultKind::Failed, settings.state));
-    }
-    let clients = clients_at(rt, settings.listen.as_str(), name.as_str())?;
-    let ended = serve_kept(rt, settings, name, &clients);
+    let disk = LockedDisk::take(rt, settings)?.unfailed(rt.alloc(), &SystemFiles { rt })?;
+    let clients = clients_at(rt, disk.settings().listen.as_str(), name.as_str())?;
+    let ended = serve_kept(rt, &disk, name.as_str(), &clients);
     if let Some(path) = &clients.socket {
         // A socket that stays is replaced by the next process.
         let _passed_over = fs::remove_file(rt, path.as_str());

@@ -1,0 +1,185 @@
+//! What a process that serves a disk decides before it serves, and once it stops.
+
+ghost use Rattle.std.specs.Prelude.{◌≡◌, None, Some, IfOk, OnOk, string_bytes};
+ghost use Rattle.oram_client.specs.FilePlace.{FilePlaceState, NotesFound};
+ghost use Rattle.oram_disk_client.specs.Serving.{IsLinkStop, IsStopFault, Seals, failure_of};
+ghost use Rattle.oram_geometry.specs.Sizes.{trees_of};
+
+use crate::disk_files::{named, state_bytes, take_lock, unkept};
+use crate::failures::kept_failure;
+use crate::host_faults::host_fault;
+use oram_bucket::{ChaChaSeal, PlainSeal};
+use oram_cli::StateLock;
+use oram_client::{
+    FileFailure, FileKeeper, FilePlace, Head, Keys, NamedFiles, SealerKind, SystemFiles, Trouble,
+};
+use oram_disk_host::{Fault, FaultKind};
+use oram_geometry::Device;
+use oram_session::ChaChaTape;
+use oram_settings::DiskSettings;
+use std::alloc::Global;
+use std::io::ErrorKind;
+use std::marker::Model;
+
+/// The sealer of a disk.
+#[derive(Clone, Copy)]
+pub enum DiskSealer {
+    Plain(PlainSeal),
+    ChaCha20(ChaChaSeal),
+}
+
+/// Returns the sealer that the head of a kept file names, with the sealer's key of the disk.
+pub fn sealer_in(head: &Head, keys: &Keys) -> DiskSealer
+    ensures { Seals head.now.sealer keys.now.sealer.0 result }
+{
+    match head.sealer {
+        SealerKind::Plain => DiskSealer::Plain(PlainSeal),
+        SealerKind::ChaCha20 => DiskSealer::ChaCha20(ChaChaSeal { key: keys.sealer.0 }),
+    }
+}
+
+/// Makes the keeper of a disk's process. Each file has the head that the disk was formatted with, and is synced if the settings
+/// say so.
+pub fn keeper_for<P>(place: P, head: Head, settings: &DiskSettings) -> FileKeeper<P>
+    ensures { result ≡ record { place = place; head = head; sync = settings.now.sync; failure = None } }
+{
+    FileKeeper::new(place, head, settings.sync)
+}
+
+/// Returns the tape of a disk, from the tape's key of the disk.
+pub fn tape_for(keys: &Keys, device: &Device) -> ChaChaTape
+    ensures key { result.key ≡ keys.now.tape.0 }
+    ensures trees { result.trees ≡ trees_of device.now }
+{
+    ChaChaTape {
+        key: keys.tape.0,
+        trees: device.trees(),
+    }
+}
+
+/// What the parts of a disk that has stopped tell.
+#[derive(Clone, Copy, Debug)]
+pub struct Stop {
+    /// Why the keeper couldn't keep a process, if it couldn't.
+    pub unkept: Option<FileFailure>,
+    /// Whether no access is left.
+    pub is_used_up: bool,
+    /// Whether the core has failed.
+    pub has_failed: bool,
+    /// Why the link has given up, if it has.
+    pub trouble: Option<Trouble>,
+}
+
+/// Returns the fault of a disk that has stopped because its link returned a fault.
+fn link_stop_fault(
+    alloc: Global,
+    settings: &DiskSettings,
+    has_failed: bool,
+    trouble: Option<Trouble>,
+) -> Fault
+    ensures { IsLinkStop settings.now has_failed trouble result }
+{
+    match trouble {
+        Some(_) => host_fault(alloc, trouble, settings),
+        None => {
+            if has_failed {
+                host_fault(alloc, None, settings)
+            } else {
+                // The link returns a fault without giving up only if memory ran out.
+                Fault::OutOfMemory
+            }
+        }
+    }
+}
+
+/// Returns the fault of a disk that has stopped.
+pub fn stop_fault(alloc: Global, settings: &DiskSettings, stop: Stop) -> Fault
+    ensures { IsStopFault settings.now stop.unkept stop.is_used_up stop.has_failed stop.trouble result }
+{
+    let state = settings.state.as_str();
+    match stop.unkept {
+        Some(failure) => unkept(alloc, FaultKind::StateNotKept, state, failure),
+        None => {
+            if stop.is_used_up {
+                named(alloc, FaultKind::UsedUp, state)
+            } else {
+                link_stop_fault(alloc, settings, stop.has_failed, stop.trouble)
+            }
+        }
+    }
+}
+
+/// A disk whose lock this process holds.
+#[derive(Drop)]
+pub struct LockedDisk {
+    settings: DiskSettings,
+    lock: StateLock,
+}
+
+impl Model for LockedDisk {
+    ghost use Rattle.oram_settings.specs.declared.disk_file.DiskSettings.{DiskSettings};
+
+    ghost Value = { DiskSettings };
+
+    ghost view = { λ disk. disk.settings };
+}
+
+impl LockedDisk {
+    /// Takes the lock of the disk with these settings.
+    pub fn take(rt: &HostRuntime, settings: DiskSettings) -> Result<LockedDisk, Fault>
+        ensures { IfOk result (λ disk. disk ≡ settings) }
+    {
+        let lock = take_lock(rt, settings.state.as_str())?;
+        Ok(LockedDisk { settings, lock })
+    }
+
+    /// Looks whether a failure of the disk is kept. Fails with [`FaultKind::Failed`] if one is, and with the system's reason if that
+    /// can't be found out.
+    pub fn unfailed<N: NamedFiles>(self, alloc: Global, files: &N) -> Result<UnfailedDisk, Fault>
+        ensures same { IfOk result (λ disk. disk ≡ self) }
+        ensures looked { OnOk result (N.unread files.now (failure_of (string_bytes self.state)) ErrorKind.NotFound) }
+    {
+        match kept_failure(alloc, files, self.settings.state.as_str())? {
+            None => Ok(UnfailedDisk { disk: self }),
+            Some(_) => Err(named(alloc, FaultKind::Failed, self.settings.state.as_str())),
+        }
+    }
+}
+
+/// A disk whose lock this process holds, and of which no failure is kept. Its state is read only by this type, so it is read once both
+/// are known: otherwise another process could still advance the state, and this one would go on from an older one.
+#[derive(Drop)]
+pub struct UnfailedDisk {
+    disk: LockedDisk,
+}
+
+impl Model for UnfailedDisk {
+    ghost use Rattle.oram_settings.specs.declared.disk_file.DiskSettings.{DiskSettings};
+
+    ghost Value = { DiskSettings };
+
+    ghost view = { λ disk. disk.disk };
+}
+
+impl UnfailedDisk {
+    /// Returns the settings of the disk.
+    pub fn settings(&self) -> &DiskSettings
+        ensures { result.now ≡ self.now }
+    {
+        &self.disk.settings
+    }
+
+    /// Reads the kept file of the disk. Returns its bytes, and the place that has noted that they are found there.
+    pub fn read_state<'a>(
+        &self,
+        rt: &'a HostRuntime,
+    ) -> Result<(FilePlace<&'a HostRuntime>, Vec<u8>), Fault>
+        ensures { IfOk result (λ read. (earlier : FilePlaceState) × NotesFound earlier (Some read.1.items) read.0 × (earlier.name ≡ string_bytes self.now.state)) }
+    {
+        let alloc = rt.alloc();
+        let state = self.disk.settings.state.as_str();
+        let mut place = FilePlace::new(rt, alloc, state)?;
+        let file = state_bytes(alloc, &SystemFiles { rt }, place.read(), state)?;
+        Ok((place, file))
+    }
+}
