@@ -160,6 +160,13 @@ class Disk:
         """The bytes of the files in which its host keeps its buckets."""
         return {file: file.read_bytes() for file in self.folder.glob(f"{self.host.file}*")}
 
+    def settle_host(self):
+        """Waits until its host has emptied its log after the last connection, since it answers the next one only then. From then on its
+        files stay as they are, also over a start."""
+        client = self.host.client()
+        client.ask(b"")
+        client.close()
+
     def put_host_files(self, before):
         """Puts other files in place of those in which its host keeps its buckets."""
         for file in self.host_files():

@@ -23,6 +23,7 @@ def try_second_disk(trial):
     first, second = Disk(trial, "first-there", table=16).formatted(), Disk(trial, "second-there", size="16kB", table=16)
     second.set(host=first.host_address())
     array = DiskArray()
+    first.settle_host()
     before = first.host_files()
     heard = []
     first.relay.instead = lambda body: heard.append(body)

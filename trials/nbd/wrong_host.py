@@ -14,6 +14,7 @@ def try_wrong_host(trial):
     array = DiskArray()
     for one in (disk, other):
         one.formatted()
+        one.settle_host()
         one.host.stop()
     leave_write_waiting(trial, disk, array)
     kept, state = other.host_files(), disk.state_file.read_bytes()

@@ -25,6 +25,7 @@ use std::time::{Duration, Instant};
 use std::{fs, io};
 
 /// A client that stays for as long as it is served.
+#[derive(Drop)]
 struct Stays;
 
 impl ClientWatch for Stays {
