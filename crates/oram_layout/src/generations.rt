@@ -14,6 +14,7 @@ pub const WHOLE_FRONT_LEN: usize = 64;
 
 /// Where the first of the two fields begins, and the second.
 const FIRST_AT: usize = 32;
+
 const SECOND_AT: usize = 48;
 
 /// The length of a field: a number and its checksum, of eight bytes each.
