@@ -21,7 +21,7 @@ step_of Creates = step.Create
 step_of (WritesAll bytes) = step.Write
 step_of Syncs = step.Sync
 
--- for files of which `answers` says what a call was answered: nothing if it is done, and else the reason why it failed
+-- `answers` says how the system answered a call on a file: with no reason if the call is done, and with the reason if it failed
 module _ {F : Type 0} (answers : F → FileCall → Option FileReason → F → Type 0) where
   -- Each call was made, one after the other, and each is done.
   abbrev pub AnswersAll : F → List FileCall → F → Type 0

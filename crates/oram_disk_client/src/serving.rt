@@ -146,8 +146,8 @@ impl LockedDisk {
     }
 }
 
-/// A disk whose lock this process holds, and of which no failure is kept. Its state is read only by this type, so it is read once both
-/// are known: otherwise another process could still advance the state, and this one would go on from an older one.
+/// A disk whose lock this process holds, and which has no failure that is kept. Only this type reads the state, so nobody reads it before
+/// both are known: otherwise another process could still advance the state, and this one would go on from an older one.
 #[derive(Drop)]
 pub struct UnfailedDisk {
     disk: LockedDisk,

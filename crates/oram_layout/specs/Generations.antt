@@ -33,7 +33,7 @@ pub record IsNewest (kind : FileKind) (identity : Identity) (front : List ℕ) (
   pub greatest : (number : ℕ) → Says kind identity front number → number ≤ newest.number
   pub whole : (newest.is_whole ≡ true) ↔ (((number : ℕ) × SaysAt kind identity front 32 number) × ((number : ℕ) × SaysAt kind identity front 48 number))
 
--- of two fields, of which some are sound: the greatest number, and whether both are sound
+-- The newest number that two fields say, and whether both are sound. A field that isn't sound says no number.
 abbrev pub IsNewestOf : Option ℕ → Option ℕ → Newest → Type 0
 IsNewestOf (Some a) (Some b) newest = (newest.number ≡ max a b) × (newest.is_whole ≡ true)
 IsNewestOf (Some a) None newest = (newest.number ≡ a) × (newest.is_whole ≡ false)
