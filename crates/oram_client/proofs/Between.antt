@@ -13,7 +13,7 @@ use Rattle.oram_client.specs.Dialer.{Destination, fault_of}
 use Rattle.oram_client.specs.StampMessages.{stamp_put}
 use Rattle.oram_client.specs.Stamped.{CarriesStamped, ComesTo, IsStampPut, LeavesOut, TakesStamps, between}
 use Rattle.oram_client.specs.StreamBatches.{Connection, StreamBatch}
-use Rattle.oram_stamps.specs.Known.{IsSent, Stamps}
+use Rattle.oram_stamps.specs.Known.{IsSent, Stamps, next_stamp}
 use Rattle.oram_stamps.specs.Stamps.{record_text}
 use Rattle.oram_stamps.specs.declared.stamp.Place.TheVariants.{Begun, Done}
 use Rattle.oram_client.specs.declared.dialer.Trouble.{Trouble}
@@ -102,16 +102,16 @@ module _ {S : Type 0} (remaining contents : S → Option (List ℕ)) where
 
   module _ (d e : Destination) (known : Stamps) (line line' : Way) (first last : List (List ℕ)) (sent : IsSent d.known known) where
     abbrev begun_put : List ℕ
-    begun_put = stamp_put d.key Begun d.known.current
+    begun_put = stamp_put d.key Begun (next_stamp d.known)
 
     abbrev done_put : List ℕ
-    done_put = stamp_put d.key Done d.known.current
+    done_put = stamp_put d.key Done (next_stamp d.known)
 
     put_begun : IsStampPut begun_put
-    put_begun = (0, record_text d.key Begun d.known.current, omega arith, refl)
+    put_begun = (0, record_text d.key Begun (next_stamp d.known), omega arith, refl)
 
     put_done : IsStampPut done_put
-    put_done = (1, record_text d.key Done d.known.current, omega arith, refl)
+    put_done = (1, record_text d.key Done (next_stamp d.known), omega arith, refl)
 
     abbrev Carried : Attempt → Type 0
     Carried came = (exchanges : List Exchange) × CarriesStamped remaining contents d line (first ++ last) came exchanges e line'
@@ -145,11 +145,11 @@ module _ {S : Type 0} (remaining contents : S → Option (List ℕ)) where
 
   -- the same, for messages that are those that put the stamp
   pub carried_so : (d e : Destination) (known : Stamps) (line line' : Way) (first last : List (List ℕ)) (begun done : List ℕ) (outcome : BatchOutcome) (came : Attempt) (heard : List Exchange) (count : ℕ)
-      → begun ≡ stamp_put d.key Begun d.known.current → done ≡ stamp_put d.key Done d.known.current → count ≡ length first → IsSent d.known known
+      → begun ≡ stamp_put d.key Begun (next_stamp d.known) → done ≡ stamp_put d.key Done (next_stamp d.known) → count ≡ length first → IsSent d.known known
       → StreamBatch remaining contents line (between begun first done last) outcome heard line' → ComesTo d known count outcome came e
       → (exchanges : List Exchange) × CarriesStamped remaining contents d line (first ++ last) came exchanges e line'
   carried_so d e known line line' first last begun done outcome came heard count begun_is done_is count_is sent batch comes =
       carried_between d e known line line' first last sent outcome came heard
-      (subst (λ (b : List ℕ). StreamBatch remaining contents line (between b first (stamp_put d.key Done d.known.current) last) outcome heard line') begun_is
+      (subst (λ (b : List ℕ). StreamBatch remaining contents line (between b first (stamp_put d.key Done (next_stamp d.known)) last) outcome heard line') begun_is
       (subst (λ (b : List ℕ). StreamBatch remaining contents line (between begun first b last) outcome heard line') done_is batch))
       (subst (λ (n : ℕ). ComesTo d known n outcome came e) count_is comes)

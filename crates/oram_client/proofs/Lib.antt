@@ -22,3 +22,5 @@ pub mod TakenStamps
 pub mod TreesApart
 pub mod StampedHost
 pub mod TreesApartExample
+pub mod Rows
+pub mod StampedExample

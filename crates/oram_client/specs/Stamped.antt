@@ -1,18 +1,17 @@
--- A dialer whose host has to show stamps that it may have, and which puts the stamp of the last keeping there with each batch.
+-- A dialer whose host has to show stamps that it may have, and which puts a stamp there with each batch.
 use Rattle.std.specs.Prelude.{◌≡◌, ◌≢◌, ◌⊎◌, ℕ, ◌<◌, ◌^◌, List, [], ◌∷◌, ◌++◌, length, Option, Result, Ok, Err, MatchResult}
-use Rattle.oram_wire.specs.HostMessages.{done_answer, no_room_answer, payload_answer, put_body, shape_body}
+use Rattle.oram_wire.specs.HostMessages.{done_answer, no_room_answer, payload_answer, put_body}
 use Rattle.oram_wire.specs.declared.host_messages.TheConstants.{GOOD, REFUSED}
 use Rattle.oram_session.specs.declared.link.LinkFault.{LinkFault}
 use Rattle.oram_session.specs.declared.link.LinkFault.TheVariants.{Io, OutOfMemory}
+use Rattle.oram_link_laws.specs.Repair.{IsAmong}
 use Rattle.oram_link_laws.specs.Runs.{Exchange}
 use Rattle.oram_rounds.specs.Batches.{BatchOutcome, IsBatch}
-use Rattle.oram_stamps.specs.Known.{IsMismatch, IsSent, IsSettled, IsTakenOver, Stamps, answered, first_stamp}
-use Rattle.oram_stamps.specs.Stamps.{AreNumbers, record_text, shown_text}
+use Rattle.oram_stamps.specs.Known.{IsMismatch, IsSent, IsSettled, IsTakenOver, Stamps, answered, next_stamp}
+use Rattle.oram_stamps.specs.Stamps.{AreNumbers, shown_text}
 use Rattle.oram_stamps.specs.declared.known.Mismatch.{Mismatch}
-use Rattle.oram_stamps.specs.declared.stamp.Place.{Place}
 use Rattle.oram_stamps.specs.declared.stamp.Place.TheVariants.{Begun, Done}
 use Rattle.oram_stamps.specs.declared.stamp.Shown.{Shown}
-use Rattle.oram_stamps.specs.declared.stamp.Stamp.{Stamp}
 use Rattle.oram_client.specs.Attempts.{Attempt, attempt_for, link_outcome}
 use Rattle.oram_client.specs.Dialer.{Destination, IsGreeted, IsUngreeted, mismatch_trouble, stamps_question}
 use Rattle.oram_client.specs.StampMessages.{stamp_put}
@@ -71,10 +70,15 @@ LeavesOut (e ∷ heard) exchanges = (IsStampPut e.0 × LeavesOut heard exchanges
 abbrev pub with_known : Destination → Stamps → Destination
 with_known d known = record d { known = known }
 
+-- What is known once a batch's own messages have these answers. The host has begun and done the batch, unless it had no room for one of
+-- the messages: then the batch is sent again, and has another stamp.
+abbrev pub IsLearnt : Stamps → List (List ℕ) → Stamps → Type 0
+IsLearnt known given known' = (IsAmong no_room_answer given × (known' ≡ known)) ⊎ (¬ IsAmong no_room_answer given × (known' ≡ answered known))
+
 -- what a batch between its stamps comes to, given what is known once it is sent
 abbrev pub ComesTo : Destination → Stamps → ℕ → BatchOutcome → Attempt → Destination → Type 0
 ComesTo d known count (Ok answers) came e = (left : List (List ℕ)) × TakesStamps answers count came left
-    × MatchResult came (λ given. (given ≡ left) × (e ≡ with_known d (answered known))) (λ trouble. e ≡ with_known d known)
+    × MatchResult came (λ given. (given ≡ left) × ((known' : Stamps) × IsLearnt known given known' × (e ≡ with_known d known'))) (λ trouble. e ≡ with_known d known)
 ComesTo d known count (Err fault) came e = (came ≡ Err (OutOfReach fault)) × (e ≡ with_known d known)
 
 -- for streams whose bytes `remaining` and `contents` give
@@ -123,7 +127,7 @@ module _ {S : Type 0} (remaining contents : S → Option (List ℕ)) where
     pub same_line : line' ≡ line
     pub same : e ≡ d
 
-  -- The host is known to have begun and done the last keeping, so the batch needs no stamps.
+  -- The host is known to have begun and done a batch of the last keeping, so this one needs no stamps.
   pub record IsPlain (d : Destination) (line : Line) (bodies : List (List ℕ)) (came : Attempt) (exchanges : List Exchange) (e : Destination) (line' : Line) : Type 0 where
     pub settled : IsSettled d.known
     pub outcome : BatchOutcome
@@ -131,8 +135,8 @@ module _ {S : Type 0} (remaining contents : S → Option (List ℕ)) where
     pub says : came ≡ attempt_for outcome
     pub same : e ≡ d
 
-  -- The messages that are `first` go between those that put the stamp of the last keeping at both places, and the others after them. The
-  -- exchanges of those two are left out.
+  -- The messages that are `first` go between those that put the batch's stamp at both places, and the others after them. The exchanges of
+  -- those two are left out.
   pub record IsBetween (d : Destination) (line : Line) (bodies : List (List ℕ)) (came : Attempt) (exchanges : List Exchange) (e : Destination) (line' : Line) : Type 0 where
     pub known : Stamps
     pub sent : IsSent d.known known
@@ -141,7 +145,7 @@ module _ {S : Type 0} (remaining contents : S → Option (List ℕ)) where
     pub all : bodies ≡ first ++ last
     pub outcome : BatchOutcome
     pub heard : List Exchange
-    pub batch : StreamBatch remaining contents line (between (stamp_put d.key Begun d.known.current) first (stamp_put d.key Done d.known.current) last) outcome heard line'
+    pub batch : StreamBatch remaining contents line (between (stamp_put d.key Begun (next_stamp d.known)) first (stamp_put d.key Done (next_stamp d.known)) last) outcome heard line'
     pub comes : ComesTo d known (length first) outcome came e
     pub left : LeavesOut heard exchanges
     pub is_batch : IsBatch bodies (link_outcome came) exchanges

@@ -1,19 +1,25 @@
 -- The host of a dialer that puts stamps between the messages of its batches.
-use Rattle.std.specs.Prelude.{◌≡◌, ℕ, false, List, Option, Some}
-use Rattle.std.specs.List.{AllByRecursion}
+use Rattle.std.specs.Prelude.{◌≡◌, ℕ, false, List, [], ◌∷◌, ◌++◌, Ok, Option, Some, replicate}
+use Rattle.std.specs.List.{AllByRecursion, flat_map}
 use Rattle.oram_geometry.specs.declared.Sizes.{Sizes}
 use Rattle.oram_geometry.specs.Sizes.{IsDevice}
-use Rattle.oram_host.specs.Host.{Host}
+use Rattle.oram_wire.specs.FrameStream.{frame}
+use Rattle.oram_wire.specs.HostMessages.{done_answer, fetch_body, payload_answer}
+use Rattle.oram_host.specs.Host.{Host, Kept}
+use Rattle.oram_link_laws.specs.Examples.{known}
 use Rattle.oram_link_laws.specs.Runs.{Exchange, HostRun}
 use Rattle.oram_rounds.specs.PathMessages.{IsPathFetch, IsPathStore}
+use Rattle.oram_stamps.specs.Known.{first_stamp, next_stamp, settled}
+use Rattle.oram_stamps.specs.Stamps.{record_text}
 use Rattle.oram_stamps.specs.declared.stamp.Place.TheVariants.{Begun, Done}
+use Rattle.oram_stamps.specs.declared.stamp.Stamp.{Stamp}
 use Rattle.oram_client.specs.Attempts.{Attempt}
 use Rattle.oram_client.specs.Dialer.{Destination}
-use Rattle.oram_client.specs.OneHost.{LeadsToHost}
+use Rattle.oram_client.specs.OneHost.{LeadsToHost, this_disk}
 use Rattle.oram_client.specs.StampMessages.{stamp_put}
 use Rattle.oram_client.specs.Stamped.{IsBetween, between}
-use Rattle.oram_client.specs.StreamBatches.{Connection}
-use Rattle.oram_client.specs.TreesApart.{AgreeBeside, IsAboutAnother}
+use Rattle.oram_client.specs.StreamBatches.{Connection, connection}
+use Rattle.oram_client.specs.TreesApart.{AgreeBeside, IsAboutAnother, fetched_alone, no_stamps, one_path, one_record}
 use Rattle.oram_client.specs.declared.identity.TheConstants.{STAMP_TREE}
 
 -- A batch goes between its stamps over a connection that leads to a host. What that host is sent, and answers, has the messages that put
@@ -24,10 +30,50 @@ StampedBatchesReachTheHost {S} remaining contents =
     (d e : Destination) (line line' : Connection S S) (bodies : List (List ℕ)) (came : Attempt) (exchanges : List Exchange) (host other after : Host) (bytes : List ℕ)
     → AllByRecursion (IsAboutAnother STAMP_TREE) bodies → AgreeBeside STAMP_TREE host other → line.closed ≡ false → remaining line.reader ≡ Some bytes
     → (batch : IsBetween remaining contents d line bodies came exchanges e line')
-    → LeadsToHost host (between (stamp_put d.key Begun d.known.current) batch.first (stamp_put d.key Done d.known.current) batch.last) bytes after
+    → LeadsToHost host (between (stamp_put d.key Begun (next_stamp d.known)) batch.first (stamp_put d.key Done (next_stamp d.known)) batch.last) bytes after
     → (rest : Host) × HostRun other exchanges rest × AgreeBeside STAMP_TREE after rest
 
 -- The messages of a core at work are about other trees than the stamps'.
 abbrev pub PathMessagesAreAboutOthers : Type 0
 PathMessagesAreAboutOthers = (d : Sizes) → IsDevice d
     → ((record_len : ℕ) (body : List ℕ) → IsPathStore d record_len body → IsAboutAnother STAMP_TREE body) × ((body : List ℕ) → IsPathFetch d body → IsAboutAnother STAMP_TREE body)
+
+-- An example: the host of a disk with one record of two bytes, which has the first stamps. They are put there under a key of zeros.
+abbrev pub zero_key : List ℕ
+zero_key = replicate 32 0
+
+abbrev pub stamped_host : Stamp → Stamp → Host
+stamped_host begun done =
+    let stamps : Kept = record { depth = 1; record_len = 48; records = (0, record_text zero_key Begun begun) ∷ (1, record_text zero_key Done done) ∷ [] } in
+    (0, one_record) ∷ (STAMP_TREE, stamps) ∷ []
+
+-- A dialer that knows that the host has the first stamps fetches the path. The stamp of this batch is put before.
+abbrev pub stamped_dialer : Destination
+stamped_dialer = record { address = []; identity = []; key = zero_key; known = settled first_stamp; disk = this_disk }
+
+abbrev pub second_stamp : Stamp
+second_stamp = next_stamp (settled first_stamp)
+
+abbrev pub stamped_messages : List (List ℕ)
+stamped_messages = between (stamp_put zero_key Begun second_stamp) [] (stamp_put zero_key Done second_stamp) (fetch_body 0 0 ∷ [])
+
+-- what comes back: the stamps are put, and the path
+abbrev pub stamped_answers : List ℕ
+stamped_answers = frame done_answer ++ frame done_answer ++ frame (payload_answer one_path)
+
+abbrev pub stamped_line : Connection (List ℕ) (List ℕ)
+stamped_line = connection stamped_answers [] this_disk
+
+abbrev pub stamped_way : Connection (List ℕ) (List ℕ)
+stamped_way = record { reader = []; writer = flat_map frame stamped_messages; disk = this_disk; closed = false }
+
+-- the dialer knows then that the host has put the second stamp at both places
+abbrev pub answered_dialer : Destination
+answered_dialer = record stamped_dialer { known = settled second_stamp }
+
+-- The premises of the law about batches between their stamps hold: the host with stamps, and one without them.
+abbrev pub StampedBatchExample : Type 0
+StampedBatchExample = AllByRecursion (IsAboutAnother STAMP_TREE) (fetch_body 0 0 ∷ []) × AgreeBeside STAMP_TREE (stamped_host first_stamp first_stamp) no_stamps
+    × ((batch : IsBetween known known stamped_dialer stamped_line (fetch_body 0 0 ∷ []) (Ok (payload_answer one_path ∷ [])) fetched_alone answered_dialer stamped_way)
+    × LeadsToHost (stamped_host first_stamp first_stamp) (between (stamp_put zero_key Begun second_stamp) batch.first (stamp_put zero_key Done second_stamp) batch.last)
+    stamped_answers (stamped_host second_stamp second_stamp))

@@ -1,12 +1,13 @@
 //! How long the answers of a disk's host are.
 ghost use Rattle.std.specs.Prelude.{◌≡◌, ◌<◌, ◌≤◌};
 ghost use Rattle.oram_geometry.specs.Sizes.{trees_of};
-ghost use Rattle.oram_client.specs.AnswerLengths.{longest_answer, longest_to_fetch, path_answer_len};
+ghost use Rattle.oram_client.specs.AnswerLengths.{longest_answer, longest_to_fetch, longest_to_records, path_answer_len, rows_answer_len};
 
 use crate::identity::{IDENTITY_TREE, STAMP_TREE};
 use oram_bucket::Sealer;
 use oram_core::Core;
 use oram_geometry::Device;
+use oram_records::RecordsRequest;
 use oram_wire::LONGEST_BODY;
 use std::marker::Model;
 
@@ -90,6 +91,25 @@ impl AnswerLengths {
         }
     }
 
+    /// Returns the length of an answer with the rows of `count` nodes, if all have a record.
+    fn rows_answer_len(&self, count: u32) -> usize
+        ensures { result ≡ rows_answer_len self.now count }
+    {
+        1 + count as usize * (1 + self.device.record_len(self.overhead))
+    }
+
+    /// Returns the length of the longest answer to a RECORDS for `count` nodes of a tree.
+    fn longest_to_records(&self, tree: u8, count: u32) -> usize
+        ensures value { result ≡ longest_to_records self.now tree count }
+        ensures fits { result ≤ LONGEST_BODY }
+    {
+        if tree < self.device.trees() {
+            self.rows_answer_len(count).min(LONGEST_BODY).max(REFUSAL)
+        } else {
+            REFUSAL
+        }
+    }
+
     /// Returns the length of the longest answer to a message.
     pub fn longest(&self, message: &[u8]) -> usize
         ensures value { result ≡ longest_answer self.now message.now }
@@ -97,7 +117,10 @@ impl AnswerLengths {
     {
         match message {
             [FETCH, tree, ..] => self.longest_to_fetch(*tree),
-            _ => REFUSAL,
+            _ => match RecordsRequest::decode(message) {
+                Ok(request) => self.longest_to_records(request.tree, request.count),
+                Err(_) => REFUSAL,
+            },
         }
     }
 }

@@ -1,7 +1,7 @@
 //! Laws about batches over connections that lead to one host.
 ghost use Rattle.oram_client.specs.OneHost.{AnswersAreTheHosts, ExchangesAreOfOneHost, ExchangesAreOfTheTries, FaultsAreOfMemory, StreamBatchesAreRun, StreamBatchesReachTheHost, TwoTriesExample};
 ghost use Rattle.oram_client.specs.Reconnect.{dialer_kind};
-ghost use Rattle.oram_client.specs.StampedHost.{PathMessagesAreAboutOthers, StampedBatchesReachTheHost};
+ghost use Rattle.oram_client.specs.StampedHost.{PathMessagesAreAboutOthers, StampedBatchExample, StampedBatchesReachTheHost};
 ghost use Rattle.oram_client.specs.TreesApart.{TreesApartExample, TreesAreApart};
 
 use crate::dialer::Dial;
@@ -75,4 +75,9 @@ pub fn path_messages_are_about_others()
 /// A host with stamps is sent a stamp and a FETCH, and one without them the FETCH alone: the premises of [`trees_are_apart`] hold.
 pub fn trees_apart_example()
     ensures { TreesApartExample }
+{}
+
+/// A FETCH goes between its stamps to a host of a small device: the premises of [`stamped_batches_reach_the_host`] hold.
+pub fn stamped_batch_example()
+    ensures { StampedBatchExample }
 {}

@@ -54,9 +54,9 @@ pub use keys::{
 };
 pub use law::{
     answers_are_the_hosts, exchanges_are_of_one_host, exchanges_are_of_the_tries,
-    faults_are_of_memory, path_messages_are_about_others, stamped_batches_reach_the_host,
-    stream_batches_are_run, stream_batches_reach_the_host, trees_apart_example, trees_are_apart,
-    two_tries_example,
+    faults_are_of_memory, path_messages_are_about_others, stamped_batch_example,
+    stamped_batches_reach_the_host, stream_batches_are_run, stream_batches_reach_the_host,
+    trees_apart_example, trees_are_apart, two_tries_example,
 };
 pub use named_files::{NamedFiles, SystemFiles, kept_name_in, read_if_there};
 pub use next_process::{

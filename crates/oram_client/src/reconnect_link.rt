@@ -107,14 +107,14 @@ impl<D: Dial, W> Model for ReconnectLink<D, W> {
 }
 
 /// Returns whether an answer says that the host has no room.
-fn is_no_room(answer: &[u8]) -> bool
+pub(crate) fn is_no_room(answer: &[u8]) -> bool
     ensures { MatchBool result (answer.now ≡ no_room_answer) (answer.now ≢ no_room_answer) }
 {
     answer == [REFUSED, HostRefusal::OutOfMemory.code()].as_slice()
 }
 
 /// Returns whether one of the answers says that the host has no room.
-fn has_no_room(answers: &[Vec<u8>]) -> bool
+pub(crate) fn has_no_room(answers: &[Vec<u8>]) -> bool
     ensures { MatchBool result (IsAmong no_room_answer (texts answers.now)) (¬ IsAmong no_room_answer (texts answers.now)) }
 {
     for answer in answers {

@@ -22,8 +22,8 @@ use std::marker::Model;
 ///
 /// All messages are written before the first answer is read. This doesn't block both sides: of a client's messages only
 /// the STOREs are long, and a host answers each of them with a frame of five or six bytes, which its socket holds for
-/// it while it reads on. A FETCH, whose answer is long, is a short message. So no STORE should come after a FETCH in a
-/// batch.
+/// it while it reads on. A FETCH or a RECORDS, whose answer is long, is a short message. So no STORE should come after one of these in
+/// a batch.
 #[derive(Debug, Drop)]
 pub struct StreamBatches<R, W> {
     reader: R,

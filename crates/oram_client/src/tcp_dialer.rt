@@ -5,7 +5,7 @@ ghost use Rattle.oram_rounds.specs.Batches.{batch_outcome_of, texts};
 ghost use Rattle.oram_stamps.specs.Stamps.{shown_text};
 ghost use Rattle.oram_client.specs.Attempts.{attempt_of};
 ghost use Rattle.oram_client.specs.Dialer.{mismatch_trouble};
-ghost use Rattle.oram_client.specs.Stamped.{ArePutFor, CarriesStamped, ComesTo, GivesNoStamps, GivesStamps, IsCompared, IsUncompared, ShowsNoStamps, TakesStamps, with_known};
+ghost use Rattle.oram_client.specs.Stamped.{ArePutFor, CarriesStamped, ComesTo, GivesNoStamps, GivesStamps, IsCompared, IsLearnt, IsUncompared, ShowsNoStamps, TakesStamps, with_known};
 ghost use Rattle.oram_sockets.specs.Connections.{bytes_of};
 ghost use Rattle.oram_stamps.specs.Known.{IsMismatch, IsTakenOver, Stamps};
 ghost use Rattle.oram_stamps.specs.declared.known.Mismatch.{Mismatch};
@@ -17,7 +17,7 @@ ghost use Rattle.oram_client.specs.Dialer.{Shows, IsGreetedOver, IsUngreetedOver
 use crate::answer_lengths::AnswerLengths;
 use crate::dialer::{Dial, Limits, Trouble};
 use crate::identity::{IDENTITY_TREE, STAMP_TREE, stamp_message};
-use crate::reconnect_link::elapsed;
+use crate::reconnect_link::{elapsed, has_no_room, is_no_room};
 use crate::timed_link::{TimedLink, milliseconds};
 use oram_cli::limit_silence;
 use oram_host::HostRefusal;
@@ -43,7 +43,8 @@ const LONGEST_CONNECTING: u64 = 10_000;
 /// host answers with the right identity, and with stamps that it may have by what the dialer knows of them.
 ///
 /// A batch that is the first one since the process was kept, or that has STOREs, goes between two messages: one says that the host has
-/// begun this keeping, and one that it has done it. The caller doesn't see the answers to these two.
+/// begun this batch, and one that it has done it. The caller doesn't see the answers to these two. The host puts both even if it has no
+/// room for a STORE between them. So a batch that is sent again has another stamp, and only a batch that had room counts as done.
 #[derive(Debug, Drop)]
 pub struct TcpDialer<R> {
     rt: R,
@@ -181,13 +182,6 @@ fn ask_stamps<S: Read + Write, C: Clock>(
     }
 }
 
-/// Returns whether an answer says that the host has no room.
-fn is_no_room(answer: &[u8]) -> bool
-    ensures { MatchBool result (answer.now ≡ no_room_answer) (answer.now ≢ no_room_answer) }
-{
-    answer == [REFUSED, HostRefusal::OutOfMemory.code()].as_slice()
-}
-
 /// Returns what the answers to the messages that put a stamp at both places come to.
 fn are_put(begun: &[u8], done: &[u8]) -> Result<(), Trouble>
     ensures ok { OnOk result ((begun.now ≡ done_answer) × (done.now ≡ done_answer)) }
@@ -220,6 +214,15 @@ fn take_stamps(answers: &mut Vec<Vec<u8>>, count: usize) -> Result<(), Trouble>
 }
 
 impl<R> TcpDialer<R> {
+    /// Learns from the answers to a batch's own messages whether the host has done the batch.
+    fn learn_answers(&mut self, answers: &[Vec<u8>])
+        ensures { (known : Stamps) × IsLearnt self.old.known (texts answers.now) known × (self.new ≡ with_known self.old known) }
+    {
+        if !has_no_room(answers) {
+            self.known.settle();
+        }
+    }
+
     /// Learns what a batch between its stamps has come to, and returns what its caller receives: all answers but those to the two
     /// stamps. `count` messages went between the stamps.
     fn learn_outcome(
@@ -233,7 +236,7 @@ impl<R> TcpDialer<R> {
         match outcome {
             Ok(mut answers) => match take_stamps(&mut answers, count) {
                 Ok(()) => {
-                    self.known.settle();
+                    self.learn_answers(&answers);
                     Ok(answers)
                 }
                 Err(trouble) => Err(trouble),
@@ -242,8 +245,8 @@ impl<R> TcpDialer<R> {
         }
     }
 
-    /// Sends a batch between the messages that put the stamp of the last keeping at both of the host's places. All answers but those to
-    /// these two are returned.
+    /// Sends a batch between the messages that put its stamp at both of the host's places. All answers but those to these two are
+    /// returned.
     fn carry_stamped<S: Read + Write, C: Clock>(
         &mut self,
         alloc: Global,
@@ -253,7 +256,7 @@ impl<R> TcpDialer<R> {
     ) -> Result<Vec<Vec<u8>>, Trouble>
         ensures { (exchanges : List Exchange) × CarriesStamped S.remaining S.contents self.old line.old (texts first.now ++ texts last.now) (attempt_of result) exchanges self.new line.new }
     {
-        let stamp = self.known.current();
+        let stamp = self.known.next_stamp();
         let begun = stamp_message(alloc, &self.key, Place::Begun, &stamp)?;
         let done = stamp_message(alloc, &self.key, Place::Done, &stamp)?;
         self.known.send(alloc)?;

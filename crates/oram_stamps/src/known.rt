@@ -1,6 +1,6 @@
 //! What a client knows of the stamps that its host has.
 ghost use Rattle.std.specs.Prelude.{◌≡◌, ◌↔◌, ◌≤◌, ◌<◌, ◌-◌, ◌^◌, ◌++◌, ◌∷◌, [], ℕ, None, drop, IfOk, IfErr, IfSome, IsTrue, MatchBool, OnOk, OnErr};
-ghost use Rattle.oram_stamps.specs.Known.{EndsIn, IsAllowed, IsMismatch, IsSent, IsSettled, IsTakenOver, IsUnknown, MayShow, StandsAt, answered, begun_number, first_stamp, kept, next_number, sent, settled};
+ghost use Rattle.oram_stamps.specs.Known.{EndsIn, IsAllowed, IsMismatch, IsSent, IsSettled, IsTakenOver, IsUnknown, MayShow, StandsAt, answered, begun_number, first_stamp, kept, next_number, next_stamp, seen, sent, settled};
 
 use crate::stamp::{Shown, Stamp};
 use std::alloc::{AllocError, Global};
@@ -24,22 +24,25 @@ pub const FIRST_STAMP: Stamp = Stamp {
 /// What a client knows of the stamps that its host has.
 #[derive(Debug, Drop)]
 pub struct Known {
-    /// The stamps that the host may have, oldest first.
+    /// The keepings that the host may have, oldest first, each with the least number that a batch of it may have there.
     may: Vec<Stamp>,
-    /// Where the stamp stands that the host is known to have begun.
+    /// Where the keeping stands that the host is known to have begun.
     begun: usize,
-    /// Where the stamp stands that the host is known to have done.
+    /// Where the keeping stands that the host is known to have done.
     done: usize,
-    /// The stamp of the last keeping.
+    /// The checksum of the last keeping, and the greatest number that a batch is known to have had.
     current: Stamp,
 }
 
 impl Model for Known {
+    ghost use Rattle.std.specs.Prelude.{◌<◌, length};
     ghost use Rattle.oram_stamps.specs.Known.{Stamps};
 
     ghost Value = { Stamps };
 
     ghost view = { λ k. record { may = k.may.items; begun = k.begun; done = k.done; current = k.current } };
+
+    ghost invariant = { λ k. 0 < length k.may.items };
 }
 
 /// Where two stamps stand in a list.
@@ -49,7 +52,7 @@ struct Places {
     done: usize,
 }
 
-/// Returns the first place from `from` on at which a list has a stamp.
+/// Returns the first place from `from` on at which a list has the keeping of a stamp.
 fn place_from(stamps: &[Stamp], from: usize, stamp: &Stamp) -> Option<usize>
     ensures some { IfSome result (λ i. StandsAt stamps.now i stamp.now) }
     ensures since { IfSome result (λ i. from ≤ i) }
@@ -57,19 +60,19 @@ fn place_from(stamps: &[Stamp], from: usize, stamp: &Stamp) -> Option<usize>
     ensures none { result ≡ None → (j : ℕ) → from ≤ j → ¬ StandsAt stamps.now j stamp.now }
 {
     for i in from..stamps.len() {
-        if stamps[i].is(stamp) {
+        if stamps[i].covers(stamp) {
             return Some(i);
         }
     }
     None
 }
 
-/// Returns whether a list has a stamp at a place.
+/// Returns whether a list has the keeping of a stamp at a place.
 fn stands_at(stamps: &[Stamp], place: usize, stamp: &Stamp) -> bool
     ensures { IsTrue result ↔ StandsAt stamps.now place stamp.now }
 {
     match stamps.get(place) {
-        Some(at) => at.is(stamp),
+        Some(at) => at.covers(stamp),
         None => false,
     }
 }
@@ -91,56 +94,69 @@ impl Known {
     pub fn keep(&mut self, check: u64)
         ensures { self.new ≡ kept self.old check }
     {
-        self.current = Stamp {
-            number: self.next_number(),
-            check,
-        };
+        self.current.check = check;
     }
 
-    /// Notes that messages of the current keeping are about to be sent, beside its stamp. If memory runs out, nothing changes.
+    /// Returns the stamp of the next batch. Its number is greater than all that batches are known to have had. So if a batch is sent
+    /// again, since the host had no room for a STORE, the host's stamps tell which of the two times its file is from.
+    pub fn next_stamp(&self) -> Stamp
+        ensures { result ≡ next_stamp self.now }
+    {
+        Stamp {
+            number: self.next_number(),
+            check: self.current.check,
+        }
+    }
+
+    /// Notes that a batch is about to be sent, with [`Known::next_stamp`]. If memory runs out, nothing changes.
     pub fn send(&mut self, alloc: Global) -> Result<(), AllocError>
         ensures ok { OnOk result (IsSent self.old self.new) }
         ensures err { OnErr result (self.new ≡ self.old) }
     {
-        if self.ends_in_current() {
+        let next = self.next_stamp();
+        if self.ends_in(&next) {
+            self.current = next;
             return Ok(());
         }
-        self.add_current(alloc)
+        self.add(alloc, next)
     }
 
-    /// Returns whether the stamp of the last keeping is the last one that the host may have.
-    fn ends_in_current(&self) -> bool
-        ensures { IsTrue result → EndsIn self.now.may self.now.current }
+    /// Returns whether the last keeping that the host may have is that of a stamp.
+    fn ends_in(&self, stamp: &Stamp) -> bool
+        ensures { MatchBool result (EndsIn self.now.may stamp.now) (¬ EndsIn self.now.may stamp.now) }
     {
         match self.may.last() {
-            Some(last) => last.is(&self.current),
+            Some(last) => last.covers(stamp),
             None => false,
         }
     }
 
-    /// Adds the stamp of the last keeping to those that the host may have.
-    fn add_current(&mut self, alloc: Global) -> Result<(), AllocError>
+    /// Adds the last keeping, with the stamp of its first batch, to those that the host may have.
+    fn add(&mut self, alloc: Global, next: Stamp) -> Result<(), AllocError>
+        requires { next ≡ next_stamp self.old }
         ensures ok { OnOk result (self.new ≡ sent self.old) }
         ensures err { OnErr result (self.new ≡ self.old) }
     {
         let mut may = self.since_done().to_vec(alloc)?;
-        may.push(self.current)?;
+        may.push(next)?;
         self.may = may;
         self.begun = self.begun.saturating_sub(self.done);
         self.done = 0;
+        self.current = next;
         Ok(())
     }
 
-    /// Notes that the host has answered all that was sent: it has begun and done what was sent last.
+    /// Notes that the host has answered all messages of the last batch, and has refused none of them for want of room.
     pub fn settle(&mut self)
         ensures { self.new ≡ answered self.old }
     {
-        let last = self.may.len().saturating_sub(1);
-        self.begun = last;
-        self.done = last;
+        self.may.truncate(1);
+        self.may[0] = self.current;
+        self.begun = 0;
+        self.done = 0;
     }
 
-    /// Returns whether the host is known to have begun and done the last keeping. Then its stamp needn't be sent again.
+    /// Returns whether the host is known to have begun and done a batch of the last keeping. Then a batch without STOREs needs no stamp.
     pub fn is_settled(&self) -> bool
         ensures { IsTrue result ↔ IsSettled self.now }
     {
@@ -148,7 +164,7 @@ impl Known {
             && stands_at(&self.may, self.done, &self.current)
     }
 
-    /// Returns the number of the keeping that the host is known to have begun.
+    /// Returns the least number that a batch may have of the keeping that the host is known to have begun.
     fn begun_number(&self) -> u64
         ensures { result ≡ begun_number self.now }
     {
@@ -193,10 +209,19 @@ impl Known {
         };
         self.begun = at.begun;
         self.done = at.done;
+        self.current.number = self.greatest_number(shown);
         Ok(())
     }
 
-    /// Makes what a process knows that starts from the file with the stamp `current`: the host may have that stamp too.
+    /// Returns the greatest number that a batch is known to have had, once the host has shown these stamps.
+    fn greatest_number(&self, shown: &Shown) -> u64
+        ensures { result ≡ (seen self.now.current shown.now).number }
+    {
+        let shown = shown.begun.number.max(shown.done.number);
+        self.current.number.max(shown)
+    }
+
+    /// Makes what a process knows that starts from a file: the host may have batches of it too, from the stamp `current` on.
     pub(crate) fn restarted(
         mut stamps: Vec<Stamp>,
         begun: usize,
@@ -213,14 +238,14 @@ impl Known {
         })
     }
 
-    /// Returns the number of the next keeping.
+    /// Returns the number of the next batch.
     pub(crate) fn next_number(&self) -> u64
         ensures { result ≡ next_number self.now.current.number }
     {
         self.current.number.saturating_add(1)
     }
 
-    /// Returns the stamps that the host may have, from the one on that it is known to have done.
+    /// Returns the keepings that the host may have, from the one on that it is known to have done.
     pub(crate) fn since_done(&self) -> &[Stamp]
         ensures { result.now ≡ drop self.now.done self.now.may }
     {
@@ -228,18 +253,11 @@ impl Known {
         &self.may[from..]
     }
 
-    /// Returns where in that list the stamp stands that the host is known to have begun.
+    /// Returns where in that list the keeping stands that the host is known to have begun.
     pub(crate) fn begun_since_done(&self) -> u64
         ensures value { result ≡ self.now.begun - self.now.done }
         ensures fits { self.now.begun - self.now.done < 2 ^ 64 }
     {
         self.begun.saturating_sub(self.done) as u64
-    }
-
-    /// Returns the stamp of the last keeping.
-    pub fn current(&self) -> Stamp
-        ensures { result ≡ self.now.current }
-    {
-        self.current
     }
 }

@@ -1,6 +1,7 @@
 //! Stamps, and the records in which a host keeps them.
 ghost use Rattle.std.specs.Prelude.{◌≡◌, ◌≢◌, ◌++◌, ◌<◌, ◌^◌, ℕ, List, None, IfOk, IfSome, OnOk, length, MatchBool};
 ghost use Rattle.std.specs.Int.{w64, to_be_bytes};
+ghost use Rattle.oram_stamps.specs.Known.{Covers};
 ghost use Rattle.oram_stamps.specs.Stamps.{AreNumbers, mask, place_byte, record_text, shown_text, stamp_text, tag};
 ghost use Rattle.oram_stamps.specs.declared.stamp.Shown.{Shown};
 ghost use Rattle.oram_stamps.specs.declared.stamp.Stamp.{Stamp};
@@ -12,10 +13,10 @@ use std::fmt;
 /// The length of a stamp's record in bytes: the stamp, and its tag.
 pub const RECORD_LEN: usize = 48;
 
-/// The name of one keeping of a client's state.
+/// The name of one batch of messages, which belongs to one keeping of a client's state.
 #[derive(Clone, Copy, Debug)]
 pub struct Stamp {
-    /// One greater than that of the keeping before.
+    /// Greater than that of each batch before.
     pub number: u64,
     /// The checksum of the file that was kept, masked by [`masked`].
     pub check: u64,
@@ -35,9 +36,9 @@ impl fmt::Debug for StampKey {
 /// Which of its two stamps a host keeps in a record.
 #[derive(Clone, Copy, Debug, PartialEq, Eq)]
 pub enum Place {
-    /// The stamp of the keeping whose messages the host began to receive last.
+    /// The stamp of the batch that the host began to receive last.
     Begun,
-    /// The stamp of the last keeping whose messages the host has all carried out.
+    /// The stamp of the last batch whose STOREs the host has all answered.
     Done,
 }
 
@@ -60,11 +61,18 @@ pub struct Shown {
 }
 
 impl Stamp {
-    /// Returns whether both name the same keeping.
+    /// Returns whether both name the same batch.
     pub fn is(&self, other: &Stamp) -> bool
         ensures { MatchBool result (self.now ≡ other.now) (self.now ≢ other.now) }
     {
         self.number == other.number && self.check == other.check
+    }
+
+    /// Returns whether the other one names a batch of the same keeping, and not an earlier one.
+    pub(crate) fn covers(&self, other: &Stamp) -> bool
+        ensures { MatchBool result (Covers self.now other.now) (¬ Covers self.now other.now) }
+    {
+        self.check == other.check && self.number <= other.number
     }
 
     /// Adds the stamp's bytes to a text.

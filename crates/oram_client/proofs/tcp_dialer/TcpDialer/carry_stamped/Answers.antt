@@ -4,6 +4,7 @@ use Rattle.std.specs.Prelude.{string_bytes}
 use Rattle.std.proofs.lemmas.List.{length-map}
 use Rattle.oram_link_laws.specs.Runs.{Exchange}
 use Rattle.oram_rounds.specs.Batches.{batch_outcome_of, texts}
+use Rattle.oram_stamps.specs.Known.{next_stamp}
 use Rattle.oram_stamps.specs.declared.stamp.Place.TheVariants.{Begun, Done}
 use Rattle.oram_stamps.specs.declared.stamp.Stamp.{Stamp}
 use Rattle.oram_client.specs.Attempts.{attempt_of}
@@ -22,9 +23,9 @@ returns g c =
     let first = texts c.args.first.now in
     let last = texts c.args.last.now in
     let called = c.call_between-outcome.ensures in
-    let stamp_is = c.current-stamp.ensures in
-    let begun_is : c.in_ok-begun.begun.items ≡ stamp_put d.key Begun d.known.current = c.in_ok-begun.ensures ∙ ap (λ (s : Stamp). stamp_put inside.key.0 Begun s) stamp_is in
-    let done_is : c.in_ok-done.done.items ≡ stamp_put d.key Done d.known.current = c.in_ok-done.ensures ∙ ap (λ (s : Stamp). stamp_put inside.key.0 Done s) stamp_is in
+    let stamp_is = c.next_stamp-stamp.ensures in
+    let begun_is : c.in_ok-begun.begun.items ≡ stamp_put d.key Begun (next_stamp d.known) = c.in_ok-begun.ensures ∙ ap (λ (s : Stamp). stamp_put inside.key.0 Begun s) stamp_is in
+    let done_is : c.in_ok-done.done.items ≡ stamp_put d.key Done (next_stamp d.known) = c.in_ok-done.ensures ∙ ap (λ (s : Stamp). stamp_put inside.key.0 Done s) stamp_is in
     subst (λ (x : Destination). (exchanges : List Exchange) × CarriesStamped g.S.Read.remaining g.S.Write.contents x c.args.line.now (first ++ last) came exchanges e c.call_between-outcome.new.self) c.self.view_is
     (carried_so g.S.Read.remaining g.S.Write.contents d e c.send.new.self c.args.line.now c.call_between-outcome.new.self first last c.in_ok-begun.begun.items c.in_ok-done.done.items
     (batch_outcome_of c.call_between-outcome.result) came called.0 (length c.args.first.now) begun_is done_is (sym (length-map c.args.first.now (λ (v : Vec ℕ). v.items)))
