@@ -7,7 +7,7 @@ use Rattle.oram_cli.specs.declared.hosts.HostFault.TheVariants as host
 use Rattle.oram_settings.specs.declared.differences.FixedKey.{FixedKey}
 use Rattle.oram_settings.specs.declared.differences.FixedKey.TheVariants as fixed
 use Rattle.oram_disk_host.specs.declared.kinds.FaultKind.{FaultKind}
-use Rattle.oram_disk_host.specs.declared.kinds.FaultKind.TheVariants.{CommandLine, Settings, File, Unformatted, Address, NotABucketFile, OlderFile, NewerFile, WithoutLog, LogOfAnotherFile, LogWithoutFile, LogOlder, LogNewer, Damaged, LogDamaged, Busy, NoFile, FileExists, Exists, Formatted, NotADisk, DamagedState, OlderState, ReplacedState, WrongKey, Changed, Host, OlderHost, NoStamps, StateNotKept, StateNotMade, UsedUp, InUse, Failed, NotFailed}
+use Rattle.oram_disk_host.specs.declared.kinds.FaultKind.TheVariants.{CommandLine, Settings, File, Unformatted, Address, NotABucketFile, OlderFile, NewerFile, WithoutLog, LogOfAnotherFile, LogWithoutFile, LogOlder, LogNewer, Damaged, LogDamaged, Busy, NoFile, FileExists, Exists, Formatted, NotADisk, DamagedState, OlderState, ReplacedState, WrongKey, Changed, Host, OlderHost, NoStamps, StateNotKept, StateNotMade, UsedUp, InUse, Failed, NotFailed, LostRecords, PartialImage, OtherAnswer}
 
 -- the text before the name of the settings with a changed value
 abbrev pub changed : FixedKey → List ℕ
@@ -39,6 +39,7 @@ front (Host host.Refused) = codes "oramdisk: the host at "
 front (Host host.OutOfReach) = codes "oramdisk: can't reach the host at "
 front OlderHost = codes "oramdisk: the host at "
 front NoStamps = codes "oramdisk: the host at "
+front OtherAnswer = codes "oramdisk: the host at "
 front StateNotKept = codes "oramdisk: can't keep the state in "
 front StateNotMade = codes "oramdisk: can't keep the state in "
 front UsedUp = codes "oramdisk: the disk of "
@@ -98,10 +99,13 @@ rest OlderHost = codes " shows an older file of this disk than it has shown befo
 rest NoStamps = codes " doesn't show what this disk has stored there, and nothing more was stored: have it serve the disk's own file, unchanged; nothing is lost here\n"
 rest StateNotKept = codes ": see that its folder may be written and has room, and start again\n"
 rest StateNotMade = codes ": see that its folder may be written and has room, name a new file at the host, and format again\n"
-rest UsedUp = codes " has made all its accesses, and can't be read any more: restore a backup of it to a new one\n"
+rest UsedUp = codes " has made all its accesses: say oramdisk export, and copy the image to a new disk\n"
 rest InUse = codes " is in use by another process: end that one first\n"
-rest Failed = codes " has failed, and oramdisk status says why: see that its own host is reached, with its own file, and then say oramdisk retry\n"
+rest Failed = codes " has failed, and oramdisk status says why: see that its own host is reached, with its own file, and then say oramdisk retry; oramdisk check says what is lost at the host, and oramdisk export --salvage saves the rest\n"
 rest NotFailed = codes " has not failed, and is left as it is: oramdisk serve serves it\n"
+rest LostRecords = codes ": oramdisk export --salvage writes the rest of the disk to an image\n"
+rest PartialImage = codes ": what was in them reads as zeros in the image\n"
+rest OtherAnswer = codes " gave an answer that no host of this version gives: have it run the same version of oramdisk\n"
 
 -- 2: words or settings; 4: a file; 5: a socket; 6 to 8: a host's file that isn't one, is damaged, or is held; 9: something that
 -- exists already; 10: a state that isn't one, is damaged, or is of an older version; 11, 12: a host that is out of reach, or that refuses;
@@ -151,3 +155,6 @@ status LogNewer = 26
 status ReplacedState = 27
 status OlderHost = 29
 status NoStamps = 30
+status LostRecords = 31
+status PartialImage = 31
+status OtherAnswer = 32

@@ -81,6 +81,13 @@ pub enum FaultKind {
     Failed,
     /// The disk whose state is in the file of this name has not failed.
     NotFailed,
+    /// The host doesn't have all records as they were stored. Instead of a name, it comes with how many of them it lacks.
+    LostRecords,
+    /// An image lacks what was in records that the host doesn't have as they were stored. Instead of a name, it comes with how many
+    /// these are.
+    PartialImage,
+    /// The host at this address gave an answer to a question about records that no host of this version gives.
+    OtherAnswer,
 }
 
 /// Returns the text before the name, for a value that was changed.
@@ -151,7 +158,8 @@ impl FaultKind {
             | FaultKind::Host(HostFault::Taken)
             | FaultKind::Host(HostFault::Refused)
             | FaultKind::OlderHost
-            | FaultKind::NoStamps => "oramdisk: the host at ",
+            | FaultKind::NoStamps
+            | FaultKind::OtherAnswer => "oramdisk: the host at ",
             FaultKind::Host(HostFault::OutOfReach) => "oramdisk: can't reach the host at ",
             FaultKind::StateNotKept | FaultKind::StateNotMade =>
                 "oramdisk: can't keep the state in ",
@@ -221,12 +229,17 @@ impl FaultKind {
             FaultKind::StateNotMade =>
                 ": see that its folder may be written and has room, name a new file at the host, and format again\n",
             FaultKind::UsedUp =>
-                " has made all its accesses, and can't be read any more: restore a backup of it to a new one\n",
+                " has made all its accesses: say oramdisk export, and copy the image to a new disk\n",
             FaultKind::InUse => " is in use by another process: end that one first\n",
             FaultKind::Failed =>
-                " has failed, and oramdisk status says why: see that its own host is reached, with its own file, and then say oramdisk retry\n",
+                " has failed, and oramdisk status says why: see that its own host is reached, with its own file, and then say oramdisk retry; oramdisk check says what is lost at the host, and oramdisk export --salvage saves the rest\n",
             FaultKind::NotFailed =>
                 " has not failed, and is left as it is: oramdisk serve serves it\n",
+            FaultKind::LostRecords =>
+                ": oramdisk export --salvage writes the rest of the disk to an image\n",
+            FaultKind::PartialImage => ": what was in them reads as zeros in the image\n",
+            FaultKind::OtherAnswer =>
+                " gave an answer that no host of this version gives: have it run the same version of oramdisk\n",
         }
     }
 
@@ -265,6 +278,8 @@ impl FaultKind {
             FaultKind::ReplacedState => 27,
             FaultKind::OlderHost => 29,
             FaultKind::NoStamps => 30,
+            FaultKind::LostRecords | FaultKind::PartialImage => 31,
+            FaultKind::OtherAnswer => 32,
             FaultKind::Unformatted => 28,
         }
     }

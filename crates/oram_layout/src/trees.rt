@@ -38,7 +38,14 @@ impl Tree {
         Some(Tree { shape, base })
     }
 
-    /// Returns the offset of a node's cell.
+    /// Returns the number of bytes of a cell of the tree.
+    pub fn cell_len(&self) -> usize
+        ensures { result ≡ cell_len self.now.shape.record_len }
+    {
+        cell_len_of(self.shape.record_len) as usize
+    }
+
+    /// Returns the offset of a node's cell. The cell of the next node comes right after it.
     pub fn cell_at(&self, node: u32) -> u64
         requires { node < nodes_of (sizes_of self.now.shape) }
         ensures place { result ≡ cell_at self.now node }

@@ -7,6 +7,7 @@ pub mod Allowed
 pub mod Sound
 pub mod Identity
 mod Levels
+mod CellReads
 pub mod BatchBytes
 pub mod CommittedPuts
 pub mod Served
@@ -14,3 +15,6 @@ pub mod AddedRecords
 pub mod Puts
 pub mod AddedTrees
 pub mod Responses
+pub mod RowBytes
+pub mod RowsServed
+mod WorkedRows

@@ -1,7 +1,10 @@
 -- The outcome of a request, as its answer.
 use Rattle.oram_redo.specs.FilePair.{FileModel}
-use Rattle.std.proofs.Common.{◌≡◌, inl, refl, arith, Err, Ok, Option, Result, Some, List, [], ◌∷◌, ℕ, None, drop, sym, ap, ◌∙◌}
-use Rattle.std.specs.Prelude.{IsErrAnd, IsSomeAnd}
+use Rattle.std.proofs.Common.{◌≡◌, ◌≤◌, inl, refl, arith, Err, Ok, Option, Result, Some, List, [], ◌∷◌, ℕ, None, drop, get_or, sym, ap, ◌∙◌}
+use Rattle.std.specs.Prelude.{IfOk, IsErrAnd, IsSomeAnd}
+use Rattle.oram_records.specs.Messages.{names_records, records_body}
+use Rattle.oram_records.specs.declared.request.RecordsRequest.{RecordsRequest}
+use Rattle.oram_wire.specs.HostMessages.{request_body}
 use Rattle.oram_wire.specs.declared.host_messages.HostAnswer.{HostAnswer}
 use Rattle.oram_wire.specs.declared.host_messages.HostAnswer.TheVariants.{Done, Payload}
 use Rattle.oram_wire.specs.declared.host_messages.HostRequest.{HostRequest}
@@ -50,6 +53,17 @@ pub error_of : {T E : Type 0} (result : Result T E) (error given : E) → IsErrA
 error_of (Ok x) error given is same = absurd is
 error_of (Err e) error given is same = sym is ∙ cc
 
+-- a refusal has a code
+pub code_is : (why : HostRefusal) → (1 ≤ code_of why) × (code_of why ≤ 8)
+code_is refusal.NoShape = (omega arith, omega arith)
+code_is refusal.BadLeaf = (omega arith, omega arith)
+code_is refusal.BadNode = (omega arith, omega arith)
+code_is refusal.BadLength = (omega arith, omega arith)
+code_is refusal.ShapeTaken = (omega arith, omega arith)
+code_is refusal.Missing = (omega arith, omega arith)
+code_is refusal.BadOp = (omega arith, omega arith)
+code_is refusal.OutOfMemory = (omega arith, omega arith)
+
 -- the code 8 has one meaning
 pub no_room_is : (why : HostRefusal) → code_of why ≡ 8 → why ≡ refusal.OutOfMemory
 no_room_is refusal.NoShape is = absurd (omega arith)
@@ -65,3 +79,21 @@ no_room_is refusal.OutOfMemory is = refl
 pub payload_is : (first : ℕ) (bytes : _) (records : List ℕ) (answer : HostAnswer) → StandsFor (first ∷ []) (served.Records bytes) answer → bytes.items ≡ first ∷ records
     → answer ≡ Payload records
 payload_is first bytes records answer h e = h.2 ∙ ap Payload (ap (drop 1) (sym h.1 ∙ e))
+
+-- the body of one of the four requests doesn't name RECORDS
+pub not_records : (message : HostRequest) (body : List ℕ) → body ≡ request_body message → names_records body → ⊥
+not_records (request.Fetch tree leaf) body is names = let first : 1 ≡ 5 = ap (λ (l : List ℕ). get_or l 0 0) (sym is ∙ names.1) in absurd (omega (arith, first))
+not_records (request.Store tree leaf records) body is names = let first : 2 ≡ 5 = ap (λ (l : List ℕ). get_or l 0 0) (sym is ∙ names.1) in absurd (omega (arith, first))
+not_records (request.Put tree node bytes) body is names = let first : 3 ≡ 5 = ap (λ (l : List ℕ). get_or l 0 0) (sym is ∙ names.1) in absurd (omega (arith, first))
+not_records (request.Shape tree depth record_len) body is names = let first : 4 ≡ 5 = ap (λ (l : List ℕ). get_or l 0 0) (sym is ∙ names.1) in absurd (omega (arith, first))
+
+pub records_named : (r : RecordsRequest) (body : List ℕ) → body ≡ records_body r → names_records body
+records_named r body is = (drop 1 (records_body r), is)
+
+-- what follows from what is known of a result
+pub if_ok_leads : {V E : Type 0} (result : Result V E) (P Q : V → Type 0) → IfOk result P → ((v : V) → P v → Q v) → IfOk result Q
+if_ok_leads (Ok v) P Q holds leads = leads v holds
+if_ok_leads (Err e) P Q holds leads = tt
+
+pub ok_is_no_err : {V E : Type 0} (v : V) (e : E) → Err e ≡ Ok v → ⊥
+ok_is_no_err v e is = cc

@@ -12,3 +12,5 @@ pub mod KeptRecords
 pub mod Crashes
 pub mod AnswerBytes
 pub mod Matching
+pub mod Rows
+pub mod RecordsAnswers

@@ -13,7 +13,7 @@ use Rattle.oram_store.specs.declared.store.TheConstants.{DISK_IDENTITY_TREE}
 use Rattle.oram_layout.specs.Trees.{Trees, shape_at}
 
 -- the refusal `why` if the condition doesn't hold, or else `rest`
-abbrev unless : Bool → HostRefusal → Option HostRefusal → Option HostRefusal
+abbrev pub unless : Bool → HostRefusal → Option HostRefusal → Option HostRefusal
 unless holds why rest = if holds then rest else Some why
 
 -- the refusal `why` if the condition holds, or else `rest`

@@ -1,5 +1,5 @@
 //! The answers of a store to the bodies of requests.
-ghost use Rattle.std.specs.Prelude.{◌≡◌, ◌≤◌, [], length, false, None, IfErr, IfOk, IsSome, MatchResult, OnErr, OnOk};
+ghost use Rattle.std.specs.Prelude.{◌≡◌, [], length, false, None, IfErr, IfOk, IsSome, MatchResult, OnErr, OnOk};
 ghost use Rattle.oram_host.specs.Refusals.{code_of};
 ghost use Rattle.oram_store.specs.Answers.{IsGranted, IsKeptAtOnce};
 ghost use Rattle.oram_store.specs.Crashes.{Serves};
@@ -8,6 +8,8 @@ ghost use Rattle.oram_store.specs.Reasons.{ReportsWhy};
 ghost use Rattle.oram_store.specs.Refusals.{IsRefused, RespondsWith, ChangesTrees, refusal_by};
 ghost use Rattle.oram_store.specs.RecordFile.{Runs};
 ghost use Rattle.oram_store.specs.AnswerBytes.{StandsBehind, StandsFor};
+ghost use Rattle.oram_records.specs.Messages.{HasNumbers as HasRecordsNumbers, IsMisfit as IsRecordsMisfit, names_records, records_body};
+ghost use Rattle.oram_store.specs.RecordsAnswers.{AnswersRecords};
 ghost use Rattle.oram_wire.specs.FrameStream.{IsBody};
 ghost use Rattle.oram_wire.specs.HostMessages.{answer_body, request_body};
 ghost use Rattle.oram_wire.specs.HostBodies.{HasNumbers, IsAnswer, IsMisfit, names_request, request_of};
@@ -17,21 +19,22 @@ ghost use Rattle.oram_wire.specs.declared.host_messages.HostRequest.{HostRequest
 use crate::store::FileStore;
 use oram_bytes::Bytes;
 use oram_host::HostRefusal;
+use oram_records::RecordsRequest;
 use oram_redo::FilePair;
 use oram_wire::{GOOD, HostAnswer, HostView, REFUSED, WireFault};
 use std::alloc::{AllocError, Global};
 
 /// The outcome of a request that was carried out.
 pub(crate) enum Served {
-    /// The bytes that come first, and then the records that the request asks for.
+    /// The byte that comes first, and then the records that the request asks for.
     Records(Vec<u8>),
     Done,
 }
 
 impl<F: FilePair> FileStore<F> {
-    /// Carries out a request. If it asks for records, they come after `front`.
+    /// Carries out a request. If it asks for records, they come after `front`, one byte.
     fn serve(&mut self, request: HostView<'_>, front: &[u8]) -> Result<Served, HostRefusal>
-        requires { length front.now ≤ 1 }
+        requires { length front.now ≡ 1 }
         ensures served { IfOk result (StandsBehind front.now (request_of request.entry)) }
         ensures allowed { OnOk result (refusal_by self.old.trees (request_of request.entry) ≡ None) }
         ensures refused { IfErr result (IsRefused self.old.trees (request_of request.entry)) }
@@ -67,9 +70,9 @@ impl<F: FilePair> FileStore<F> {
         Ok(Served::Done)
     }
 
-    /// Carries out the request in a body. If it asks for records, they come after `front`.
+    /// Carries out the request in a body. If it asks for records, they come after `front`, one byte.
     fn serve_body(&mut self, body: &[u8], front: &[u8]) -> Result<Served, HostRefusal>
-        requires { length front.now ≤ 1 }
+        requires { length front.now ≡ 1 }
         ensures op { names_request body.now ≡ false → (result ≡ Err HostRefusal.BadOp) × (self.new ≡ self.old) }
         ensures misfit { IsMisfit body.now → (result ≡ Err HostRefusal.BadLength) × (self.new ≡ self.old) }
         ensures untouched { (message : HostRequest) → HasNumbers message → body.now ≡ request_body message
@@ -135,18 +138,21 @@ impl<F: FilePair> FileStore<F> {
         // The answer can be written as a body.
         ensures spelled { IsAnswer result }
     {
-        match self.serve_body(body, &[]) {
-            Ok(Served::Records(records)) => HostAnswer::Payload(Bytes::from_vec(records)),
+        match self.serve_body(body, &[GOOD]) {
+            Ok(Served::Records(mut records)) => {
+                records.remove(0);
+                HostAnswer::Payload(Bytes::from_vec(records))
+            }
             Ok(Served::Done) => HostAnswer::Done,
             Err(why) => HostAnswer::Refused(why.code()),
         }
     }
 
-    /// Returns the bytes of the answer that `handle` would give to the body of a request. The records are in one vector
-    /// with the byte before them, so they are copied only once.
+    /// Returns the bytes of the answer that `handle` gives to a body. The records are in one vector with the byte before them, so
+    /// they are copied only once.
     ///
     /// It allocates a short answer before it serves the request; if that fails, it serves nothing.
-    pub fn answer(&mut self, alloc: Global, body: &[u8]) -> Result<Vec<u8>, AllocError>
+    fn answer_message(&mut self, alloc: Global, body: &[u8]) -> Result<Vec<u8>, AllocError>
         ensures ok { IfOk result (λ v. (answer : HostAnswer) × IsAnswer answer × (v.items ≡ answer_body answer)
             × ((message : HostRequest) → HasNumbers message → body.now ≡ request_body message → RespondsWith self.old.trees message answer self.new.trees
             × (IsKeptAtOnce message → IsGranted answer → self.new.pending ≡ [])
@@ -156,7 +162,6 @@ impl<F: FilePair> FileStore<F> {
         ensures op { names_request body.now ≡ false → IfOk result (λ v. v.items ≡ answer_body (HostAnswer.Refused 7)) }
         ensures misfit { IsMisfit body.now → IfOk result (λ v. v.items ≡ answer_body (HostAnswer.Refused 4)) }
         ensures runs { Runs F.model self.old.file self.new.file }
-        // The answer fits in a frame.
         ensures fits { IfOk result (λ v. IsBody v.items) }
         ensures err { OnErr result (self.new ≡ self.old) }
     {
@@ -168,4 +173,60 @@ impl<F: FilePair> FileStore<F> {
         }
         Ok(short)
     }
+    /// Returns the bytes of the answer to a request for the records of nodes in a row.
+    ///
+    /// It allocates a short answer before it serves the request; if that fails, it serves nothing.
+    fn answer_records(
+        &mut self,
+        alloc: Global,
+        request: RecordsRequest,
+    ) -> Result<Vec<u8>, AllocError>
+        ensures ok { IfOk result (λ v. (answer : HostAnswer) × IsAnswer answer × (v.items ≡ answer_body answer)
+            × AnswersRecords F.model request answer self.old self.new) }
+        ensures runs { Runs F.model self.old.file self.new.file }
+        ensures fits { IfOk result (λ v. IsBody v.items) }
+        ensures err { OnErr result (self.new ≡ self.old) }
+    {
+        let mut short = Vec::with_capacity(alloc, 2)?;
+        match self.records(request) {
+            Ok(answer) => return Ok(answer),
+            Err(why) => short.extend_from_slice(&[REFUSED, why.code()])?,
+        }
+        Ok(short)
+    }
+
+    /// Returns the bytes of the answer to a body: of the four requests that `handle` answers, or of one for the records of nodes in a
+    /// row, which only a store in a file answers. If memory runs out before it serves the request, it serves nothing.
+    pub fn answer(&mut self, alloc: Global, body: &[u8]) -> Result<Vec<u8>, AllocError>
+        ensures ok { IfOk result (λ v. (answer : HostAnswer) × IsAnswer answer × (v.items ≡ answer_body answer)
+            × ((message : HostRequest) → HasNumbers message → body.now ≡ request_body message → RespondsWith self.old.trees message answer self.new.trees
+            × (IsKeptAtOnce message → IsGranted answer → self.new.pending ≡ [])
+            × (IsGranted answer → self.new.file.has_stopped ≡ false)
+            × (answer ≡ HostAnswer.Refused 8 → ReportsWhy F.model self.old self.new message)
+            × (F.model.is_honest self.new.file.files → IsSound F.model self.old → Serves F.model message answer self.old self.new))
+            × ((request : RecordsRequest) → HasRecordsNumbers request → body.now ≡ records_body request → AnswersRecords F.model request answer self.old self.new)) }
+        // A body that is neither is refused, and so is one whose length isn't that of the request that it names.
+        ensures op { names_request body.now ≡ false → (¬ names_records body.now) → IfOk result (λ v. v.items ≡ answer_body (HostAnswer.Refused 7)) }
+        ensures misfit { IsMisfit body.now → IfOk result (λ v. v.items ≡ answer_body (HostAnswer.Refused 4)) }
+        ensures records_misfit { IsRecordsMisfit body.now → IfOk result (λ v. v.items ≡ answer_body (HostAnswer.Refused 4)) × (self.new ≡ self.old) }
+        ensures runs { Runs F.model self.old.file self.new.file }
+        // The answer fits in a frame.
+        ensures fits { IfOk result (λ v. IsBody v.items) }
+        ensures err { OnErr result (self.new ≡ self.old) }
+    {
+        match RecordsRequest::decode(body) {
+            Ok(request) => self.answer_records(alloc, request),
+            Err(WireFault::Op) => self.answer_message(alloc, body),
+            Err(_) => refusal(alloc, HostRefusal::BadLength),
+        }
+    }
+}
+
+/// Returns the bytes of a refusal.
+fn refusal(alloc: Global, why: HostRefusal) -> Result<Vec<u8>, AllocError>
+    ensures { IfOk result (λ v. v.items ≡ answer_body (HostAnswer.Refused (code_of why))) }
+{
+    let mut answer = Vec::with_capacity(alloc, 2)?;
+    answer.extend_from_slice(&[REFUSED, why.code()])?;
+    Ok(answer)
 }

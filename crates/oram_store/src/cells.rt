@@ -1,5 +1,5 @@
 //! Reads and writes the cells of trees, by node.
-ghost use Rattle.std.specs.Prelude.{◌≡◌, ◌+◌, ◌*◌, ◌^◌, ◌<◌, ◌≤◌, ◌↔◌, ℕ, Some, None, true, false, IsTrue, length, IfOk, IfSome, MatchOption, OnOk};
+ghost use Rattle.std.specs.Prelude.{◌≡◌, ◌+◌, ◌*◌, ◌^◌, ◌<◌, ◌↔◌, ℕ, Some, None, true, false, IsTrue, length, IfOk, IfSome, MatchOption, OnOk};
 ghost use Rattle.oram_host.specs.Path.{FitsAnswer, IsBehind};
 ghost use Rattle.oram_layout.specs.Limits.{nodes_of};
 ghost use Rattle.oram_layout.specs.Records.{IsPathOf, LacksOn, record_in};
@@ -35,16 +35,19 @@ pub(crate) fn has_record<F: FilePair>(
     Ok(first[0] == THERE)
 }
 
-/// Reads the record of a node, and appends it to `bytes`. Returns `false` if the node has none, and then `bytes` is as
-/// it was.
+/// Reads the record of a node, and appends it to `bytes`, which isn't empty. Returns whether the node has one; if not, the bytes that
+/// were appended have no meaning.
+///
+/// The cell is read at once. Its mark, which comes first, is read to the place of the last byte of `bytes`, which is put back then: so
+/// the record needn't be moved.
 fn read_record<F: FilePair>(
-    alloc: Global,
     file: &mut RecordFile<F>,
     tree: &Tree,
     node: u32,
     bytes: &mut Vec<u8>,
 ) -> Result<bool, StoreFault>
-    requires { node < nodes_of (sizes_of tree.now.shape) }
+    requires node { node < nodes_of (sizes_of tree.now.shape) }
+    requires begun { 0 < length bytes.old.items }
     ensures found { IfOk result (λ found. found ≡ true
         → RecordOnto (F.model.is_honest file.new.files) tree.now node (F.model.seen file.old.files Records) bytes.old.items bytes.new.items) }
     ensures missing { IfOk result (λ found. found ≡ false → F.model.is_honest file.new.files → record_in (Some tree.now) node (F.model.seen file.old.files Records) ≡ None) }
@@ -52,12 +55,14 @@ fn read_record<F: FilePair>(
     ensures calls { Calls F.model result file.old file.new }
     ensures running { OnOk result (file.new.has_stopped ≡ false) }
 {
-    if !has_record(alloc, file, tree, node)? {
-        return Ok(false);
-    }
+    let start = bytes.len() - 1;
+    let last = bytes[start];
+    bytes.truncate(start);
     let len = tree.shape.record_len as usize;
-    file.read_onto(tree.cell_at(node) + 1, len, bytes)?;
-    Ok(true)
+    file.read_onto(tree.cell_at(node), len + 1, bytes)?;
+    let mark = bytes[start];
+    bytes[start] = last;
+    Ok(mark == THERE)
 }
 
 /// Returns `front` and then the records of a path, root first, or `None` if one of them is missing.
@@ -69,7 +74,7 @@ pub(crate) fn read_path<F: FilePair>(
     front: &[u8],
 ) -> Result<Option<Vec<u8>>, StoreFault>
     requires leaf { leaf < 2 ^ tree.now.shape.depth }
-    requires short { length front.now ≤ 1 }
+    requires one { length front.now ≡ 1 }
     ensures fits { IfOk result (λ found. IfSome found (λ v. IsBehind front.now FitsAnswer v.items)) }
     ensures path { let records = records_of_tree tree.now (F.model.seen file.old.files Records) in
         IfOk result (λ found. F.model.is_honest file.new.files → MatchOption found
@@ -83,7 +88,7 @@ pub(crate) fn read_path<F: FilePair>(
     bytes.extend_from_slice(front)?;
     for level in 0..tree.shape.depth + 1 {
         let node = tree.shape.node_at(leaf, level);
-        if !read_record(alloc, file, tree, node, &mut bytes)? {
+        if !read_record(file, tree, node, &mut bytes)? {
             return Ok(None);
         }
     }

@@ -1,7 +1,8 @@
 //! A store in a file of the system, with its log beside it.
 //!
 //! This looks at what is at a path before it writes anything there.
-ghost use Rattle.std.specs.Prelude.{◌≡◌, ◌⊎◌, ◌≤◌, ◌↔◌, [], false, length, take, Err, None, Ok, IfErr, IfOk, IsOk};
+ghost use Rattle.std.specs.Path.{path_parent};
+ghost use Rattle.std.specs.Prelude.{◌≡◌, ◌≢◌, ◌⊎◌, ◌≤◌, ◌↔◌, ◌++◌, ◌∷◌, [], ℕ, List, true, false, length, take, codes, string_bytes, Err, None, Ok, Some, IfErr, IfOk, IsOk, IsTrue};
 ghost use Rattle.oram_layout.specs.Fronts.{IsFront, IsNewer, IsOlder, log_letters, sqlite_letters};
 ghost use Rattle.oram_layout.specs.Header.{letters};
 ghost use Rattle.oram_layout.specs.declared.fronts.Identity.{Identity};
@@ -78,14 +79,22 @@ fn is_there(rt: &HostRuntime, path: &str) -> io::Result<bool> {
 }
 
 /// Returns the name of a file's log.
-fn log_name(alloc: Global, path: &str) -> Result<String, AllocError> {
-    format!(in alloc; "{path}-log")
+fn log_name(alloc: Global, path: &str) -> Result<String, AllocError>
+    ensures { IfOk result (λ name. string_bytes name ≡ path.now ++ codes "-log") }
+{
+    let mut name = String::from_str(alloc, path)?;
+    name.push_str("-log")?;
+    Ok(name)
 }
 
 /// Returns the name under which a file is made. What has this name already is written over, so it is a name that nobody gives to
 /// a file of their own.
-fn new_name(alloc: Global, path: &str) -> Result<String, AllocError> {
-    format!(in alloc; "{path}.unfinished")
+fn new_name(alloc: Global, path: &str) -> Result<String, AllocError>
+    ensures { IfOk result (λ name. string_bytes name ≡ path.now ++ codes ".unfinished") }
+{
+    let mut name = String::from_str(alloc, path)?;
+    name.push_str(".unfinished")?;
+    Ok(name)
 }
 
 /// Opens a regular file for reading and writing. Fails with `not_plain` if the path leads to nothing or to anything
@@ -147,13 +156,22 @@ fn newest_of(
     newest_in(kind, identity, &front[..len]).ok_or(spoilt)
 }
 
-/// Returns whether a log has entries. Fails with `LogDamaged` if its first gate is neither open nor shut.
+/// Returns whether a log has entries.
 fn has_entries(log: &File) -> Result<bool, StoreFault> {
     let mut gate = [0];
     let len = bytes_at(log, BOUNDS.log_start, &mut gate)?;
+    is_open(&gate[..len])
+}
+
+/// Returns whether the first gate of a log is open, so that the log has entries. Fails with `LogDamaged` if it is neither open nor shut.
+fn is_open(gate: &[u8]) -> Result<bool, StoreFault>
+    ensures open { (result ≡ Ok true) ↔ (gate.now ≡ OPEN ∷ []) }
+    ensures shut { (result ≡ Ok false) ↔ (gate.now ≡ SHUT ∷ []) }
+    ensures errors { IfErr result (λ fault. fault ≡ StoreFault.LogDamaged) }
+{
     match gate {
-        [OPEN] if len == 1 => Ok(true),
-        [SHUT] if len == 1 => Ok(false),
+        [OPEN] => Ok(true),
+        [SHUT] => Ok(false),
         _ => Err(StoreFault::LogDamaged),
     }
 }
@@ -278,11 +296,18 @@ fn open_new(rt: &HostRuntime, name: &str) -> io::Result<File> {
     options.open(rt, name)
 }
 
-/// Returns whether a log may hold acknowledged changes, which it doesn't if its first gate is shut.
+/// Returns whether a log may hold acknowledged changes.
 fn holds_entries(log: &File) -> io::Result<bool> {
     let mut gate = [0];
     let len = bytes_at(log, BOUNDS.log_start, &mut gate)?;
-    Ok(len > 0 && gate[0] != SHUT)
+    Ok(may_be_open(&gate[..len]))
+}
+
+/// Returns whether the first gate of a log is there and isn't shut. A damaged gate may have been an open one.
+fn may_be_open(gate: &[u8]) -> bool
+    ensures { IsTrue result ↔ ((gate.now ≢ []) × (gate.now ≢ SHUT ∷ [])) }
+{
+    !matches!(gate, [] | [SHUT])
 }
 
 /// Refuses a log where a new one would be, unless an attempt to make a store has left it.
@@ -303,8 +328,11 @@ fn new_identity(rt: &HostRuntime) -> io::Result<Identity> {
     Ok(Identity(identity))
 }
 
-/// Returns the folder of a file.
-fn folder_of(path: &str) -> &str {
+/// Returns the folder of a file, which is the working directory if its path names none.
+fn folder_of(path: &str) -> &str
+    ensures named { (folder : List ℕ) → path_parent path.now ≡ Some folder → folder ≢ [] → result.now ≡ folder }
+    ensures working { (path_parent path.now ≡ None) ⊎ (path_parent path.now ≡ Some []) → result.now ≡ codes "." }
+{
     match Path::new(path).parent() {
         Some(folder) if folder.as_str() != "" => folder.as_str(),
         _ => ".",

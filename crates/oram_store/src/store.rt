@@ -18,6 +18,8 @@ ghost use Rattle.oram_store.specs.RecordFile.{Calls, Commits, IsReason, Runs, bo
 ghost use Rattle.oram_wire.specs.declared.host_messages.HostAnswer.{HostAnswer};
 ghost use Rattle.oram_wire.specs.declared.host_messages.HostRequest.{HostRequest};
 
+mod records;
+
 use crate::batches::{cells_of, marks_of, path_batch};
 use crate::cells::{THERE, has_record, read_path, write_missing};
 use crate::faults::StoreFault;
@@ -247,7 +249,7 @@ impl<F: FilePair> FileStore<F> {
         front: &[u8],
     ) -> Result<Option<Vec<u8>>, StoreFault>
         requires leaf { leaf < 2 ^ tree.now.shape.depth }
-        requires short { length front.now ≤ 1 }
+        requires one { length front.now ≡ 1 }
         ensures fits { IfOk result (λ found. IfSome found (λ v. IsBehind front.now FitsAnswer v.items)) }
         ensures serves { (number : ℕ) → tree_at self.old.trees number ≡ Some tree.now → F.model.is_honest self.new.file.files → IsSound F.model self.old → MatchResult result
             (λ found. MatchOption found (Serves F.model (HostRequest.Fetch number leaf) (HostAnswer.Refused 6) self.old self.new)
@@ -269,7 +271,7 @@ impl<F: FilePair> FileStore<F> {
         leaf: u32,
         front: &[u8],
     ) -> Result<Vec<u8>, HostRefusal>
-        requires { length front.now ≤ 1 }
+        requires { length front.now ≡ 1 }
         ensures ok { IfOk result (λ v. IsBehind front.now FitsAnswer v.items) }
         ensures allowed { OnOk result (refusal_by self.old.trees (HostRequest.Fetch number leaf) ≡ None) }
         ensures refused { IfErr result (IsRefused self.old.trees (HostRequest.Fetch number leaf)) }

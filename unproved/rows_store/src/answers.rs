@@ -52,7 +52,7 @@ pub fn ask(
 
 /// Writes the bytes of an answer on their own page. Here a host has no room only if memory ran out, so this fails
 /// then.
-fn spelled(alloc: Global, answer: &[u8]) -> Result<Page, RowFault> {
+pub fn spelled(alloc: Global, answer: &[u8]) -> Result<Page, RowFault> {
     if lacks_room(answer) {
         return Err(RowFault::OutOfMemory);
     }

@@ -1,6 +1,6 @@
 //! A store over two files in memory, compared with the bucket server in memory.
 
-use crate::answers::{ask, ask_bytes, write_answer};
+use crate::answers::{ask, ask_bytes, spelled, write_answer};
 use crate::files::{IDENTITY, created};
 use oram_host::Server;
 use oram_layout::Generation;
@@ -52,8 +52,9 @@ fn write_failure(store: &FileStore<MemoryPair>, page: &mut Page) {
     }
 }
 
-/// `store alone BODY`: asks the store alone, and writes its answer. `store full BODY`: writes that the store has no room for a
-/// body, and why. `store put BODY`: writes whether the store takes a body of a formatting.
+/// `store alone BODY`: asks the store alone, and writes its answer. `store answer BODY`: writes the bytes of its answer. `store full
+/// BODY`: writes that the store has no room for a body, and why. `store put BODY`: writes whether the store takes a body of a
+/// formatting.
 fn tell(
     alloc: Global,
     store: &mut FileStore<MemoryPair>,
@@ -64,6 +65,7 @@ fn tell(
     let body = words.bytes(alloc);
     match name {
         "alone" => write_answer(page, &store.handle(&body))?,
+        "answer" => page.page(&spelled(alloc, &store.answer(alloc, &body)?)?),
         "full" => {
             show_answer(&store.handle(&body), page);
             write_failure(store, page);
@@ -86,7 +88,7 @@ fn answer_of(
     page: &mut Page,
 ) -> Result<(), RowFault> {
     match name {
-        "alone" | "full" | "put" => tell(alloc, store, name, words, page),
+        "alone" | "answer" | "full" | "put" => tell(alloc, store, name, words, page),
         "commit" => write_end(page, store.commit_puts()),
         "failure" => {
             write_failure(store, page);

@@ -1,6 +1,7 @@
 use Rattle.std.proofs.Common.{◌≡◌, ℕ, ◌+◌, List, ap, sym, ◌∙◌}
 use Rattle.oram_wire.specs.HostMessages.{answer_body}
 use Rattle.oram_wire.specs.declared.host_messages.HostAnswer.{HostAnswer}
+use Rattle.oram_disk_host.specs.Hosts.{HostedValue, is_lost}
 use Rattle.oram_disk_host.specs.Tallies.{capped, frame_len}
 use Rattle.oram_disk_host.proofs.Served.{served_by}
 use Rattle.oram_disk_host.proofs.tallied_store.TalliedStoreBucketServer.respond.Goals as goal
@@ -23,8 +24,11 @@ returns-clause-ok g c =
         served = λ message numbers is honest sound. (call.ok.3 message numbers is).4 honest sound;
         sure = λ message numbers is at_once granted. (call.ok.3 message numbers is).1 at_once granted;
         goes_on = λ message numbers is granted. (call.ok.3 message numbers is).2 granted;
-        op = λ h. sym bytes ∙ call.op h;
+        records = call.ok.4;
+        op = λ h other. sym bytes ∙ call.op h other;
         misfit = λ h. sym bytes ∙ call.misfit h;
+        records_misfit = λ h. let refused = call.records_misfit h in (sym bytes ∙ refused.0, refused.1);
+        is_open = ap (λ (v : HostedValue g.row.F.Denot). is_lost v.tally.failure) c.self.view_is ∙ sym c.has_failed.ensures ∙ c.if-has_failed.false;
         full = λ is. c.failure-failure.ensures.full (answered ∙ is);
         spare = λ isnt. c.failure-failure.ensures.spare (λ same. isnt (sym answered ∙ same));
       }),

@@ -1,75 +1,43 @@
-use Rattle.std.proofs.Common.{◌≡◌, ◌≤◌, ◌∷◌, [], Err, ap, refl, rules, arith, subst}
-use Rattle.oram_wire.specs.declared.host_messages.HostAnswer.{HostAnswer}
-use Rattle.oram_wire.specs.declared.host_messages.HostAnswer.TheVariants.{Done, Payload, Refused}
-use Rattle.oram_host.specs.Refusals.{code_of}
-use Rattle.oram_host.specs.declared.refusals.HostRefusal.{HostRefusal}
-use Rattle.oram_host.specs.declared.refusals.HostRefusal.TheVariants as refusal
-use Rattle.oram_store.specs.Crashes.{Serves}
-use Rattle.oram_store.specs.AnswerBytes.{StandsBehind, StandsFor}
-use Rattle.oram_store.specs.declared.answers.Served.{Served}
-use Rattle.oram_store.proofs.Responses.{no_room_is, payload_is, records_behind, responds_done, responds_records}
-use Rattle.oram_store.proofs.store.FileStore.answer.Goals.{in-Ok-Done+in_ok-extend_from_slice-in-Ok-Done, in-Err+in_ok-extend_from_slice-in-Err}
+use Rattle.std.proofs.Common.{◌≡◌, ap, subst, Err, arith, rules, ⊎_elim}
+use Rattle.oram_records.specs.declared.request.RecordsRequest.{RecordsRequest}
+use Rattle.oram_store.specs.RecordsAnswers.{AnswersRecords}
+use Rattle.oram_store.proofs.Responses.{if_ok_leads, not_records, ok_is_no_err, records_named}
+use Rattle.oram_wire.specs.declared.host_messages.HostAnswer.TheVariants.{Refused}
+use Rattle.oram_wire.specs.declared.faults.WireFault.{WireFault}
+use Rattle.oram_wire.specs.declared.faults.WireFault.TheVariants.{Op}
 use Rattle.oram_store.proofs.store.FileStore.answer.Goals as goal
 
--- a refusal has a code
-code_is : (why : HostRefusal) → (1 ≤ code_of why) × (code_of why ≤ 8)
-code_is refusal.NoShape = (omega arith, omega arith)
-code_is refusal.BadLeaf = (omega arith, omega arith)
-code_is refusal.BadNode = (omega arith, omega arith)
-code_is refusal.BadLength = (omega arith, omega arith)
-code_is refusal.ShapeTaken = (omega arith, omega arith)
-code_is refusal.Missing = (omega arith, omega arith)
-code_is refusal.BadOp = (omega arith, omega arith)
-code_is refusal.OutOfMemory = (omega arith, omega arith)
+pub returns-in-Ok-clause-ok : goal.returns-in-Ok-clause-ok
+returns-in-Ok-clause-ok g c =
+    if_ok_leads c.answer_records.result _ _ c.answer_records.ensures.ok (λ v k. (
+      k.0,
+      k.1,
+      k.2,
+      λ message numbers is. absurd (not_records message c.args.body.now is (records_named c.in-Ok.request c.args.body.now c.in-Ok.ensures.found)),
+      λ r numbers is.
+          let said = c.in-Ok.ensures.only r numbers is in
+          let same : c.in-Ok.request ≡ r = cc in
+          subst (λ (x : RecordsRequest). AnswersRecords g.F.FilePair.model x k.0 c.args.self.now c.answer_records.new.self) same k.3,
+    ))
 
-pub returns-in-Ok-Records-clause-ok : goal.returns-in-Ok-Records-clause-ok
-returns-in-Ok-Records-clause-ok g c =
-    let k = c.in-Ok-Records in
-    let came = k.ensures.served in
-    let behind = records_behind (128 ∷ []) came.0 _ (subst (StandsBehind (128 ∷ []) came.0) k.field-0-is came.1) in (
-      Payload behind.0,
-      behind.2.some,
-      behind.1,
-      λ message numbers is. let t = k.ensures.responds message numbers is in (
-        responds_records _ _ (128 ∷ []) message _ behind.0 (subst (StandsBehind (128 ∷ []) message) k.field-0-is t.0) t.1 t.2,
-        λ at_once granted. t.3 at_once,
-        λ granted. k.ensures.running,
-        λ full. cc,
-        λ honest s. let r = k.ensures.serves message numbers is honest s in
-            let same : r.0 ≡ Payload behind.0 = payload_is 128 k.answer behind.0 r.0 (subst (λ (x : Served). StandsFor (128 ∷ []) x r.0) k.field-0-is r.1) behind.1 in
-            subst (λ (a : HostAnswer). Serves g.F.FilePair.model message a c.args.self.now c.serve_body.new.self) same r.2,
-      ),
-    )
+pub returns-in-Err-Op-clause-ok : goal.returns-in-Err-Op-clause-ok
+returns-in-Err-Op-clause-ok g c =
+    if_ok_leads c.answer_message.result _ _ c.answer_message.ensures.ok (λ v k. (
+      k.0,
+      k.1,
+      k.2,
+      k.3,
+      λ r numbers is. absurd (c.in-Err-Op.ensures.op.0 (ap (λ (fault : WireFault). Err fault) c.in-Err-Op.field-0-is) (records_named r c.args.body.now is)),
+    ))
 
-pub returns-clause-ok : goal.returns-clause-ok
-returns-clause-ok g c =
-    elim c.match-serve_body.branch [
-      | in-Ok-Done+in_ok-extend_from_slice-in-Ok-Done w ↦ (
-        Done,
-        tt,
-        search rules,
-        λ message numbers is. let t = w.in-Ok-Done.ensures.responds message numbers is in (
-          responds_done _ _ (128 ∷ []) message (subst (StandsBehind (128 ∷ []) message) w.in-Ok-Done.field-0-is t.0) t.1 t.2,
-          λ at_once granted. t.3 at_once,
-          λ granted. w.in-Ok-Done.ensures.running,
-          λ full. cc,
-          λ honest s. let r = w.in-Ok-Done.ensures.serves message numbers is honest s in
-              let same : r.0 ≡ Done = subst (λ (x : Served). StandsFor (128 ∷ []) x r.0) w.in-Ok-Done.field-0-is r.1 in
-              subst (λ (a : HostAnswer). Serves g.F.FilePair.model message a c.args.self.now c.serve_body.new.self) same r.2,
-        ),
-      )
-      | in-Err+in_ok-extend_from_slice-in-Err w ↦ (
-        Refused (code_of w.in-Err.why),
-        code_is w.in-Err.why,
-        search rules,
-        λ message numbers is.
-            let t = w.in-Err.ensures.responds message numbers is in (
-              (w.in-Err.why, refl, t.0, t.1),
-              λ at_once granted. absurd granted,
-              λ granted. absurd granted,
-              λ full. let eight : code_of w.in-Err.why ≡ 8 = cc in
-                  w.in-Err.ensures.failure message numbers is (ap (λ (why : HostRefusal). Err why) (no_room_is w.in-Err.why eight)),
-              λ honest s. w.in-Err.ensures.serves message numbers is honest s,
-            ),
-      )
-    ]
+pub returns-in-Err-clause-ok : goal.returns-in-Err-clause-ok
+returns-in-Err-clause-ok g c =
+    let other : c.in-Err.field-0 ≡ Op → ⊥ = search rules in
+    let misfit = c.in-Err.ensures.length.0 (ap (λ (fault : WireFault). Err fault) (⊎_elim (λ op. absurd (other op)) (λ long. long) c.in-Err.ensures.faults)) in
+    if_ok_leads c.refusal.result _ _ c.refusal.ensures (λ v is. (
+      Refused 4,
+      (omega arith, omega arith),
+      is,
+      λ message numbers same. absurd (not_records message c.args.body.now same (misfit.0, misfit.1)),
+      λ r numbers same. absurd (ok_is_no_err r c.in-Err.field-0 (c.in-Err.ensures.only r numbers same)),
+    ))
