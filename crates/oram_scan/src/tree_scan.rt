@@ -132,7 +132,8 @@ impl TreeScan {
     {
         let is_leaf = self.node >= (1 << self.depth) - 1;
         if !is_leaf {
-            self.expected.reserve(2)?;
+            // One digest goes before two come.
+            self.expected.reserve(1)?;
         }
         let _judged = self.expected.pop_front();
         self.node += 1;

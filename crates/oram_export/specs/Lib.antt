@@ -1,0 +1,9 @@
+pub mod Faults
+pub mod Findings
+pub mod Requests
+pub mod Stages
+pub mod Reading
+pub mod Images
+pub mod Export
+pub mod Laws
+pub mod Examples
