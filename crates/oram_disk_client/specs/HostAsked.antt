@@ -1,5 +1,5 @@
 -- A link that asks its host whether it keeps the disk.
-use Rattle.std.specs.Prelude.{◌≡◌, Bool, List, [], ◌∷◌, IsErrAnd, IsOk, MatchBool, MatchResult, Option, Some, Result}
+use Rattle.std.specs.Prelude.{◌≡◌, List, [], ◌∷◌, IsErrAnd, IsOk, MatchBool, MatchResult, Some, Result}
 use Rattle.oram_client.specs.Dialer.{lacks_memory}
 use Rattle.oram_client.specs.Reconnect.{DialerKind, IsReached, ReconnectBatch, ReconnectState}
 use Rattle.oram_client.specs.declared.dialer.Trouble.{Trouble}

@@ -3,3 +3,4 @@ pub mod HostAsked
 pub mod HostFaults
 pub mod Sealers
 pub mod Serving
+pub mod Reading

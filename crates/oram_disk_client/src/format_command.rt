@@ -5,92 +5,32 @@ ghost use Rattle.oram_client.specs.FilePlace.{FilePlaceState, NotesFound};
 
 use crate::disk_files::{disk_in, keys_in, named, sealer_of, take_lock, unkept};
 use crate::failures::forget_failure;
+use crate::progress_printer::ProgressPrinter;
 use crate::serving::{DiskSealer, keeper_for, sealer_in};
 use oram_bucket::Sealer;
 use oram_cli::{HostFault, SocketFault, buffered, limit_silence};
 use oram_client::{
-    Ahead, DiskKey, FileKeeper, FilePlace, FormattingFault, Head, Keys, Progress, Salt,
-    format_ahead,
+    Ahead, DiskKey, FileKeeper, FilePlace, FormattingFault, Head, Keys, Salt, format_ahead,
 };
 use oram_core::Core;
 use oram_disk_host::{Fault, FaultKind};
 use oram_geometry::Device;
 use oram_rounds::{Keeper, encode_kept};
-use oram_settings::{
-    DiskSettings, Meter, SECTOR, begun_text, percent, progress_text, sectors_complaint,
-    stored_bytes,
-};
+use oram_settings::{DiskSettings, LongWork, SECTOR, begun_text, sectors_complaint, stored_bytes};
 use oram_sockets::{Connection, connect_to};
 use oram_stamps::{Known, encode_note};
-use std::alloc::{AllocError, Global};
+use std::alloc::Global;
 use std::io;
-use std::io::{BufReader, BufWriter, IsTerminal};
+use std::io::{BufReader, BufWriter};
 use std::net::Net;
 use std::random::RandomSource;
 use std::rt::{Clock, Files};
-use std::time::{Duration, Instant};
+use std::time::Duration;
 
-/// Prints on standard error how far a formatting has come: on a terminal in one line that it overwrites, else in a new line for
-/// each tenth.
-#[derive(Drop)]
-struct ProgressPrinter<'a, R> {
-    rt: &'a R,
-    /// When the formatting began, unless the clock couldn't be read then.
-    begun: Option<Instant>,
-    on_terminal: bool,
-    meter: Meter,
-}
-
-impl<'a, R: Clock> ProgressPrinter<'a, R> {
-    fn new(rt: &'a R, on_terminal: bool) -> ProgressPrinter<'a, R> {
-        ProgressPrinter {
-            rt,
-            begun: Instant::now(rt).ok(),
-            on_terminal,
-            meter: Meter::new(if on_terminal { 1 } else { 10 }),
-        }
-    }
-
-    /// Returns for how many milliseconds the formatting has gone on. If the clock can't be read, it returns 0, for which
-    /// [`progress_text`] estimates no time.
-    fn milliseconds(&self) -> u64 {
-        let passed = self
-            .begun
-            .and_then(|begun| begun.elapsed(self.rt).ok())
-            .unwrap_or(Duration::ZERO);
-        u64::try_from(passed.as_millis()).unwrap_or(u64::MAX)
-    }
-}
-
-impl<'a, R: Clock + Eprint + AllocGlobal> ProgressPrinter<'a, R> {
-    /// Prints how many bytes will go to the host at this address.
-    fn begin(&self, stored: u64, host: &str) -> io::Result<()> {
-        let text = begun_text(self.rt.alloc(), stored, host)?;
-        self.rt.eprint(text.as_str())
-    }
-
-    fn print(&self, messages: u64, of: u64) -> io::Result<()> {
-        let alloc = self.rt.alloc();
-        let text = progress_text(alloc, messages, of, self.milliseconds())?;
-        let text = text.as_str();
-        let line = if !self.on_terminal {
-            format!(in alloc; "oramdisk: {text}\n")?
-        } else if messages < of {
-            // The next line, even that of a fault, is written over this one.
-            format!(in alloc; "{text}\x1b[K\r")?
-        } else {
-            format!(in alloc; "{text}\x1b[K\n")?
-        };
-        self.rt.eprint(line.as_str())
-    }
-}
-
-impl<'a, R: Clock + Eprint + AllocGlobal> Progress for ProgressPrinter<'a, R> {
-    fn answered(&mut self, messages: u64, of: u64) {
-        if self.meter.is_due(percent(messages, of)) {
-            let _passed_over = self.print(messages, of);
-        }
-    }
+/// Prints how many bytes will go to the host at this address.
+fn print_beginning<R: Eprint + AllocGlobal>(rt: &R, stored: u64, host: &str) -> io::Result<()> {
+    let text = begun_text(rt.alloc(), stored, host)?;
+    rt.eprint(text.as_str())
 }
 
 /// Returns the program's fault for a formatting's fault, with the host's address.
@@ -143,9 +83,9 @@ fn formatted<S: Sealer>(
         Ok(buffers) => buffers,
         Err(fault) => return Err(unreached(fault, host)),
     };
-    let printer = ProgressPrinter::new(rt, rt.stderr().is_terminal());
+    let printer = ProgressPrinter::new(rt, LongWork::Formatting);
     let stored = stored_bytes(&device, settings.sealer);
-    let _passed_over = printer.begin(stored, host.as_str());
+    let _passed_over = print_beginning(rt, stored, host.as_str());
     let mut ahead = Ahead::new(alloc, &device, reader, writer, printer);
     match format_ahead(
         alloc,

@@ -37,7 +37,7 @@ fn host_check(
 }
 
 /// Asks the host whether it keeps this disk, and compares its stamps with what is known of them.
-fn ask_host<D: Dial, W: HostWatch>(
+pub(crate) fn ask_host<D: Dial, W: HostWatch>(
     alloc: Global,
     link: &mut ReconnectLink<D, W>,
     settings: &DiskSettings,

@@ -1,7 +1,7 @@
-//! The client's side of a disk's program, except for serving the disk: it makes a new disk, formats it, reports its status, and
-//! lets a failed one be tried again.
+//! The client's side of a disk's program, except for serving the disk: it makes a new disk, formats it, reports its status, reads
+//! all of it, and lets a failed one be tried again.
 //!
-//! [`make_folder`], [`format_disk`], [`print_status`] and [`retry`] are the commands. The functions beside them read the files
+//! [`make_folder`], [`format_disk`], [`print_status`], [`check_host`], [`export_image`] and [`retry`] are the commands. The functions beside them read the files
 //! of a disk, for these commands and for the one that serves: [`disk_in`] its settings, [`state_bytes`], [`kept_in`] and
 //! [`process_for`] its state, and [`kept_failure`] why it failed. [`host_fault`] says why a program ends whose
 //! link to its host has given up.
@@ -9,10 +9,16 @@
 
 mod disk_files;
 mod failures;
+mod findings_text;
 mod format_command;
 mod host_asked;
 mod host_faults;
+mod host_link;
+mod image_file;
 mod new_disk;
+mod progress_printer;
+mod read_command;
+mod reading_ends;
 mod serving;
 mod status_command;
 
@@ -23,7 +29,9 @@ pub use failures::{keep_failure, kept_failure};
 pub use format_command::format_disk;
 pub use host_asked::{ReachedCore, reached};
 pub use host_faults::{host_fault, host_fault_kind};
+pub use host_link::{HostLink, HostStatusPrinter, link_to};
 pub use new_disk::make_folder;
+pub use read_command::{check_host, export_image};
 pub use serving::{
     DiskSealer, LockedDisk, Stop, UnfailedDisk, keeper_for, sealer_in, stop_fault, tape_for,
 };

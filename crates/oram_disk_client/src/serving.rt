@@ -133,6 +133,13 @@ impl LockedDisk {
         Ok(LockedDisk { settings, lock })
     }
 
+    /// Returns the settings of the disk.
+    pub(crate) fn settings(&self) -> &DiskSettings
+        ensures { result.now ≡ self.now }
+    {
+        &self.settings
+    }
+
     /// Looks whether a failure of the disk is kept. Fails with [`FaultKind::Failed`] if one is, and with the system's reason if that
     /// can't be found out.
     pub fn unfailed<N: NamedFiles>(self, alloc: Global, files: &N) -> Result<UnfailedDisk, Fault>
@@ -146,8 +153,9 @@ impl LockedDisk {
     }
 }
 
-/// A disk whose lock this process holds, and which has no failure that is kept. Only this type reads the state, so nobody reads it before
-/// both are known: otherwise another process could still advance the state, and this one would go on from an older one.
+/// A disk whose lock this process holds, and which has no failure that is kept. Nobody goes on from the state that isn't read by this
+/// type, so nobody does before both are known: otherwise another process could still advance the state, and this one would go on from
+/// an older one.
 #[derive(Drop)]
 pub struct UnfailedDisk {
     disk: LockedDisk,

@@ -88,10 +88,12 @@ module _ (a : App) (same : a ≡ program) (words : List Text) where
         sym (ap (λ (b : App). unless_faulty (fault_of b words) (option_and_then request_by (subcommand_of b words))) same)
         ∙ ap₂ (λ kinds t. unless_faulty kinds (option_and_then request_by t)) (sound free) entered
 
-    pub request_is : (name : Text) (rows : List Row) (word size : Option Text) (is_new is_json : Bool) → Some name ≡ subcommand_name_of m
-        → Some rows ≡ option_map (λ (p : Text × List Row). p.1) (subcommand_rows_of m) → word ≡ first_of (codes "word") rows → is_new ≡ is_given (first_of (codes "new") rows) → is_json ≡ is_given (first_of (codes "json") rows) → size ≡ first_of (codes "size") rows
-        → request_in words ≡ option_and_then (λ (w : Text). request_of name w is_new is_json size) word
-    request_is name rows word size is_new is_json named found read said asked sized =
+    pub request_is : (name : Text) (rows : List Row) (word size image : Option Text) (is_new is_json is_salvage : Bool) → Some name ≡ subcommand_name_of m
+        → Some rows ≡ option_map (λ (p : Text × List Row). p.1) (subcommand_rows_of m) → word ≡ first_of (codes "word") rows → is_new ≡ is_given (first_of (codes "new") rows) → is_json ≡ is_given (first_of (codes "json") rows)
+        → is_salvage ≡ is_given (first_of (codes "salvage") rows) → size ≡ first_of (codes "size") rows → image ≡ first_of (codes "image") rows
+        → request_in words ≡ option_and_then (λ (w : Text). request_of name w is_new is_json is_salvage size image) word
+    request_is name rows word size image is_new is_json is_salvage named found read said asked left sized imaged =
         by_entered (Some (name, rows)) (sym (matches simple).1 ∙ entered_is _ name rows (sym named) (sym found))
-        ∙ ap₂ (λ (n : Bool) (j : Bool). option_and_then (λ (x : Text). request_of name x n j (first_of (codes "size") rows)) (first_of (codes "word") rows)) (sym said) (sym asked)
-        ∙ ap₂ (λ (s : Option Text) (w : Option Text). option_and_then (λ (x : Text). request_of name x is_new is_json s) w) (sym sized) (sym read)
+        ∙ ap₂ (λ (n : Bool) (j : Bool). option_and_then (λ (x : Text). request_of name x n j (is_given (first_of (codes "salvage") rows)) (first_of (codes "size") rows) (first_of (codes "image") rows)) (first_of (codes "word") rows)) (sym said) (sym asked)
+        ∙ ap₂ (λ (v : Bool) (i : Option Text). option_and_then (λ (x : Text). request_of name x is_new is_json v (first_of (codes "size") rows) i) (first_of (codes "word") rows)) (sym left) (sym imaged)
+        ∙ ap₂ (λ (s : Option Text) (w : Option Text). option_and_then (λ (x : Text). request_of name x is_new is_json is_salvage s image) w) (sym sized) (sym read)

@@ -11,6 +11,7 @@ use Rattle.oram_semantics.specs.declared.events.Reason.TheVariants.{Tampered}
 use Rattle.oram_cli.specs.Tables.{HasNumber, HasText}
 use Rattle.oram_settings.specs.Amounts.{size_text}
 use Rattle.oram_settings.specs.Progress.{progress_text}
+use Rattle.oram_settings.specs.declared.progress.LongWork.TheVariants.{Exporting, Formatting}
 use Rattle.oram_settings.specs.Settings.{HasSealing, OrDefault, default_leaf_load, first_text}
 use Rattle.oram_geometry.specs.declared.Sizes.{Sizes}
 use Rattle.oram_geometry.specs.Least.{least_from}
@@ -36,9 +37,13 @@ mebibytes : IsSizeIn (codes "MiB", 2 ^ 20) (codes "512MiB") 536870912
 unfolding digits
 mebibytes = record { number = 512; some = omega arith; written = refl; bytes = refl }
 
-well_begun : progress_text 7000 16383 9000 ≡ codes "formatting: 42 % (7000 of 16383 messages), 12 s left"
+well_begun : progress_text Formatting 7000 16383 9000 ≡ codes "formatting: 42 % (7000 of 16383 messages), 12 s left"
 unfolding digits
 well_begun = refl
+
+just_begun : progress_text Exporting 0 131071 40 ≡ codes "exporting: 0 % (0 of 131071 records)"
+unfolding digits
+just_begun = refl
 
 tampered : failing (Some (Tampered 1 7)) ≡ codes "it has failed: in tree 1 the record at level 7 of a path wasn't the one that was stored last"
 unfolding digits

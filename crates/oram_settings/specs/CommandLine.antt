@@ -12,10 +12,10 @@ use Rattle.clap.specs.declared.error.kind.ErrorKind.TheVariants as kind
 use Rattle.oram_settings.specs.declared.command_line.NoRequest.{NoRequest}
 use Rattle.oram_settings.specs.declared.command_line.NoRequest.TheVariants.{Help, Mistake, OutOfMemory}
 use Rattle.oram_settings.specs.declared.command_line.Subcommand.{Subcommand}
-use Rattle.oram_settings.specs.declared.command_line.Subcommand.TheVariants.{Format, Host, New, Retry, Serve, Status}
+use Rattle.oram_settings.specs.declared.command_line.Subcommand.TheVariants.{Check, Export, Format, Host, New, Retry, Serve, Status}
 
 -- what a command line asks for: a host, with a new file of buckets or not; a folder for a disk of a size; or something
--- for a disk, by the file of its settings
+-- for a disk, by the file of its settings; of these, an export also names an image
 pub data Request : Type 0 where
   host : List ℕ → Bool → Request
   folder : List ℕ → List ℕ → Request
@@ -23,6 +23,8 @@ pub data Request : Type 0 where
   serve : List ℕ → Request
   status : List ℕ → Bool → Request
   retry : List ℕ → Request
+  check : List ℕ → Bool → Request
+  export : List ℕ → List ℕ → Bool → Request
 
 -- a request by value, without the places of texts in memory
 abbrev pub request_for : Subcommand → Request
@@ -32,6 +34,8 @@ request_for (Format name) = format (string_bytes name)
 request_for (Serve name) = serve (string_bytes name)
 request_for (Status name is_json) = status (string_bytes name) is_json
 request_for (Retry name) = retry (string_bytes name)
+request_for (Check name is_salvage) = check (string_bytes name) is_salvage
+request_for (Export name image is_salvage) = export (string_bytes name) (string_bytes image) is_salvage
 
 -- the word that each subcommand takes, which help shows by a name
 abbrev pub word_rule : Rule
@@ -58,6 +62,21 @@ status_printer = record (new_shape (codes "status")) {
   has_version = true;
 }
 
+-- the flag for leaving out what is lost, and the word that names an image
+abbrev pub salvage_rule : Rule
+salvage_rule = record (new_rule (codes "salvage")) { long = Some (codes "salvage"); action = Some SetTrue }
+
+abbrev pub image_rule : Rule
+image_rule = record (new_rule (codes "image")) { value_names = 1; required = true }
+
+-- the subcommand that takes a word, and this flag
+abbrev pub checker : Shape
+checker = record (new_shape (codes "check")) { rules = word_rule ∷ salvage_rule ∷ []; has_version = true }
+
+-- the subcommand that takes two words, and this flag
+abbrev pub exporter : Shape
+exporter = record (new_shape (codes "export")) { rules = word_rule ∷ image_rule ∷ salvage_rule ∷ []; has_version = true }
+
 -- a subcommand that takes a word
 abbrev pub disk_command : Text → Shape
 disk_command name = record (new_shape name) { rules = word_rule ∷ []; has_version = true }
@@ -66,11 +85,11 @@ disk_command name = record (new_shape name) { rules = word_rule ∷ []; has_vers
 abbrev pub bare : App
 bare = on_top (λ s. record s { has_version = true; subcommand_required = true }) (new_app (codes "oramdisk"))
 
--- the command line as clap needs it: one of six subcommands, with its word, or a request for help or the version
+-- the command line as clap needs it: one of eight subcommands, with its words, or a request for help or the version
 abbrev pub program : App
 program = record {
   top = record (new_shape (codes "oramdisk")) { is_leaf = false; has_version = true; subcommand_required = true };
-  subs = folder_maker ∷ host_runner ∷ disk_command (codes "format") ∷ disk_command (codes "serve") ∷ status_printer ∷ disk_command (codes "retry") ∷ [];
+  subs = folder_maker ∷ host_runner ∷ disk_command (codes "format") ∷ disk_command (codes "serve") ∷ status_printer ∷ disk_command (codes "retry") ∷ checker ∷ exporter ∷ [];
 }
 
 -- clap has this text for a flag that is given, and another one for a flag that isn't
@@ -78,20 +97,26 @@ abbrev pub is_given : Option Text → Bool
 is_given (Some text) = bytes_eq text (codes "true")
 is_given None = false
 
--- what a subcommand asks for, by its word, whether the flags for a new file and for JSON were given, and perhaps a size
-abbrev pub request_of : Text → Text → Bool → Bool → Option Text → Option Request
-request_of name word is_new is_json None =
+-- what a subcommand asks for, by its word, whether the flags for a new file, for JSON and for leaving out what is lost were given, and
+-- perhaps a size or an image
+abbrev pub request_of : Text → Text → Bool → Bool → Bool → Option Text → Option Text → Option Request
+request_of name word is_new is_json is_salvage None None =
     if bytes_eq name (codes "host") then Some (host word is_new)
     else if bytes_eq name (codes "format") then Some (format word)
     else if bytes_eq name (codes "serve") then Some (serve word)
     else if bytes_eq name (codes "status") then Some (status word is_json)
     else if bytes_eq name (codes "retry") then Some (retry word)
+    else if bytes_eq name (codes "check") then Some (check word is_salvage)
     else None
-request_of name word is_new is_json (Some size) = if bytes_eq name (codes "new") then Some (folder word size) else None
+request_of name word is_new is_json is_salvage (Some size) None = if bytes_eq name (codes "new") then Some (folder word size) else None
+request_of name word is_new is_json is_salvage None (Some image) = if bytes_eq name (codes "export") then Some (export word image is_salvage) else None
+request_of name word is_new is_json is_salvage (Some size) (Some image) = None
 
 -- what the matches of a subcommand ask for
 abbrev pub request_by : Text × List Row → Option Request
-request_by matches = option_and_then (λ word. request_of matches.0 word (is_given (first_of (codes "new") matches.1)) (is_given (first_of (codes "json") matches.1)) (first_of (codes "size") matches.1)) (first_of (codes "word") matches.1)
+request_by matches =
+    option_and_then (λ word. request_of matches.0 word (is_given (first_of (codes "new") matches.1)) (is_given (first_of (codes "json") matches.1))
+    (is_given (first_of (codes "salvage") matches.1)) (first_of (codes "size") matches.1) (first_of (codes "image") matches.1)) (first_of (codes "word") matches.1)
 
 -- nothing if clap finds a fault
 abbrev pub unless_faulty : Kinds → Option Request → Option Request

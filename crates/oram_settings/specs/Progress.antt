@@ -1,7 +1,20 @@
--- The progress of a formatting.
+-- The progress of what takes long.
 use Rattle.std.specs.Prelude.{ℕ, List, ◌*◌, ◌+◌, ◌/◌, ◌-◌, ◌^◌, [], ◌∷◌, min, max, if◌then◌else◌, nat_le, nat_lt, codes, decimal}
 use Rattle.std.specs.List.{concat}
+use Rattle.oram_settings.specs.declared.progress.LongWork.{LongWork}
+use Rattle.oram_settings.specs.declared.progress.LongWork.TheVariants.{Checking, Exporting, Formatting}
 use Rattle.oram_settings.specs.declared.progress.Meter.{Meter}
+
+-- what the work is called, and what it is counted in
+abbrev pub name : LongWork → List ℕ
+name Formatting = codes "formatting"
+name Checking = codes "checking"
+name Exporting = codes "exporting"
+
+abbrev pub unit : LongWork → List ℕ
+unit Formatting = codes "messages"
+unit Checking = codes "records"
+unit Exporting = codes "records"
 
 -- how much is done, in percent
 abbrev pub percent : ℕ → ℕ → ℕ
@@ -12,18 +25,18 @@ abbrev pub seconds_left : ℕ → ℕ → ℕ → ℕ
 seconds_left done of milliseconds = min (milliseconds * (of - done) / max done 1 / 1000) (2 ^ 64 - 1)
 
 -- the text without the time that is left
-abbrev pub so_far : ℕ → ℕ → List ℕ
-so_far done of = concat (codes "formatting: " ∷ decimal (percent done of) ∷ codes " % (" ∷ decimal done ∷ codes " of " ∷ decimal of ∷ codes " messages)" ∷ [])
+abbrev pub so_far : LongWork → ℕ → ℕ → List ℕ
+so_far work done of = concat (name work ∷ codes ": " ∷ decimal (percent done of) ∷ codes " % (" ∷ decimal done ∷ codes " of " ∷ decimal of ∷ codes " " ∷ unit work ∷ codes ")" ∷ [])
 
 -- the text with the time that is left
-abbrev pub with_time_left : ℕ → ℕ → ℕ → List ℕ
-with_time_left done of milliseconds =
-    concat (codes "formatting: " ∷ decimal (percent done of) ∷ codes " % (" ∷ decimal done ∷ codes " of " ∷ decimal of ∷ codes " messages), "
+abbrev pub with_time_left : LongWork → ℕ → ℕ → ℕ → List ℕ
+with_time_left work done of milliseconds =
+    concat (name work ∷ codes ": " ∷ decimal (percent done of) ∷ codes " % (" ∷ decimal done ∷ codes " of " ∷ decimal of ∷ codes " " ∷ unit work ∷ codes "), "
     ∷ decimal (seconds_left done of milliseconds) ∷ codes " s left" ∷ [])
 
 -- the text, with the time that is left once a second has passed
-abbrev pub progress_text : ℕ → ℕ → ℕ → List ℕ
-progress_text done of milliseconds = if nat_lt milliseconds 1000 then so_far done of else with_time_left done of milliseconds
+abbrev pub progress_text : LongWork → ℕ → ℕ → ℕ → List ℕ
+progress_text work done of milliseconds = if nat_lt milliseconds 1000 then so_far work done of else with_time_left work done of milliseconds
 
 -- when a text is due after one at this percentage: a step later, but not later than at 100 percent
 abbrev pub next_due : ℕ → ℕ → ℕ

@@ -17,17 +17,39 @@ use std::alloc::{AllocError, Global};
 #[derive(Debug, Drop)]
 pub enum Subcommand {
     /// To run a bucket host, with the settings in the file of this name, and with a new file of buckets if `is_new`.
-    Host { settings: String, is_new: bool },
+    Host {
+        settings: String,
+        is_new: bool,
+    },
     /// To make a folder of this name, with first settings for a disk of this size.
-    New { folder: String, size: String },
+    New {
+        folder: String,
+        size: String,
+    },
     /// To format the disk whose settings are in the file of this name.
     Format(String),
     /// To serve the disk whose settings are in the file of this name.
     Serve(String),
     /// To print the status of the disk whose settings are in the file of this name, in JSON if `is_json`.
-    Status { settings: String, is_json: bool },
+    Status {
+        settings: String,
+        is_json: bool,
+    },
     /// To try the disk whose settings are in the file of this name again after it has failed.
     Retry(String),
+    /// To check all records at the host of the disk whose settings are in the file of this name, and to say what could be saved if
+    /// `is_salvage`.
+    Check {
+        settings: String,
+        is_salvage: bool,
+    },
+    /// To write what is in the disk whose settings are in the file of this name to the file `image`, and to leave out what is lost
+    /// if `is_salvage`.
+    Export {
+        settings: String,
+        image: String,
+        is_salvage: bool,
+    },
 }
 
 /// Why the words of a command line don't ask for a subcommand.
@@ -126,6 +148,54 @@ fn status_printer<'a>(alloc: Global) -> Result<Command<'a>, AllocError>
     with_args(status, word(alloc, "SETTINGS", help::DISK_SETTINGS), json)
 }
 
+/// Returns the flag for leaving out what is lost.
+fn salvage_flag<'a>(alloc: Global) -> Arg<'a>
+    ensures rule { rule_of result ≡ spec.salvage_rule }
+    ensures local { result.global ≡ false }
+{
+    Arg::new(alloc, "salvage")
+        .long("salvage")
+        .help(help::SALVAGE)
+        .action(ArgAction::SetTrue)
+}
+
+/// Returns the word that names an image.
+fn image_word<'a>(alloc: Global) -> Arg<'a>
+    ensures rule { rule_of result ≡ spec.image_rule }
+    ensures local { result.global ≡ false }
+{
+    Arg::new(alloc, "image")
+        .value_name("IMAGE")
+        .help(help::IMAGE)
+        .required(true)
+}
+
+/// Returns the subcommand that checks the records of a disk.
+fn checker<'a>(alloc: Global) -> Result<Command<'a>, AllocError>
+    ensures local { IfOk result (λ c. (fields_of c).has_globals ≡ false) }
+    ensures shape { IfOk result (λ c. shape_of c ≡ spec.checker) }
+{
+    let check = Command::new(alloc, "check")
+        .version(help::VERSION)
+        .about(help::CHECK)
+        .after_help(help::CHECK_MORE);
+    let settings = word(alloc, "SETTINGS", help::DISK_SETTINGS);
+    with_args(check, settings, salvage_flag(alloc))
+}
+
+/// Returns the subcommand that writes what is in a disk to an image.
+fn exporter<'a>(alloc: Global) -> Result<Command<'a>, AllocError>
+    ensures local { IfOk result (λ c. (fields_of c).has_globals ≡ false) }
+    ensures shape { IfOk result (λ c. shape_of c ≡ spec.exporter) }
+{
+    let export = Command::new(alloc, "export")
+        .version(help::VERSION)
+        .about(help::EXPORT)
+        .after_help(help::EXPORT_MORE);
+    let settings = word(alloc, "SETTINGS", help::DISK_SETTINGS);
+    with_args(export, settings, image_word(alloc))?.arg(salvage_flag(alloc))
+}
+
 /// Returns a subcommand that takes the name of a disk's settings file.
 fn disk_command<'a>(
     alloc: Global,
@@ -178,7 +248,9 @@ fn command<'a>(alloc: Global) -> Result<Command<'a>, AllocError>
     let made = with_subcommand(made, serve)?;
     let made = with_subcommand(made, status_printer(alloc))?;
     let retry = disk_command(alloc, "retry", help::RETRY, help::RETRY_MORE);
-    with_subcommand(made, retry)
+    let made = with_subcommand(made, retry)?;
+    let made = with_subcommand(made, checker(alloc))?;
+    with_subcommand(made, exporter(alloc))
 }
 
 /// Returns whether a flag was given, by the text that clap has for it.
@@ -191,21 +263,23 @@ fn is_given(flag: Option<&str>) -> bool
     }
 }
 
-/// Returns what a subcommand asks for, by its word, whether the flags for a new file and for JSON were given, and perhaps a
-/// size. Returns `None` if there is no such subcommand.
+/// Returns what a subcommand asks for, by its word, whether the flags for a new file, for JSON and for leaving out what is lost were
+/// given, and perhaps a size or the name of an image. Returns `None` if there is no such subcommand.
 fn subcommand_of(
     alloc: Global,
     name: &str,
     word: &str,
     is_new: bool,
     is_json: bool,
+    is_salvage: bool,
     size: Option<&str>,
+    image: Option<&str>,
 ) -> Result<Option<Subcommand>, AllocError>
-    ensures { IfOk result (λ w. request_of name.now word.now is_new is_json (option_map (λ s. s.now) size.entry) ≡ option_map request_for w) }
+    ensures { IfOk result (λ w. request_of name.now word.now is_new is_json is_salvage (option_map (λ s. s.now) size.entry) (option_map (λ s. s.now) image.entry) ≡ option_map request_for w) }
 {
     let word = String::from_str(alloc, word)?;
-    match size {
-        None => match name {
+    match (size, image) {
+        (None, None) => match name {
             "host" => Ok(Some(Subcommand::Host {
                 settings: word,
                 is_new,
@@ -217,15 +291,28 @@ fn subcommand_of(
                 is_json,
             })),
             "retry" => Ok(Some(Subcommand::Retry(word))),
+            "check" => Ok(Some(Subcommand::Check {
+                settings: word,
+                is_salvage,
+            })),
             _ => Ok(None),
         },
-        Some(size) => match name {
+        (Some(size), None) => match name {
             "new" => Ok(Some(Subcommand::New {
                 folder: word,
                 size: String::from_str(alloc, size)?,
             })),
             _ => Ok(None),
         },
+        (None, Some(image)) => match name {
+            "export" => Ok(Some(Subcommand::Export {
+                settings: word,
+                image: String::from_str(alloc, image)?,
+                is_salvage,
+            })),
+            _ => Ok(None),
+        },
+        _ => Ok(None),
     }
 }
 
@@ -284,7 +371,10 @@ pub fn read_command_line(alloc: Global, words: &[&str]) -> Result<Subcommand, No
     };
     let is_new = is_given(inner.get_str("new"));
     let is_json = is_given(inner.get_str("json"));
-    match subcommand_of(alloc, name, word, is_new, is_json, inner.get_str("size"))? {
+    let is_salvage = is_given(inner.get_str("salvage"));
+    let size = inner.get_str("size");
+    let image = inner.get_str("image");
+    match subcommand_of(alloc, name, word, is_new, is_json, is_salvage, size, image)? {
         Some(words) => Ok(words),
         None => Err(no_request(alloc)),
     }

@@ -92,6 +92,31 @@ is described in the disk.toml that 'oramdisk new' writes.
 Example:
   oramdisk retry mydisk/disk.toml";
 
+pub(crate) const CHECK: &str =
+    "Reads all records of the disk at its host, and says whether each is the one that was stored";
+
+pub(crate) const CHECK_MORE: &str =
+    "Nobody else may use the disk meanwhile, so end 'oramdisk serve' first. It changes nothing. It ends with 0 if everything is there,
+and with 31 if something is changed or missing; then it says which trees and levels that is in. A disk that has failed can be
+checked too. With --salvage it also says how much of the disk 'oramdisk export --salvage' would write.
+
+Example:
+  oramdisk check mydisk/disk.toml";
+
+pub(crate) const EXPORT: &str = "Writes all that is in the disk to an image, as a backup";
+
+pub(crate) const EXPORT_MORE: &str =
+    "Nobody else may use the disk meanwhile, so end 'oramdisk serve' first. It changes nothing. The image has the bytes of the whole
+disk, and takes no room for zeros. It isn't encrypted: keep it where only you can read it. IMAGE is a new file, or '-' for
+standard output. A record that isn't what was stored ends it with 31, and leaves no image; with --salvage the image has zeros in
+place of what is lost. A disk that has failed can be exported too.
+
+Examples:
+  oramdisk export mydisk/disk.toml backup.img
+  oramdisk export mydisk/disk.toml - | zstd -o backup.img.zst
+To have it as a disk again: make a new one that is as large, serve it, and then
+  nbdcopy --destination-is-zero backup.img 'nbd+unix:///?socket=newdisk/disk.sock'";
+
 /// The descriptions of the words that subcommands take.
 pub(crate) const DISK_SETTINGS: &str = "The disk's settings file, such as mydisk/disk.toml";
 
@@ -100,6 +125,10 @@ pub(crate) const HOST_SETTINGS: &str = "The host's settings file, such as host.t
 pub(crate) const NEW_FILE: &str = "Makes the file of buckets, and refuses if it is there";
 
 pub(crate) const JSON: &str = "Prints one line of JSON";
+
+pub(crate) const IMAGE: &str = "The image, which is a new file, or '-' for standard output";
+
+pub(crate) const SALVAGE: &str = "Goes on with the rest if something is lost at the host";
 
 pub(crate) const FOLDER: &str = "The folder to make";
 

@@ -4,8 +4,8 @@
 //! wrong with one, [`numbers_complaint`] with its numbers, and [`read_size`] reads a size as people write it; [`size_mistake`]
 //! says why a new disk can't have a size.
 //! [`first_difference`] finds a setting that differs from those that the disk was formatted with. [`status_of`],
-//! [`report`] and [`report_json`] are for the status of a disk, [`progress_text`] and [`Meter`] for the progress of a formatting, and [`stored_bytes`] for the
-//! room that a disk takes at its host. [`made_text`] and the functions beside it return what the program says when all goes
+//! [`report`] and [`report_json`] are for the status of a disk, [`progress_text`] and [`Meter`] for the progress of what takes long, and
+//! [`stored_bytes`] for the room that a disk takes at its host. [`made_text`] and the functions beside it return what the program says when all goes
 //! well. [`read_command_line`] reads the command line, and answers a request for help.
 #![tactic(auto)]
 
@@ -37,6 +37,6 @@ pub use disk_file::{
 pub use footprint::stored_bytes;
 pub use names::{place_beside, relative_to};
 pub use new_size::size_mistake;
-pub use progress::{Meter, percent, progress_text};
+pub use progress::{LongWork, Meter, percent, progress_text};
 pub use sizes::read_size;
 pub use status::{Status, failure_text, report, report_json, status_of};

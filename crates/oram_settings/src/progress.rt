@@ -1,9 +1,42 @@
-//! The progress of a formatting.
+//! The progress of what takes long.
 
 ghost use Rattle.std.specs.Prelude.{◌≡◌, ◌≤◌, ◌↔◌, IsTrue, IfOk, string_bytes};
 ghost use Rattle.oram_settings.specs.Progress as spec;
 
 use std::alloc::{AllocError, Global};
+
+/// What takes long.
+#[derive(Clone, Copy, Debug, PartialEq, Eq)]
+pub enum LongWork {
+    /// A formatting, which is counted in messages.
+    Formatting,
+    /// A check of all records.
+    Checking,
+    /// An export of all blocks, which is counted in records too.
+    Exporting,
+}
+
+impl LongWork {
+    fn name(self) -> &'static str
+        ensures { result.now ≡ spec.name self }
+    {
+        match self {
+            LongWork::Formatting => "formatting",
+            LongWork::Checking => "checking",
+            LongWork::Exporting => "exporting",
+        }
+    }
+
+    /// Returns what it is counted in.
+    fn unit(self) -> &'static str
+        ensures { result.now ≡ spec.unit self }
+    {
+        match self {
+            LongWork::Formatting => "messages",
+            LongWork::Checking | LongWork::Exporting => "records",
+        }
+    }
+}
 
 /// Returns how much is done, in percent: 100, if there is nothing to do.
 pub fn percent(done: u64, of: u64) -> u64
@@ -24,45 +57,50 @@ fn seconds_left(done: u64, of: u64, milliseconds: u64) -> u64
     u64::try_from(left).unwrap_or(u64::MAX)
 }
 
-/// For how many milliseconds a formatting has to go on before its text says how long the rest
-/// takes.
+/// For how many milliseconds the work has to go on before its text says how long the rest takes.
 const SOONEST_ESTIMATE: u64 = 1_000;
 
-/// Returns a text that says how far a formatting has come.
-fn so_far(alloc: Global, done: u64, of: u64) -> Result<String, AllocError>
-    ensures { IfOk result (λ text. string_bytes text ≡ spec.so_far done of) }
+/// Returns a text that says how far the work has come.
+fn so_far(alloc: Global, work: LongWork, done: u64, of: u64) -> Result<String, AllocError>
+    ensures { IfOk result (λ text. string_bytes text ≡ spec.so_far work done of) }
 {
+    let name = work.name();
     let percent = percent(done, of);
-    format!(in alloc; "formatting: {percent} % ({done} of {of} messages)")
+    let unit = work.unit();
+    format!(in alloc; "{name}: {percent} % ({done} of {of} {unit})")
 }
 
-/// Returns a text that says how far a formatting has come, and how long the rest takes.
+/// Returns a text that says how far the work has come, and how long the rest takes.
 fn with_time_left(
     alloc: Global,
+    work: LongWork,
     done: u64,
     of: u64,
     milliseconds: u64,
 ) -> Result<String, AllocError>
-    ensures { IfOk result (λ text. string_bytes text ≡ spec.with_time_left done of milliseconds) }
+    ensures { IfOk result (λ text. string_bytes text ≡ spec.with_time_left work done of milliseconds) }
 {
+    let name = work.name();
     let percent = percent(done, of);
+    let unit = work.unit();
     let left = seconds_left(done, of, milliseconds);
-    format!(in alloc; "formatting: {percent} % ({done} of {of} messages), {left} s left")
+    format!(in alloc; "{name}: {percent} % ({done} of {of} {unit}), {left} s left")
 }
 
-/// Returns a text that says how far a formatting has come, and after its first second also how long the rest takes.
+/// Returns a text that says how far the work has come, and after its first second also how long the rest takes.
 pub fn progress_text(
     alloc: Global,
+    work: LongWork,
     done: u64,
     of: u64,
     milliseconds: u64,
 ) -> Result<String, AllocError>
-    ensures { IfOk result (λ text. string_bytes text ≡ spec.progress_text done of milliseconds) }
+    ensures { IfOk result (λ text. string_bytes text ≡ spec.progress_text work done of milliseconds) }
 {
     if milliseconds < SOONEST_ESTIMATE {
-        so_far(alloc, done, of)
+        so_far(alloc, work, done, of)
     } else {
-        with_time_left(alloc, done, of, milliseconds)
+        with_time_left(alloc, work, done, of, milliseconds)
     }
 }
 

@@ -6,7 +6,7 @@ mod serve_command;
 mod watched_disk;
 
 use oram_cli::{InputFault, arguments, texts_of};
-use oram_disk_client::{format_disk, make_folder, print_status, retry};
+use oram_disk_client::{check_host, export_image, format_disk, make_folder, print_status, retry};
 use oram_disk_host::{Fault, FaultKind, host, report_fault};
 use oram_settings::{NoRequest, Subcommand, read_command_line};
 use std::process::ExitCode;
@@ -36,6 +36,19 @@ fn run(rt: &HostRuntime) -> Result<(), Fault> {
         Ok(Subcommand::Serve(name)) => serve_command::serve_disk(rt, name),
         Ok(Subcommand::Status { settings, is_json }) => print_status(rt, settings, is_json),
         Ok(Subcommand::Retry(name)) => retry(rt, name),
+        Ok(
+            Subcommand::Check {
+                settings,
+                is_salvage,
+            },
+        ) => check_host(rt, settings, is_salvage),
+        Ok(
+            Subcommand::Export {
+                settings,
+                image,
+                is_salvage,
+            },
+        ) => export_image(rt, settings, image, is_salvage),
         Err(NoRequest::Help(text)) => {
             let _passed_over = rt.print(text.as_str());
             Ok(())

@@ -5,13 +5,11 @@ ghost use Rattle.std.specs.Prelude.{◌≡◌, true};
 use crate::clients::{ClientAttendant, ClientLook, Dismissal};
 use crate::watched_disk::{FailureKeeper, WatchedDisk};
 use oram_bucket::Sealer;
-use oram_client::{
-    AnswerLengths, FileKeeper, FilePlace, HostWatch, Keys, ReconnectLink, SystemFiles, TcpDialer,
-};
+use oram_client::{FileKeeper, FilePlace, Keys, SystemFiles};
 use oram_core::Reason;
 use oram_disk_client::{
-    DiskSealer, LockedDisk, ReachedCore, Stop, UnfailedDisk, disk_in, keep_failure, keeper_for,
-    kept_in, keys_in, named, process_for, reached, sealer_in, stop_fault, tape_for,
+    DiskSealer, HostLink, LockedDisk, ReachedCore, Stop, UnfailedDisk, disk_in, keep_failure,
+    keeper_for, kept_in, keys_in, link_to, process_for, reached, sealer_in, stop_fault, tape_for,
 };
 use oram_disk_host::{Fault, FaultKind, listen_at, not_accepted, time};
 use oram_nbd::{BlockDevice, DiskFault, NbdFault, is_stop, serve};
@@ -19,7 +17,6 @@ use oram_rounds::{BatchLink, Keeper, KeptCore};
 use oram_session::{ChaChaTape, Tape};
 use oram_settings::{DiskSettings, counted, failure_text, relative_to, serving_text};
 use oram_sockets::{Connection, Listener, Look, Peer, listen_at_path, watch};
-use oram_stamps::{Known, NoteFault, decode_note, masked};
 use oram_volume::Volume;
 use percent_encoding::{NON_ALPHANUMERIC, utf8_percent_encode};
 use std::alloc::{AllocError, Global};
@@ -32,46 +29,8 @@ use std::rt::Clock;
 /// The name of the one export. Clients may also ask for it with an empty name.
 const EXPORT: &[u8] = b"disk";
 
-/// Prints a line on standard error when the host is lost or has no room, and when it answers again.
-#[derive(Drop)]
-struct HostStatusPrinter<'a, R> {
-    rt: &'a R,
-    host: String,
-    /// For how many seconds a host that is lost is tried.
-    reconnect_timeout: u64,
-}
-
-impl<'a, R: Eprint + AllocGlobal> HostStatusPrinter<'a, R> {
-    fn print(&self, what: &str) {
-        let host = self.host.as_str();
-        if let Ok(line) = format!(in self.rt.alloc(); "oramdisk: the host at {host} {what}\n") {
-            let _passed_over = self.rt.eprint(line.as_str());
-        }
-    }
-}
-
-impl<'a, R: Eprint + AllocGlobal> HostWatch for HostStatusPrinter<'a, R> {
-    fn lost(&mut self) {
-        let alloc = self.rt.alloc();
-        let Ok(time) = counted(alloc, self.reconnect_timeout, "second") else {
-            return self.print("is out of reach");
-        };
-        let time = time.as_str();
-        if let Ok(what) = format!(in alloc;
-            "is out of reach: it is tried for {time}, while requests wait"
-        ) {
-            self.print(what.as_str());
-        }
-    }
-
-    fn full(&mut self) {
-        self.print("has no room");
-    }
-
-    fn back(&mut self) {
-        self.print("answers again");
-    }
-}
+/// What happens while a host that is lost is tried.
+const MEANWHILE: &str = "while requests wait";
 
 /// How serving a client ended.
 #[derive(Clone, Copy)]
@@ -259,9 +218,6 @@ fn serve_clients<D: BlockDevice>(
     serve_all(rt, &clients.listener, disk)
 }
 
-/// The link to a disk's host.
-type HostLink<'a> = ReconnectLink<TcpDialer<&'a HostRuntime>, HostStatusPrinter<'a, HostRuntime>>;
-
 /// Keeps a process in the file of a disk.
 type DiskKeeper<'a> = FileKeeper<FilePlace<&'a HostRuntime>>;
 
@@ -306,44 +262,6 @@ fn serve_volume<S: Sealer>(
     Err(stopped(alloc, &disk.disk, settings))
 }
 
-/// Makes the link to the host that the settings name. The link works only if that host keeps the disk with these keys, and shows
-/// stamps that it may have by what is known of them. It takes no answer that is longer than `lengths` allows.
-fn link_to<'a>(
-    rt: &'a HostRuntime,
-    settings: &DiskSettings,
-    keys: &Keys,
-    known: Known,
-    lengths: AnswerLengths,
-) -> Result<HostLink<'a>, AllocError> {
-    let alloc = rt.alloc();
-    let host = settings.host.as_str();
-    let address = String::from_str(alloc, host)?;
-    let dialer = TcpDialer::new(rt, address, keys.identity.0, keys.stamps, known, lengths);
-    let watch = HostStatusPrinter {
-        rt,
-        host: String::from_str(alloc, host)?,
-        reconnect_timeout: settings.reconnect_timeout,
-    };
-    Ok(ReconnectLink::new(alloc, dialer, watch, settings.reconnect_timeout))
-}
-
-/// Returns what is known of the host's stamps, from the note that was kept with a process.
-fn known_in<S: Sealer>(
-    alloc: Global,
-    settings: &DiskSettings,
-    keys: &Keys,
-    kept: &KeptCore<S>,
-) -> Result<Known, Fault> {
-    let check = masked(&keys.stamps, kept.check);
-    match decode_note(alloc, &kept.note, check) {
-        Ok(known) => Ok(known),
-        Err(NoteFault::OutOfMemory) => Err(Fault::OutOfMemory),
-        Err(NoteFault::NotOurs) => {
-            Err(named(alloc, FaultKind::NotADisk, settings.state.as_str()))
-        }
-    }
-}
-
 /// Serves the disk of a process that was kept, until it stops. The process goes on with `keeper`, whose place has found the
 /// file that the process was read from.
 fn serve_process<S: Sealer>(
@@ -355,9 +273,7 @@ fn serve_process<S: Sealer>(
     kept: KeptCore<S>,
 ) -> Result<(), Fault> {
     let alloc = rt.alloc();
-    let known = known_in(alloc, settings, keys, &kept)?;
-    let lengths = AnswerLengths::of(&kept.core);
-    let link = link_to(rt, settings, keys, known, lengths)?;
+    let link = link_to(rt, settings, keys, &kept, MEANWHILE)?;
     let ReachedCore { core, link } = reached(alloc, link, settings, kept)?;
     let tape = tape_for(keys, core.device());
     let volume = Volume {

@@ -11,6 +11,7 @@ mod far_end;
 mod heads;
 mod keepers;
 mod links;
+mod stamps;
 mod stopping_disk;
 mod volumes;
 mod watches;
@@ -44,6 +45,7 @@ impl Table for Calls {
             "disk" => keepers::answer(alloc, name, words, page),
             "link" => links::answer(alloc, name, words, page),
             "format" => disk_formats::answer(alloc, name, words, page),
+            "stamps" => stamps::answer(alloc, name, words, page),
             _ => Err(RowFault::NoRow),
         }
     }

@@ -1,16 +1,22 @@
 //! Reports about a formatting and about a disk.
 
 use oram_core::Reason;
-use oram_settings::{Meter, Status, failure_text, progress_text, report, report_json};
+use oram_settings::{LongWork, Meter, Status, failure_text, progress_text, report, report_json};
 use rows::{Page, RowFault, RowWords};
 use std::alloc::Global;
 
-/// `progress DONE OF MILLISECONDS`: writes the line of a formatting that has come this far.
+/// `progress WORK DONE OF MILLISECONDS`: writes the line of work that has come this far, which is `format`, `check` or `export`.
 pub fn progress(alloc: Global, words: &mut RowWords, page: &mut Page) -> Result<(), RowFault> {
+    let work = match words.text() {
+        "format" => LongWork::Formatting,
+        "check" => LongWork::Checking,
+        "export" => LongWork::Exporting,
+        _ => return Err(RowFault::NoRow),
+    };
     let done = words.number();
     let of = words.number();
     let milliseconds = words.number();
-    let text = progress_text(alloc, done, of, milliseconds)?;
+    let text = progress_text(alloc, work, done, of, milliseconds)?;
     page.lines(text.as_str());
     Ok(())
 }

@@ -62,6 +62,22 @@ fn put_subcommand(subcommand: &Subcommand, page: &mut Page) {
             page.word(if *is_json { "json" } else { "lines" });
         }
         Subcommand::Retry(name) => put_both(page, "retry", name),
+        Subcommand::Check {
+            settings,
+            is_salvage,
+        } => {
+            put_both(page, "check", settings);
+            page.word(if *is_salvage { "salvage" } else { "all" });
+        }
+        Subcommand::Export {
+            settings,
+            image,
+            is_salvage,
+        } => {
+            put_both(page, "export", settings);
+            page.word(image.as_str());
+            page.word(if *is_salvage { "salvage" } else { "all" });
+        }
         Subcommand::New { folder, size } => {
             put_both(page, "new", folder);
             page.word(size.as_str());

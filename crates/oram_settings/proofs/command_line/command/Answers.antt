@@ -11,4 +11,6 @@ returns c =
     let three = c.in_ok-made-3.ensures (spec.disk_command (codes "format")) c.disk_command-format.ensures.shape ∙ ap (λ (a : App). with_subcommand a (spec.disk_command (codes "format"))) two in
     let four = c.in_ok-made-4.ensures (spec.disk_command (codes "serve")) c.disk_command-serve.ensures.shape ∙ ap (λ (a : App). with_subcommand a (spec.disk_command (codes "serve"))) three in
     let five = c.in_ok-made-5.ensures spec.status_printer c.status_printer.ensures.shape ∙ ap (λ (a : App). with_subcommand a spec.status_printer) four in
-    IfOk-weaker c.with_subcommand-6.result _ _ (λ m is. is ∙ ap (λ (a : App). with_subcommand a (spec.disk_command (codes "retry"))) five) (c.with_subcommand-6.ensures (spec.disk_command (codes "retry")) c.disk_command-retry.ensures.shape)
+    let six = c.in_ok-made-6.ensures (spec.disk_command (codes "retry")) c.disk_command-retry.ensures.shape ∙ ap (λ (a : App). with_subcommand a (spec.disk_command (codes "retry"))) five in
+    let seven = c.in_ok-made-7.ensures spec.checker c.checker.ensures.shape ∙ ap (λ (a : App). with_subcommand a spec.checker) six in
+    IfOk-weaker c.with_subcommand-8.result _ _ (λ m is. is ∙ ap (λ (a : App). with_subcommand a spec.exporter) seven) (c.with_subcommand-8.ensures spec.exporter c.exporter.ensures.shape)

@@ -1,0 +1,345 @@
+//! Reads a whole disk from its host: checks its records, or writes an image of what is in it.
+//!
+//! The disk is read as its state has it: the STOREs that the state still has are sent once more, and the commands that wait there aren't
+//! carried out, but what they write is in the image. So nothing is accessed, nothing is kept, and a disk that has failed can be read too.
+
+ghost use Rattle.std.specs.Prelude.{◌≡◌};
+
+use crate::disk_files::{disk_in, kept_in, keys_in, process_for, state_bytes};
+use crate::findings_text::{Counts, exported_text, findings_text, saved_text};
+use crate::host_asked::ask_host;
+use crate::host_link::link_to;
+use crate::image_file::{ImageFile, check_free};
+use crate::progress_printer::ProgressPrinter;
+use crate::reading_ends::{ExportEnd, export_end, lost_fault, read_fault};
+use crate::serving::{DiskSealer, LockedDisk, sealer_in};
+use oram_bucket::Sealer;
+use oram_cli::call_fault;
+use oram_client::{Dial, HostWatch, Keys, ReconnectLink, SystemFiles, kept_bytes};
+use oram_core::Core;
+use oram_disk_host::{Fault, FaultKind};
+use oram_export::{
+    BlockSink, ReadFault, ReadingWatch, SinkStop, TreeFindings, check_disk as check_records,
+    export_disk as export_blocks, send_stores,
+};
+use oram_rounds::KeptCore;
+use oram_settings::{DiskSettings, LongWork};
+use std::alloc::Global;
+use std::rt::Clock;
+
+/// What happens while a host that is lost is tried.
+const MEANWHILE: &str = "and then reading goes on";
+
+/// Prints how many records have been read.
+#[derive(Drop)]
+struct ReadingPrinter<'a, R> {
+    printer: ProgressPrinter<'a, R>,
+    done: u64,
+    of: u64,
+}
+
+impl<'a, R: Clock + Eprint + AllocGlobal> ReadingWatch for ReadingPrinter<'a, R> {
+    fn read(&mut self, records: u64) {
+        self.done = self.done.saturating_add(records);
+        self.printer.report(self.done, self.of);
+    }
+}
+
+/// Counts the blocks that it is given.
+#[derive(Drop)]
+struct BlockCounter {
+    blocks: u64,
+}
+
+impl BlockSink for BlockCounter {
+    ghost takes = { λ _ _ _. Unit {0} };
+
+    fn put(&mut self, _address: u32, _data: &[u8]) -> Result<(), SinkStop> {
+        self.blocks = self.blocks.saturating_add(1);
+        Ok(())
+    }
+}
+
+/// Returns the number of records of the first `trees` trees of a disk.
+fn records_in<S: Sealer>(core: &Core<S>, trees: u8) -> u64 {
+    let device = core.device();
+    let mut records = 0u64;
+    for tree in 0..trees.min(device.trees()) {
+        records = records.saturating_add((2 << device.depth(tree)) - 1);
+    }
+    records
+}
+
+/// A printer of how far `work` has come. The work reads `of` records in all.
+fn reading_printer(rt: &HostRuntime, work: LongWork, of: u64) -> ReadingPrinter<'_, HostRuntime> {
+    ReadingPrinter {
+        printer: ProgressPrinter::new(rt, work),
+        done: 0,
+        of,
+    }
+}
+
+/// Asks the host whether it keeps this disk, compares its stamps with what is known of them, and has it carry out the STOREs that the
+/// disk's state has.
+fn settle_host<D: Dial, W: HostWatch>(
+    alloc: Global,
+    link: &mut ReconnectLink<D, W>,
+    settings: &DiskSettings,
+    stores: &[Vec<u8>],
+) -> Result<(), Fault> {
+    ask_host(alloc, link, settings)?;
+    match send_stores(alloc, link, stores) {
+        Ok(()) => Ok(()),
+        Err(fault) => Err(read_fault(alloc, fault, link.trouble(), settings)),
+    }
+}
+
+/// What is to be done with a whole disk.
+#[derive(Drop)]
+enum Reading {
+    /// To check all records, and to say how many blocks could be saved if `is_salvage`.
+    Check { is_salvage: bool },
+    /// To write an image of this name, and one that lacks what is lost if `is_salvage`.
+    Export { image: String, is_salvage: bool },
+}
+
+/// Writes a text to standard output.
+fn print(rt: &HostRuntime, text: &str) -> Result<(), Fault> {
+    match rt.print(text) {
+        Ok(()) => Ok(()),
+        Err(error) => Err(call_fault(rt.alloc(), "standard output", &error).into()),
+    }
+}
+
+/// A disk that is read as a whole: its core as its state has it, the sealer of its buckets, and its settings.
+#[derive(Drop)]
+struct WholeDisk<'a, S: Sealer> {
+    core: &'a Core<S>,
+    sealer: &'a S,
+    settings: &'a DiskSettings,
+}
+
+/// Reads the blocks of a disk into a sink.
+fn read_blocks<S: Sealer, D: Dial, W: HostWatch, K: BlockSink>(
+    rt: &HostRuntime,
+    disk: &WholeDisk<'_, S>,
+    link: &mut ReconnectLink<D, W>,
+    sink: &mut K,
+) -> Result<TreeFindings, ReadFault>
+    requires { S.cipher disk.now.sealer.now ≡ S.cipher disk.now.core.now.sealer }
+{
+    let mut watch = reading_printer(rt, LongWork::Exporting, records_in(disk.core, 1));
+    export_blocks(rt.alloc(), disk.core, disk.sealer, link, sink, &mut watch)
+}
+
+/// Prints how many blocks an export would save.
+fn print_saved<S: Sealer, D: Dial, W: HostWatch>(
+    rt: &HostRuntime,
+    disk: &WholeDisk<'_, S>,
+    link: &mut ReconnectLink<D, W>,
+) -> Result<(), Fault>
+    requires { S.cipher disk.now.sealer.now ≡ S.cipher disk.now.core.now.sealer }
+{
+    let alloc = rt.alloc();
+    let mut counter = BlockCounter { blocks: 0 };
+    match read_blocks(rt, disk, link, &mut counter) {
+        Ok(_) => print(rt, saved_text(alloc, counter.blocks)?.as_str()),
+        Err(fault) => Err(read_fault(alloc, fault, link.trouble(), disk.settings)),
+    }
+}
+
+/// Reads all records of a disk.
+fn read_records<S: Sealer, D: Dial, W: HostWatch>(
+    rt: &HostRuntime,
+    disk: &WholeDisk<'_, S>,
+    link: &mut ReconnectLink<D, W>,
+) -> Result<Vec<TreeFindings>, Fault> {
+    let alloc = rt.alloc();
+    let of = records_in(disk.core, disk.core.device().trees());
+    let mut watch = reading_printer(rt, LongWork::Checking, of);
+    match check_records(alloc, disk.core, link, &mut watch) {
+        Ok(trees) => Ok(trees),
+        Err(fault) => Err(read_fault(alloc, fault, link.trouble(), disk.settings)),
+    }
+}
+
+/// Checks all records of a disk, and prints what it found. Fails with [`FaultKind::LostRecords`] after that if some are lost.
+fn check<S: Sealer, D: Dial, W: HostWatch>(
+    rt: &HostRuntime,
+    disk: &WholeDisk<'_, S>,
+    link: &mut ReconnectLink<D, W>,
+    is_salvage: bool,
+) -> Result<(), Fault>
+    requires { S.cipher disk.now.sealer.now ≡ S.cipher disk.now.core.now.sealer }
+{
+    let alloc = rt.alloc();
+    let trees = read_records(rt, disk, link)?;
+    print(rt, findings_text(alloc, &trees)?.as_str())?;
+    let counts = Counts::of_all(&trees);
+    if is_salvage {
+        print_saved(rt, disk, link)?;
+    }
+    if counts.lost == 0 {
+        Ok(())
+    } else {
+        Err(lost_fault(alloc, FaultKind::LostRecords, disk.settings, counts))
+    }
+}
+
+/// Reads the blocks of a disk into an image.
+fn fill_image<S: Sealer, D: Dial, W: HostWatch>(
+    rt: &HostRuntime,
+    disk: &WholeDisk<'_, S>,
+    link: &mut ReconnectLink<D, W>,
+    file: &mut ImageFile<'_>,
+) -> Result<Counts, Fault>
+    requires { S.cipher disk.now.sealer.now ≡ S.cipher disk.now.core.now.sealer }
+{
+    match read_blocks(rt, disk, link, file) {
+        Ok(tree) => Ok(Counts::of(&tree)),
+        Err(fault) => match file.take_fault() {
+            Some(fault) => Err(fault.into()),
+            None => Err(read_fault(rt.alloc(), fault, link.trouble(), disk.settings)),
+        },
+    }
+}
+
+/// Gives an image its name or removes it, by what was found.
+fn end_image(
+    rt: &HostRuntime,
+    settings: &DiskSettings,
+    file: ImageFile<'_>,
+    found: Result<Counts, Fault>,
+    is_salvage: bool,
+) -> Result<Counts, Fault> {
+    let counts = match found {
+        Ok(counts) => counts,
+        Err(fault) => {
+            file.discard();
+            return Err(fault);
+        }
+    };
+    match export_end(counts.lost, is_salvage) {
+        ExportEnd::Given => file.finish()?,
+        ExportEnd::GivenInPart => {
+            file.finish()?;
+            return Err(lost_fault(rt.alloc(), FaultKind::PartialImage, settings, counts));
+        }
+        ExportEnd::Discarded => {
+            file.discard();
+            return Err(lost_fault(rt.alloc(), FaultKind::LostRecords, settings, counts));
+        }
+    }
+    Ok(counts)
+}
+
+/// Writes an image of a disk. Fails with [`FaultKind::LostRecords`] and leaves no image if records are lost, or with
+/// [`FaultKind::PartialImage`] if the image is to lack what was in them.
+fn export<S: Sealer, D: Dial, W: HostWatch>(
+    rt: &HostRuntime,
+    disk: &WholeDisk<'_, S>,
+    link: &mut ReconnectLink<D, W>,
+    image: String,
+    is_salvage: bool,
+) -> Result<(), Fault>
+    requires { S.cipher disk.now.sealer.now ≡ S.cipher disk.now.core.now.sealer }
+{
+    let settings = disk.settings;
+    let name = image.clone()?;
+    let mut file = ImageFile::begin(rt, image, settings.state.as_str(), settings.size)?;
+    let found = fill_image(rt, disk, link, &mut file);
+    let counts = end_image(rt, settings, file, found, is_salvage)?;
+    let line = exported_text(rt.alloc(), settings.size, name.as_str(), counts.records)?;
+    let _passed_over = rt.eprint(line.as_str());
+    Ok(())
+}
+
+/// Reads a disk, over the link to its host.
+fn read_over<S: Sealer, D: Dial, W: HostWatch>(
+    rt: &HostRuntime,
+    disk: &WholeDisk<'_, S>,
+    link: &mut ReconnectLink<D, W>,
+    reading: Reading,
+) -> Result<(), Fault>
+    requires { S.cipher disk.now.sealer.now ≡ S.cipher disk.now.core.now.sealer }
+{
+    match reading {
+        Reading::Check { is_salvage } => check(rt, disk, link, is_salvage),
+        Reading::Export { image, is_salvage } => export(rt, disk, link, image, is_salvage),
+    }
+}
+
+/// Reads a disk that was kept, whose buckets `sealer` has sealed.
+fn read_kept<S: Sealer>(
+    rt: &HostRuntime,
+    settings: &DiskSettings,
+    keys: &Keys,
+    kept: &KeptCore<S>,
+    sealer: &S,
+    reading: Reading,
+) -> Result<(), Fault>
+    requires { S.cipher sealer.now ≡ S.cipher kept.now.core.sealer }
+{
+    let mut link = link_to(rt, settings, keys, kept, MEANWHILE)?;
+    settle_host(rt.alloc(), &mut link, settings, &kept.stores)?;
+    let disk = WholeDisk {
+        core: &kept.core,
+        sealer,
+        settings,
+    };
+    read_over(rt, &disk, &mut link, reading)
+}
+
+/// Reads the disk whose settings are in the file `name`, and whose lock this process holds.
+fn read_disk(
+    rt: &HostRuntime,
+    name: &str,
+    locked: &LockedDisk,
+    reading: Reading,
+) -> Result<(), Fault> {
+    let alloc = rt.alloc();
+    let settings = locked.settings();
+    let state = settings.state.as_str();
+    let file = state_bytes(alloc, &SystemFiles { rt }, kept_bytes(rt, state), state)?;
+    let kept = kept_in(alloc, file.as_slice(), state)?;
+    let keys = keys_in(alloc, settings, &kept.head, name)?;
+    match sealer_in(&kept.head, &keys) {
+        DiskSealer::Plain(sealer) => {
+            let process = process_for(alloc, settings, name, &kept, sealer)?;
+            read_kept(rt, settings, &keys, &process, &sealer, reading)
+        }
+        DiskSealer::ChaCha20(sealer) => {
+            let process = process_for(alloc, settings, name, &kept, sealer)?;
+            read_kept(rt, settings, &keys, &process, &sealer, reading)
+        }
+    }
+}
+
+/// Checks all records of the disk whose settings are in the file `name` at its host, and prints for each tree how many there are and
+/// which are lost. Fails with [`FaultKind::LostRecords`] after that if some are. If `is_salvage`, also prints how many blocks
+/// [`export_image`] would save.
+pub fn check_host(rt: &HostRuntime, name: String, is_salvage: bool) -> Result<(), Fault> {
+    let (settings, _) = disk_in(rt, name.as_str())?;
+    let locked = LockedDisk::take(rt, settings)?;
+    read_disk(rt, name.as_str(), &locked, Reading::Check { is_salvage })
+}
+
+/// Writes what is in the disk whose settings are in the file `name` to a new file `image`, or to standard output if that is `-`. If
+/// records are lost at the host, fails with [`FaultKind::LostRecords`] and leaves no image, unless `is_salvage`: then the image has
+/// zeros in place of what was in them, and it fails with [`FaultKind::PartialImage`].
+pub fn export_image(
+    rt: &HostRuntime,
+    name: String,
+    image: String,
+    is_salvage: bool,
+) -> Result<(), Fault> {
+    let (settings, _) = disk_in(rt, name.as_str())?;
+    check_free(rt, image.as_str())?;
+    let locked = LockedDisk::take(rt, settings)?;
+    read_disk(
+        rt,
+        name.as_str(),
+        &locked,
+        Reading::Export { image, is_salvage },
+    )
+}
