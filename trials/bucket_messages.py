@@ -4,7 +4,9 @@ import struct
 
 from trials.connections import LONGEST_BODY
 
-FETCH, STORE, PUT, SHAPE = 1, 2, 3, 4
+FETCH, STORE, PUT, SHAPE, RECORDS = 1, 2, 3, 4, 5
+# Its second byte asks for the records that the host has now.
+NOW = 0
 DONE = b"\x80"
 NO_SHAPE, BAD_LEAF, BAD_NODE, BAD_LENGTH, SHAPE_TAKEN, MISSING, BAD_OP, NO_ROOM = range(1, 9)
 LARGEST_DEPTH = 24
@@ -31,6 +33,11 @@ def put(tree, node, record):
 
 def shape(tree, depth, record_len):
     return struct.pack(">BBBI", SHAPE, tree, depth, record_len)
+
+
+def records(tree, first, count):
+    """Asks for the records of nodes in a row, from `first` on."""
+    return struct.pack(">BBBII", RECORDS, NOW, tree, first, count)
 
 
 def is_a(kind, body):
@@ -101,3 +108,29 @@ class Model:
     def all_fetches(self):
         """A FETCH of each path of each tree."""
         return [fetch(tree, leaf) for tree, (depth, _) in self.shapes.items() for leaf in range(1 << depth)]
+
+
+class DiskModel(Model):
+    """The host of a disk, which also gives the records of nodes in a row."""
+
+    def answer(self, body):
+        return self.answer_records(body) if is_a(RECORDS, body) else super().answer(body)
+
+    def answer_records(self, body):
+        if len(body) != 11 or body[1] != NOW:
+            return refused(BAD_LENGTH)
+        tree, first, count = struct.unpack(">BII", body[2:])
+        if tree not in self.shapes:
+            return refused(NO_SHAPE)
+        depth, record_len = self.shapes[tree]
+        if first + count > (2 << depth) - 1:
+            return refused(BAD_NODE)
+        if count == 0 or 1 + count * (1 + record_len) > LONGEST_BODY:
+            return refused(BAD_LENGTH)
+        found = [self.records.get((tree, node)) for node in range(first, first + count)]
+        return DONE + b"".join(b"\x00" if record is None else b"\x01" + record for record in found)
+
+    def all_records(self, step):
+        """Requests for all records of each tree, of at most `step` nodes each."""
+        nodes = ((tree, (2 << depth) - 1) for tree, (depth, _) in self.shapes.items())
+        return [records(tree, first, min(step, end - first)) for tree, end in nodes for first in range(0, end, step)]

@@ -12,7 +12,7 @@ from pathlib import Path
 from trials import strace
 from trials.bucket_file import BucketFile
 from trials.bucket_host import check_answers
-from trials.bucket_messages import DONE, MISSING, PUT, SHAPE_TAKEN, Model, fetch, is_a, put, refused, shape, store
+from trials.bucket_messages import DONE, MISSING, PUT, SHAPE_TAKEN, DiskModel, Model, fetch, is_a, put, refused, shape, store
 from trials.host.messages import random_body
 
 # How many bytes a host writes at once when it writes its log over itself.
@@ -86,7 +86,7 @@ def try_cut_writes(trial, rounds=40):
     if not strace.is_usable():
         trial.skip()
         return
-    host, model = trial.host("cut-writes"), Model()
+    host, model = trial.host("cut-writes"), DiskModel()
     host.start().client().close()
     host.stop()
     cuts = 0

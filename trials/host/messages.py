@@ -3,7 +3,7 @@
 import signal
 
 from trials.bucket_host import check_answers
-from trials.bucket_messages import Model, fetch, put, shape, store
+from trials.bucket_messages import DiskModel, fetch, put, records, shape, store
 
 
 def random_body(dice, model):
@@ -18,8 +18,10 @@ def random_body(dice, model):
         return shape(dice.randrange(6), dice.choice([0, 1, 2, 3, 25]), dice.choice([0, 1, 8, 33, 1 << 20]))
     if kind < 0.4:
         return put(tree, near((2 << depth) - 1), dice.randbytes(max(length, 0)))
-    if kind < 0.7:
+    if kind < 0.65:
         return fetch(tree, near(1 << depth))
+    if kind < 0.7:
+        return records(tree, near((2 << depth) - 1), dice.randrange(1 << depth) + 1)
     if kind < 0.95:
         return store(tree, near(1 << depth), [dice.randbytes(max(length, 0))] * (depth + 1))
     return dice.randbytes(dice.choice([0, 1, 2, 5, 6, 7, 8, 40]))
@@ -27,7 +29,7 @@ def random_body(dice, model):
 
 def try_random(trial, rounds=4, count=250):
     """Honest and hostile messages are answered as the model answers them, over connections and processes."""
-    host, model = trial.host("random").start(), Model()
+    host, model = trial.host("random").start(), DiskModel()
     for number in range(rounds):
         client = host.client()
         # Each is drawn once the one before it was answered, since it depends on the shapes that there are.
@@ -37,5 +39,6 @@ def try_random(trial, rounds=4, count=250):
         host.start()
     client = host.client()
     check_answers(trial, "every path after the random messages", client, model, model.all_fetches())
+    check_answers(trial, "every record after the random messages", client, model, model.all_records(5))
     client.close()
     host.stop()

@@ -5,7 +5,7 @@ import shutil
 import signal
 
 from trials.bucket_file import BucketFile
-from trials.bucket_messages import fetch
+from trials.bucket_messages import NO_ROOM, PUT, STORE, fetch, is_a, refused
 from trials.disk import Disk
 from trials.disk_array import DiskArray, check_and_end, check_disk, lose_write, make_requests, write_block
 from trials.nbd.tampering import STAMP_TREE
@@ -66,6 +66,50 @@ def try_older_file_meanwhile(trial):
     disk.put_host_files(newest)
     disk.start_host()
     check_and_end(trial, "an older file meanwhile: what it holds with the newest file", disk, array)
+
+
+def try_older_file_after_refusal(trial):
+    """The host has no room for a STORE, and puts the stamps of its batch all the same. A copy of its file from then is put back after the batch
+    was sent again and carried out: this is noticed too. With the newest file the disk goes on."""
+    disk, array = Disk(trial, "refused", table=16).formatted(), DiskArray()
+    client = disk.serve().client()
+    write_block(trial, client, array, 0)
+    before = copy_after_refusal(disk)
+    # The STORE of a write goes to the host with the next write.
+    trial.check("after a refusal: a reply", write_block(trial, client, array, 1))
+    trial.check("after a refusal: a copy of the file", len(before) == 1, len(before))
+    disk.host.stop()
+    newest = disk.host_files()
+    disk.put_host_files(before[0])
+    disk.start_host()
+    lose_write(trial, "after a refusal: no reply", client, array)
+    status = disk.wait()
+    said = (status, disk.lines()[-1])
+    trial.check("after a refusal: how it ends", said == (OLDER_HOST, host_line(disk, OLDER)), said)
+    trial.ends("after a refusal: served again", disk.start("serve"), OLDER_HOST, host_line(disk, OLDER))
+    disk.host.stop()
+    disk.put_host_files(newest)
+    disk.start_host()
+    check_and_end(trial, "after a refusal: what it holds with the newest file", disk, array)
+
+
+def copy_after_refusal(disk):
+    """From now on the host seems to have no room for STOREs, until a batch begins again. Just before, its files are copied into the list that is
+    returned."""
+    refusals, copies = [], []
+
+    def instead(body):
+        if copies:
+            return None
+        if is_a(STORE, body):
+            refusals.append(body)
+            return refused(NO_ROOM)
+        if refusals and is_a(PUT, body) and body[1:6] == bytes([STAMP_TREE, 0, 0, 0, 0]):
+            copies.append(disk.host_files())
+        return None
+
+    disk.relay.instead = instead
+    return copies
 
 
 def try_forged_stamps(trial):

@@ -53,7 +53,7 @@ def try_tampered(trial):
     tamper(disk.host.path())
     reason = fail_disk(trial, disk, array)
     failed = disk.state_file.read_bytes()
-    refused = "oramdisk: the disk of tampered/disk.state has failed, and oramdisk status says why: see that its own host is reached, with its own file, and then say oramdisk retry"
+    refused = "oramdisk: the disk of tampered/disk.state has failed, and oramdisk status says why: see that its own host is reached, with its own file, and then say oramdisk retry; oramdisk check says what is lost at the host, and oramdisk export --salvage saves the rest"
     trial.ends("tampered: served again", disk.start("serve"), DISK_FAILED, refused)
     trial.check("tampered: its state is left as it is", disk.state_file.read_bytes() == failed and disk.status().get("state") == reason)
     disk.host.stop()
