@@ -2,18 +2,19 @@
 
 from trials.memory.verdicts import WENT_ON, WRONG, judge
 
-# The most allocations of a block that are refused.
-MOST = 1000
+# The most allocations of a block that are refused in one trial. Each trial begins at another one, so that later ones find what this
+# one leaves out.
+MOST = 250
 
 
-def try_program(tally, refuser, pool, name, program, rows, printed):
+def try_program(tally, dice, refuser, pool, name, program, rows, printed):
     """Refuses the allocations of each block of a program's rows, or of oramsim's script, which prints `printed`."""
     if name == "oramsim":
-        sweep(tally, refuser, pool, name, program, [(rows, printed)])
+        sweep(tally, dice, refuser, pool, name, program, [(rows, printed)])
         try_reopen(tally, refuser, program)
     else:
         # A row program prints each row with its answer, which the text of the row has too.
-        sweep(tally, refuser, pool, name, program, [(block, block) for block in standing_alone(refuser, program, rows)])
+        sweep(tally, dice, refuser, pool, name, program, [(block, block) for block in standing_alone(refuser, program, rows)])
 
 
 def standing_alone(refuser, program, rows):
@@ -27,18 +28,21 @@ def standing_alone(refuser, program, rows):
     return [group + b"\n" for group in groups]
 
 
-def spread(count):
-    """The numbers of the allocations that are refused: all of them, or MOST of them if there are more."""
-    return range(1, count + 1) if count <= MOST else [1 + at * count // MOST for at in range(MOST)]
+def spread(dice, count):
+    """The numbers of the allocations that are refused: all of them, or MOST of them, spread evenly, if there are more."""
+    if count <= MOST:
+        return range(1, count + 1)
+    first = dice.randrange(count // MOST)
+    return [1 + first + at * count // MOST for at in range(MOST)]
 
 
-def sweep(tally, refuser, pool, name, program, blocks):
+def sweep(tally, dice, refuser, pool, name, program, blocks):
     """Refuses the allocations of each block. With memory the block prints the text that is given beside it."""
     runs, made, whole, others = 0, 0, 0, 0
     for block, printed in blocks:
         wanted, count = refuser.count(program, block)
         tally.check(f"{name}, {block[:60]}, with memory", wanted == (0, printed), str(wanted)[-300:])
-        ends = pool.map(lambda number: (number, refuser.run(program, block, number)), spread(count))
+        ends = pool.map(lambda number: (number, refuser.run(program, block, number)), spread(dice, count))
         for number, ended in ends:
             verdict = judge(name, ended, wanted)
             tally.check(f"{name}, {block[:60]}, allocation {number} of {count}", verdict != WRONG, str(ended)[-300:])
