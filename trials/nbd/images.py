@@ -1,0 +1,82 @@
+"""Images of a disk: which names are refused, where they go, and what an export needs of the host."""
+
+import os
+
+from trials.bucket_messages import RECORDS, is_a
+from trials.disk_array import check_and_end
+from trials.nbd.whole_disk import check_export, start_export, used_disk
+from trials.processes import end_of, start
+from trials.statuses import BAD_FILE, RECORDS_LOST
+
+
+def try_taken_names(trial):
+    """An image takes the place of nothing: whatever has its name, or the name that it has until it is whole, stays as it is. So does a
+    file that gets its name while the image is written."""
+    disk, array = used_disk(trial, "taken")
+    folder = trial.folder
+    (folder / "link.img").symlink_to("target.img")
+    os.mkfifo(folder / "pipe.img")
+    (folder / "folder.img").mkdir()
+    (folder / "half.img.unfinished").write_bytes(b"half")
+    (folder / "other.img.unfinished").symlink_to("target.img")
+    before = sorted(path.name for path in folder.iterdir())
+    taken = ["link.img", "pipe.img", "folder.img", "folder.img/", "half.img.unfinished", "taken/disk.state"]
+    for image, name in [(name, name) for name in taken] + [(f"{name}.img", f"{name}.img.unfinished") for name in ("half", "other")]:
+        end = end_of(start_export(disk, image))
+        line = f"oramdisk: {name} is there already: name another file\n".encode()
+        trial.check(f"an image {image}, where {name} is there", (end.status, end.err) == (BAD_FILE, line), end)
+    trial.check("no name that was taken is lost", sorted(path.name for path in folder.iterdir()) == before)
+    trial.check("a file that was there has its bytes", (folder / "half.img.unfinished").read_bytes() == b"half")
+
+    late = folder / "late.img"
+    disk.relay.instead = lambda body: late.write_bytes(b"late") and None if is_a(RECORDS, body) else None
+    end = end_of(start_export(disk, "late.img"))
+    disk.relay.instead = lambda body: None
+    is_told = end.err.endswith(b"oramdisk: late.img is there already: name another file\n")
+    trial.check("a name that is taken meanwhile", (end.status, is_told) == (BAD_FILE, True), end)
+    trial.check("the file that took it has its bytes", late.exists() and late.read_bytes() == b"late")
+    trial.check("the image that found its name taken is gone", not (folder / "late.img.unfinished").exists())
+    check_export(trial, "an image of a name with spaces", disk, array, "mein Gerät – 1.img")
+    check_and_end(trial, "taken: it goes on", disk, array)
+
+
+def try_lost_output(trial):
+    """An export or a check whose output goes nowhere ends with a line that says so, and leaves nothing."""
+    disk, array = used_disk(trial, "output")
+    for command, *more in (["check"], ["export", "-"]):
+        words = [trial.oramdisk, command, "output/disk.toml", *more]
+        with open("/dev/full", "wb") as full:
+            end = end_of(start(words, trial.folder, stdout=full))
+        line = b"oramdisk: standard output: the disk is full: make room on it\n"
+        trial.check(f"{command} to a full disk", end.status == BAD_FILE and end.err.endswith(line), end)
+        reader, writer = os.pipe()
+        os.close(reader)
+        end = end_of(start(words, trial.folder, stdout=writer))
+        os.close(writer)
+        line = b"oramdisk: can't open, read or write standard output: see that it is there and may be written, and that its disk has room\n"
+        trial.check(f"{command} to a pipe that nobody reads", end.status == BAD_FILE and end.err.endswith(line), end)
+    trial.check("nothing is left of that", not list(disk.folder.glob("*.export")))
+    check_and_end(trial, "output: it goes on", disk, array)
+
+
+def try_lost_map(trial):
+    """An export needs no record of the trees of the position map, so it saves all of a disk whose host has lost them. A check tells."""
+    disk, array = used_disk(trial, "lostmap", trees=2)
+    asked = []
+
+    def lose(body):
+        """The host has no record of tree 1, which is one record long."""
+        if not is_a(RECORDS, body):
+            return None
+        asked.append(body[2])
+        return b"\x80\0" if body[2] == 1 else None
+
+    disk.relay.instead = lose
+    end = end_of(disk.start("check"))
+    trial.check("a lost map: check", end.status == RECORDS_LOST and b"all sound\ntree 1: 1 record, 1 lost\n" in end.out, end)
+    trial.check("a lost map: it was asked for", 1 in asked, asked)
+    asked.clear()
+    check_export(trial, "a lost map: export", disk, array, "lostmap.img")
+    trial.check("a lost map: it wasn't asked for", set(asked) == {0}, asked)
+    disk.relay.instead = lambda body: None
+    check_and_end(trial, "a lost map: it goes on once it is back", disk, array)
