@@ -1,9 +1,13 @@
 """Images of a disk: which names are refused, where they go, and what an export needs of the host."""
 
 import os
+import shutil
+import signal
 
 from trials.bucket_messages import RECORDS, is_a
+from trials.disk import Disk
 from trials.disk_array import check_and_end
+from trials.nbd.other_clients import run_to_end
 from trials.nbd.whole_disk import check_export, start_export, used_disk
 from trials.processes import end_of, start
 from trials.statuses import BAD_FILE, RECORDS_LOST
@@ -80,3 +84,22 @@ def try_lost_map(trial):
     trial.check("a lost map: it wasn't asked for", set(asked) == {0}, asked)
     disk.relay.instead = lambda body: None
     check_and_end(trial, "a lost map: it goes on once it is back", disk, array)
+
+
+def try_brought_back(trial):
+    """An image is brought back into a new disk that is larger, and has another key and another number of trees, as docs/disk.md says. What
+    is exported of that disk after its process was killed is the image, and then zeros."""
+    if shutil.which("nbdcopy") is None:
+        trial.skip("not here: nbdcopy")
+        return
+    disk, array = used_disk(trial, "first", trees=2)
+    image = check_export(trial, "an image to bring back", disk, array, "back.img")
+    disk.host.stop()
+    larger = Disk(trial, "second", size="400kB").formatted()
+    larger.serve().client().close()
+    run_to_end(trial, "an image is copied to a new disk", "nbdcopy", "--destination-is-zero", "back.img", larger.address())
+    larger.stop(signal.SIGKILL)
+    end = end_of(start_export(larger, "larger.img"))
+    whole = (trial.folder / "larger.img").read_bytes() if end.status == 0 else b""
+    trial.check("what the new disk has", len(whole) > len(image) > 0 and whole == image.ljust(len(whole), b"\0"), (end, len(whole), len(image)))
+    larger.host.stop()
