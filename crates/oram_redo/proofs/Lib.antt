@@ -15,4 +15,9 @@ pub mod Kept
 pub mod LawProofs
 pub mod TornWrites
 pub mod Recorded
+pub mod Touched
+pub mod Blanks
+pub mod BlankLaw
+pub mod SystemReads
+pub mod SystemWrites
 pub mod Rows

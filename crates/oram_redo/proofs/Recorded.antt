@@ -1,15 +1,15 @@
 -- A pair of the system's files fulfils the contract of a pair, by the history of its calls.
 use Rattle.std.proofs.Common.{◌≡◌, inl, inr, ⊎_elim, ℕ, suc, ◌-◌, ◌≤◌, true, false, List, [], ◌∷◌, length, refl, sym, subst, arith}
 use Rattle.std.specs.Prelude.{if◌then◌else◌, Bool}
-use Rattle.oram_redo.specs.Content.{Agrees}
-use Rattle.oram_redo.specs.FilePair.{Contents, Torn, Wrote, Elapses, Follows}
+use Rattle.oram_redo.specs.FilePair.{Contents, Torn, Wrote, Elapses}
 use Rattle.oram_redo.specs.Memory.{IsOutside, LeavesBut}
 use Rattle.oram_redo.specs.Note.{Call}
-use Rattle.oram_redo.specs.System.{put_in, seen_after, is_same, ranges_of_other, ranges_after, MayLeaveAfter, HadLeftBefore, LeftSince}
+use Rattle.oram_redo.specs.Opened.{Opened}
+use Rattle.oram_redo.specs.System.{put_in, is_same, ranges_of_other, MayLeaveAfter, HadLeftBefore, LeftSince}
 use Rattle.oram_redo.specs.declared.file_pair.FileKind.{FileKind}
 use Rattle.oram_redo.specs.declared.file_pair.FileKind.TheVariants.{Records, Log}
 use Rattle.oram_redo.specs.declared.memory.Range.{Range}
-use Rattle.oram_redo.proofs.TornWrites.{torn_not, wrote_torn, leaves_torn}
+use Rattle.oram_redo.proofs.TornWrites.{leaves_torn}
 
 pub wrote_put : (file : FileKind) (at : ℕ) (bytes : List ℕ) (seen : Contents) → Wrote file at bytes seen (put_in file at bytes seen)
 wrote_put Records at bytes seen = record { there = λ i. refl; other = λ i. refl }
@@ -45,7 +45,7 @@ pub fewer_ranges : (file : FileKind) (rs : List Range) (f : FileKind) (i : ℕ) 
 fewer_ranges file [] f i out = tt
 fewer_ranges file (r ∷ rs) f i out = fewer_more file r rs f i (is_same r.file file) out (fewer_ranges file rs f i out.1)
 
-pub elapses_call : (first : Contents) (calls : List Call) (call : Call)
+pub elapses_call : (first : Opened) (calls : List Call) (call : Call)
     → Elapses (length calls) (suc (length calls)) (LeftSince first calls) (LeftSince first (call ∷ calls)) (MayLeaveAfter first (call ∷ calls))
 elapses_call first calls call = record {
   later = omega arith;
@@ -56,27 +56,21 @@ elapses_call first calls call = record {
     steps : (t : ℕ) → t ≤ length calls → suc (length calls) - t ≡ suc (length calls - t)
     steps t le = omega arith
 
-module _ (first : Contents) (calls later : List Call) where
-  pub elapses_to : (call : Call) → later ≡ call ∷ calls → Elapses (length calls) (length later) (LeftSince first calls) (LeftSince first later) (MayLeaveAfter first later)
-  elapses_to call is = subst (λ (l : List Call). Elapses (length calls) (length l) (LeftSince first calls) (LeftSince first l) (MayLeaveAfter first l)) (sym is) (elapses_call first calls call)
+-- no call: no time goes by
+pub elapses_none : (first : Opened) (calls : List Call) → Elapses (length calls) (length calls) (LeftSince first calls) (LeftSince first calls) (MayLeaveAfter first calls)
+elapses_none first calls = record { later = omega arith; nothing_else = λ t c le left. inl left; keeps = λ t c le past. past }
 
-  module _ (file : FileKind) (is : later ≡ record { kind = 3; file = file; at = 0; is_ok = true; bytes = [] } ∷ calls) where
-    pub sync_sure : (c : Contents) → MayLeaveAfter first later c → Agrees (c file) (seen_after first later file)
-    sync_sure = subst (λ (l : List Call). (c : Contents) → MayLeaveAfter first l c → Agrees (c file) (seen_after first l file)) (sym is) (λ c left i. left file i (none_of_file file (ranges_after calls) i))
-
-    pub sync_crash : (c : Contents) → MayLeaveAfter first later c → MayLeaveAfter first calls c
-    sync_crash = subst (λ (l : List Call). (c : Contents) → MayLeaveAfter first l c → MayLeaveAfter first calls c) (sym is) (λ c left f i out. left f i (fewer_ranges file (ranges_after calls) f i out))
-
-  module _ (file : FileKind) (at : ℕ) (bytes : List ℕ) where
-    pub write_torn : later ≡ record { kind = 1; file = file; at = at; is_ok = true; bytes = bytes } ∷ calls → Torn file at (length bytes) (seen_after first calls) (seen_after first later)
-    write_torn is = subst (λ (l : List Call). Torn file at (length bytes) (seen_after first calls) (seen_after first l)) (sym is)
-        (wrote_torn file at bytes (seen_after first calls) (put_in file at bytes (seen_after first calls)) (wrote_put file at bytes (seen_after first calls)))
-
-    pub write_crash : later ≡ record { kind = 1; file = file; at = at; is_ok = true; bytes = bytes } ∷ calls → Follows (Torn file at (length bytes)) (MayLeaveAfter first calls) (MayLeaveAfter first later)
-    write_crash is = subst (λ (l : List Call). Follows (Torn file at (length bytes)) (MayLeaveAfter first calls) (MayLeaveAfter first l)) (sym is)
-        (write_leaves (seen_after first calls) (put_in file at bytes (seen_after first calls)) (ranges_after calls) file at (length bytes)
-        (wrote_torn file at bytes (seen_after first calls) (put_in file at bytes (seen_after first calls)) (wrote_put file at bytes (seen_after first calls))))
-
-    pub failed_crash : later ≡ record { kind = 1; file = file; at = at; is_ok = false; bytes = bytes } ∷ calls → Follows (Torn file at (length bytes)) (MayLeaveAfter first calls) (MayLeaveAfter first later)
-    failed_crash is = subst (λ (l : List Call). Follows (Torn file at (length bytes)) (MayLeaveAfter first calls) (MayLeaveAfter first l)) (sym is)
-        (write_leaves (seen_after first calls) (seen_after first calls) (ranges_after calls) file at (length bytes) (torn_not file at (length bytes) (seen_after first calls)))
+-- some calls and then others, if a crash between them leaves only what it may leave after them
+pub elapses_then : (first : Opened) (old mid new : List Call)
+    → Elapses (length old) (length mid) (LeftSince first old) (LeftSince first mid) (MayLeaveAfter first mid)
+    → Elapses (length mid) (length new) (LeftSince first mid) (LeftSince first new) (MayLeaveAfter first new)
+    → ((c : Contents) → MayLeaveAfter first mid c → MayLeaveAfter first new c)
+    → Elapses (length old) (length new) (LeftSince first old) (LeftSince first new) (MayLeaveAfter first new)
+elapses_then first old mid new one two keeps = record {
+  later = omega (arith, one.later, two.later);
+  nothing_else = λ t c le left. ⊎_elim (λ was. ⊎_elim (λ past. inl past) (λ between. inr (keeps c between)) (one.nothing_else t c le was)) (λ now. inr now) (two.nothing_else t c (next t le) left);
+  keeps = λ t c le past. two.keeps t c (next t le) (one.keeps t c le past);
+}
+  where
+    next : (t : ℕ) → t ≤ length old → t ≤ length mid
+    next t le = omega (arith, le, one.later)

@@ -10,7 +10,7 @@ use Rattle.oram_redo.specs.declared.file_pair.FileKind.TheVariants.{Records, Log
 use Rattle.oram_redo.specs.declared.memory.Range.{Range}
 use Rattle.oram_redo.proofs.Bytes.{put_outside}
 
-kind_is : (file f : FileKind) → (f ≡ file) ⊎ (f ≡ other_than file)
+pub kind_is : (file f : FileKind) → (f ≡ file) ⊎ (f ≡ other_than file)
 kind_is Records Records = inl refl
 kind_is Records Log = inr refl
 kind_is Log Records = inr refl

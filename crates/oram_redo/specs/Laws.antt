@@ -1,8 +1,13 @@
 -- Laws of the definitions.
-use Rattle.std.specs.Prelude.{◌≡◌, List, []}
+use Rattle.std.specs.Prelude.{◌≡◌, ℕ, List, []}
+use Rattle.oram_redo.specs.Blank.{IsBlankFrom}
 use Rattle.oram_redo.specs.Content.{Content, Agrees}
 use Rattle.oram_redo.specs.FilePair.{Contents}
 use Rattle.oram_redo.specs.Log.{Patch, IsLog, AgreesBut, StandsFor, put_all}
+use Rattle.oram_redo.specs.Note.{Call}
+use Rattle.oram_redo.specs.Opened.{Opened}
+use Rattle.oram_redo.specs.System.{EndsAt, IsHonestHistory, seen_after}
+use Rattle.oram_redo.specs.declared.file_pair.FileKind.{FileKind}
 use Rattle.oram_redo.specs.declared.bounds.Bounds.{Bounds}
 
 -- A log holds only one list of patches.
@@ -16,3 +21,7 @@ FilesStandForOne = (bounds : Bounds) (loose : List Patch) (r s : Content) (files
 -- Writing patches again over whatever a crash left in their places gives the same content.
 abbrev pub ReplayHeals : Type 0
 ReplayHeals = (ps : List Patch) (c d : Content) → AgreesBut ps c d → Agrees (put_all ps c) (put_all ps d)
+
+-- From a blank place on, an honest file holds zeros. So zeros that are written there, or cut off, change nothing that a read returns.
+abbrev pub BlanksAreZeros : Type 0
+BlanksAreZeros = (first : Opened) (file : FileKind) (at : ℕ) (calls : List Call) → IsBlankFrom file at calls → IsHonestHistory first calls → EndsAt (seen_after first calls file) at

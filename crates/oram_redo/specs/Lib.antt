@@ -6,7 +6,9 @@ pub mod Batch
 pub mod Recovery
 pub mod Redo
 pub mod Steps
-pub mod Laws
 pub mod Note
+pub mod Calls
+pub mod Blank
+pub mod Opened
 pub mod System
-pub mod Fresh
+pub mod Laws

@@ -58,14 +58,15 @@ pub trait FilePair {
         ensures errors { IfErr result (λ e. e ≡ RedoError.Failed) };
 
     /// Writes bytes into the front of a file, and syncs the file. Its front is a range of places that the other methods are never
-    /// called for, so what it holds is no part of `seen`, and no contract says it.
+    /// called for, so what it holds is no part of `seen`, and no contract says it. If there is no room for the bytes, any part of them
+    /// may be written, and the call may be made again.
     fn write_front(&mut self, file: FileKind, at: u64, bytes: &[u8]) -> Result<(), RedoError>
         ensures seen { Same (model.seen self.new) (model.seen self.old) }
         ensures crash { (c : Contents) → model.may_leave self.new c → model.may_leave self.old c }
         ensures time { TimeGoesOn model self.old self.new }
         ensures after { ComesAfter model self.old self.new }
         ensures cause { HasCause model self.old self.new result }
-        ensures errors { IfErr result (λ e. e ≡ RedoError.Failed) };
+        ensures errors { IfErr result (λ e. (e ≡ RedoError.NoRoom) ⊎ (e ≡ RedoError.Failed)) };
 
     /// Returns the number of the system's error for which a call failed last, if the system gave one.
     fn errno(&self) -> Option<i32>;

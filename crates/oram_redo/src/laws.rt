@@ -3,7 +3,7 @@
 ghost use Rattle.std.specs.Prelude.{◌≡◌, ℕ, [], All, OnOk};
 ghost use Rattle.oram_redo.specs.Batch.{patches_of};
 ghost use Rattle.oram_redo.specs.FilePair.{Contents};
-ghost use Rattle.oram_redo.specs.Laws.{FilesStandForOne, LogsAreOne, ReplayHeals};
+ghost use Rattle.oram_redo.specs.Laws.{BlanksAreZeros, FilesStandForOne, LogsAreOne, ReplayHeals};
 ghost use Rattle.oram_redo.specs.Log.{Fits, Keeps, StandsFor, put_all};
 ghost use Rattle.oram_redo.specs.Redo.{IsCrashConsistent, bounds_of};
 
@@ -19,6 +19,11 @@ pub fn one_reading()
 /// Replaying a log gives the same records, whatever a crash has left in the places that it writes to.
 pub fn replay_heals()
     ensures { ReplayHeals }
+{}
+
+/// From a blank place on, an honest file of the system holds zeros.
+pub fn blanks_are_zeros()
+    ensures { BlanksAreZeros }
 {}
 
 /// Between two calls, whatever a crash leaves stands for the records that are read, except in loose places.

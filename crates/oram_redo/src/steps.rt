@@ -88,7 +88,8 @@ pub fn write_fronts<F: FilePair>(
     records: &[u8],
 ) -> Result<(), RedoError>
     ensures nothing_written { WritesNothing F.model files.old files.new }
-    ensures failed { IfErr result (λ e. (e ≡ RedoError.Failed) × HasFailed F.model files.old files.new) }
+    ensures cause { HasCause F.model files.old files.new result }
+    ensures errors { IfErr result (λ e. (e ≡ RedoError.NoRoom) ⊎ (e ≡ RedoError.Failed)) }
     ensures after { ComesAfter F.model files.old files.new }
 {
     files.write_front(FileKind::Log, at, log)?;

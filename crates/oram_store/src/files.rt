@@ -2,21 +2,30 @@
 //!
 //! This looks at what is at a path before it writes anything there.
 ghost use Rattle.std.specs.Path.{path_parent};
-ghost use Rattle.std.specs.Prelude.{◌≡◌, ◌≢◌, ◌⊎◌, ◌≤◌, ◌↔◌, ◌++◌, ◌∷◌, [], ℕ, List, true, false, length, take, codes, string_bytes, Err, None, Ok, Some, IfErr, IfOk, IsOk, IsTrue};
+ghost use Rattle.std.specs.Prelude.{◌≡◌, ◌≢◌, ◌⊎◌, ◌↔◌, ◌++◌, ◌∷◌, [], ℕ, List, true, false, take, codes, string_bytes, Err, None, Ok, Some, IfErr, IfOk, IsOk, IsTrue};
+ghost use Rattle.oram_layout.specs.BucketFile.{IsBucketFile};
 ghost use Rattle.oram_layout.specs.Fronts.{IsFront, IsNewer, IsOlder, log_letters, sqlite_letters};
 ghost use Rattle.oram_layout.specs.Header.{letters};
+ghost use Rattle.oram_layout.specs.Records.{AreKept, records_in};
+ghost use Rattle.oram_layout.specs.Trees.{Trees};
 ghost use Rattle.oram_layout.specs.declared.fronts.Identity.{Identity};
+ghost use Rattle.oram_redo.specs.Content.{Content};
+ghost use Rattle.oram_redo.specs.Log.{StandsFor};
+ghost use Rattle.oram_redo.specs.Opened.{Opened, contents_in};
+ghost use Rattle.oram_store.specs.KeptRecords.{IsSound, records_of};
+ghost use Rattle.oram_store.specs.RecordFile.{bounds};
 
 use crate::creation::create;
 use crate::faults::StoreFault;
 use crate::matching::check_generations;
 use crate::record_file::BOUNDS;
 use crate::store::FileStore;
+use crate::written_again::{bytes_at, lacks_room, write_again};
 use oram_layout::{
     FRONT_LEN, Front, Generation, Identity, Newest, WHOLE_FRONT_LEN, newest_in, read_front,
     read_log_front,
 };
-use oram_redo::{FileKind, OPEN, SHUT, SystemPair, Unknown, write_fronts};
+use oram_redo::{FileKind, FilePair, OPEN, SHUT, SystemPair, write_fronts};
 use std::alloc::{AllocError, Global};
 use std::fs::{File, OpenFile, OpenOptions, TryLockError};
 use std::io::ErrorKind;
@@ -29,7 +38,7 @@ use std::{fs, io};
 const LARGE_BLOCK: usize = 1 << 22;
 
 /// A store in a file.
-pub type BucketFile = FileStore<SystemPair<Unknown>>;
+pub type BucketFile = FileStore<SystemPair>;
 
 /// The mode of a file that only its owner may read and write.
 const OWNERS_ALONE: u32 = 0o600;
@@ -44,17 +53,17 @@ const OWNERS_ALONE: u32 = 0o600;
 /// After the disk has failed (`StoreFault::Io`, `StoreFault::Closed`), drop the store and open its file again with this
 /// function: everything that was acknowledged and committed is there.
 pub fn open_store(rt: &HostRuntime, alloc: Global, path: &str) -> Result<BucketFile, StoreFault>
-    // No record waits to be committed, and the store hasn't stopped. No clause can say what it found in the files: for
-    // files that are known, see `FileStore::over`.
+    // No record waits to be committed, and the store hasn't stopped. What it finds in files that are there is said by
+    // `open_pair`, for all bytes that they may hold.
     ensures { IfOk result (λ store. (store.pending ≡ []) × (store.failure ≡ None) × (store.file.has_stopped ≡ false)) }
 {
     keep_freed_memory(alloc);
-    let (files, generation) = if is_there(rt, path)? {
-        open_files(rt, alloc, path)?
+    let mut store = if is_there(rt, path)? {
+        open_old(rt, alloc, path)?
     } else {
-        make_files(rt, alloc, path)?
+        let (files, generation) = make_files(rt, alloc, path)?;
+        FileStore::over(alloc, files, generation)?
     };
-    let mut store = FileStore::over(alloc, files, generation)?;
     // So a copy of the log that was made while no host ran is told from the log that this one goes on with.
     if !store.has_empty_log() {
         store.empty_log()?;
@@ -118,23 +127,6 @@ fn lock(file: &File) -> Result<(), StoreFault> {
         Err(TryLockError::WouldBlock) => Err(StoreFault::Busy),
         Err(TryLockError::Error(error)) => Err(error.into()),
     }
-}
-
-/// Reads the bytes at a place of a file, as many as there are, and returns their number.
-fn bytes_at(file: &File, at: u64, bytes: &mut [u8]) -> io::Result<usize>
-    ensures { IfOk result (λ len. len ≤ length bytes.new) }
-{
-    let mut got = 0;
-    while got < bytes.len() {
-        let Some(from) = at.checked_add(got as u64) else {
-            break;
-        };
-        match file.read_at(&mut bytes[got..], from)? {
-            0 => break,
-            n => got += n,
-        }
-    }
-    Ok(got)
 }
 
 /// Returns the identity of a file of buckets.
@@ -233,24 +225,56 @@ fn check_log_front(front: &[u8], identity: &Identity) -> Result<(), StoreFault>
     }
 }
 
-/// Opens the file of a store, and its log. Returns the log's generation, too.
+/// Opens the file of a store that is there, and its log.
+fn open_old(rt: &HostRuntime, alloc: Global, path: &str) -> Result<BucketFile, StoreFault>
+    ensures { IfOk result (λ store. (store.pending ≡ []) × (store.failure ≡ None) × (store.file.has_stopped ≡ false)) }
+{
+    let (records, log, generation) = open_files(rt, alloc, path)?;
+    open_pair(alloc, records, log, generation)
+}
+
+/// Opens a store over its file and its log, whatever they hold, which `held` says. The caller has to look at their fronts first, and gives
+/// the generation of the log that they say.
+pub fn open_pair(
+    alloc: Global,
+    records: File,
+    log: File,
+    generation: Generation,
+) -> Result<BucketFile, StoreFault>
+    ghost held: { Opened }
+    // If the files stand for the content of a bucket file, the store has its trees and its records.
+    ensures found { IfOk result (λ store. ⟦<SystemPair as FilePair>⟧.model.is_honest store.file.files → (trees : Trees) (c : Content)
+        → StandsFor bounds [] c (contents_in held) → IsBucketFile trees c
+        → (store.trees ≡ trees) × IsSound ⟦<SystemPair as FilePair>⟧.model store × AreKept (records_in trees c) (records_of ⟦<SystemPair as FilePair>⟧.model store)) }
+    ensures fresh { IfOk result (λ store. (store.pending ≡ []) × (store.failure ≡ None) × (store.file.has_stopped ≡ false)) }
+{
+    let files = SystemPair::new(records, log, BOUNDS.log_end);
+    FileStore::over(alloc, files, generation)
+}
+
+/// Opens the file of a store and its log, looks at what their fronts say, and locks the file. Returns the log's generation, too.
 fn open_files(
     rt: &HostRuntime,
     alloc: Global,
     path: &str,
-) -> Result<(SystemPair<Unknown>, Generation), StoreFault> {
+) -> Result<(File, File, Generation), StoreFault> {
     let records = open_plain(rt, path, StoreFault::NotABucketFile)?;
     let identity = identity_of(&records)?;
     lock(&records)?;
     let log = open_log(rt, alloc, path, &identity)?;
     let (generation, is_behind) = generation_of(&records, &log, &identity)?;
-    say_again(&records, &generation, is_behind)?;
-    let files = SystemPair::new(Unknown, records, log, BOUNDS.log_end)?;
-    Ok((files, generation))
+    write_again(&log)?;
+    // What the file says of a log with entries was synced before the first of them was written.
+    if !has_entries(&log)? {
+        log.sync_all()?;
+        say_again(&records, &generation, is_behind)?;
+    }
+    Ok((records, log, generation))
 }
 
-/// Writes the log's generation into the front of the file, although the file may say it already: if a sync has failed, in this
-/// process or an earlier one, a read may return a number that the disk lacks. The sync that follows covers it.
+/// Writes the generation of a log without entries into the front of the file, although the file may say it already: if a sync has
+/// failed, in this process or an earlier one, a read may return a number that the disk lacks. The sync that follows covers it. If a
+/// crash spoils it, the file says the number before, which is taken beside a log without entries. So that log has to be synced first.
 fn say_again(records: &File, generation: &Generation, is_behind: bool) -> io::Result<()> {
     let field = generation.field(FileKind::Records);
     match records.write_all_at(&field, generation.place()) {
@@ -258,14 +282,6 @@ fn say_again(records: &File, generation: &Generation, is_behind: bool) -> io::Re
         Err(error) if !is_behind && lacks_room(&error) => Ok(()),
         written => written,
     }
-}
-
-/// Returns whether a write failed because it found no room.
-fn lacks_room(error: &io::Error) -> bool {
-    matches!(
-        error.kind(),
-        ErrorKind::StorageFull | ErrorKind::QuotaExceeded
-    )
 }
 
 /// Opens the log of a file with this identity, at the path that any links on the way to the file lead to.
@@ -350,7 +366,7 @@ fn make_files(
     rt: &HostRuntime,
     alloc: Global,
     path: &str,
-) -> Result<(SystemPair<Unknown>, Generation), StoreFault> {
+) -> Result<(SystemPair, Generation), StoreFault> {
     let log_name = log_name(alloc, path)?;
     check_no_log(rt, log_name.as_str())?;
     make_and_rename(rt, alloc, path, log_name.as_str())
@@ -363,7 +379,7 @@ fn make_and_rename(
     alloc: Global,
     path: &str,
     log_name: &str,
-) -> Result<(SystemPair<Unknown>, Generation), StoreFault> {
+) -> Result<(SystemPair, Generation), StoreFault> {
     let (new_file, new_log) = (new_name(alloc, path)?, new_name(alloc, log_name)?);
     let records = open_new_locked(rt, new_file.as_str(), path)?;
     let files = make_empty(rt, records, new_log.as_str())?;
@@ -373,7 +389,7 @@ fn make_and_rename(
 }
 
 /// Has the fronts of both files say this generation.
-fn say_both(files: &mut SystemPair<Unknown>, generation: &Generation) -> Result<(), StoreFault> {
+fn say_both(files: &mut SystemPair, generation: &Generation) -> Result<(), StoreFault> {
     let (log, records) = (
         generation.field(FileKind::Log),
         generation.field(FileKind::Records),
@@ -397,11 +413,11 @@ fn make_empty(
     rt: &HostRuntime,
     records: File,
     log_name: &str,
-) -> Result<(SystemPair<Unknown>, Generation), StoreFault> {
+) -> Result<(SystemPair, Generation), StoreFault> {
     let log = open_new(rt, log_name)?;
     records.set_len(0)?;
     log.set_len(0)?;
-    let mut files = SystemPair::new(Unknown, records, log, BOUNDS.log_end)?;
+    let mut files = SystemPair::new(records, log, BOUNDS.log_end);
     let first = Generation::first(new_identity(rt)?);
     create(&mut files, &first.identity)?;
     say_both(&mut files, &first.before())?;

@@ -19,9 +19,10 @@ mod record_file;
 mod rows;
 mod sinks;
 mod store;
+mod written_again;
 
 pub use creation::create;
 pub use faults::StoreFault;
-pub use files::{BucketFile, open_store};
+pub use files::{BucketFile, open_pair, open_store};
 pub use laws::{first_life, found_again, identity_stays};
 pub use store::{DISK_IDENTITY_TREE, FileStore};

@@ -161,7 +161,8 @@ impl<F: FilePair> RecordFile<F> {
         ensures empty { OnOk result (end_of self.new.redo ≡ bounds.log_start) }
         ensures sure { OnOk result (self.new.is_loose ≡ false) }
         ensures same { Agrees (F.model.seen self.new.files Records) (F.model.seen self.old.files Records) }
-        ensures errors { IfErr result (λ fault. (fault ≡ StoreFault.Io) ⊎ (fault ≡ StoreFault.Closed)) }
+        ensures errors { IfErr result (λ fault. (fault ≡ StoreFault.NoRoom) ⊎ (fault ≡ StoreFault.Io) ⊎ (fault ≡ StoreFault.Closed)) }
+        ensures no_room { IsErrOf result StoreFault.NoRoom → end_of self.new.redo ≡ bounds.log_start }
         ensures calls { Calls F.model result self.old self.new }
         ensures running { OnOk result (self.new.has_stopped ≡ false) }
     {
@@ -178,7 +179,8 @@ impl<F: FilePair> RecordFile<F> {
         ensures empty { OnOk result (end_of self.new.redo ≡ bounds.log_start) }
         ensures sure { OnOk result (self.new.is_loose ≡ false) }
         ensures same { Agrees (F.model.seen self.new.files Records) (F.model.seen self.old.files Records) }
-        ensures errors { IfErr result (λ fault. (fault ≡ StoreFault.Io) ⊎ (fault ≡ StoreFault.Closed)) }
+        ensures errors { IfErr result (λ fault. (fault ≡ StoreFault.NoRoom) ⊎ (fault ≡ StoreFault.Io) ⊎ (fault ≡ StoreFault.Closed)) }
+        ensures no_room { IsErrOf result StoreFault.NoRoom → end_of self.new.redo ≡ bounds.log_start }
         ensures calls { Calls F.model result self.old self.new }
         ensures running { OnOk result (self.new.has_stopped ≡ false) }
     {
@@ -210,10 +212,11 @@ impl<F: FilePair> RecordFile<F> {
     }
 
     /// Has both fronts say that the log, which has no entries, begins a new generation. The log's front says it first: so what a
-    /// crash leaves is a file and a log of one generation, or a log without entries that is one ahead.
+    /// crash leaves is a file and a log of one generation, or a log without entries that is one ahead. If there is no room, the file
+    /// goes on, and the next call tries again.
     fn begin_generation(&mut self) -> Result<(), StoreFault>
         ensures reads { ReadsOnly F.model self.old self.new }
-        ensures errors { IfErr result (λ fault. (fault ≡ StoreFault.Io) ⊎ (fault ≡ StoreFault.Closed)) }
+        ensures errors { IfErr result (λ fault. (fault ≡ StoreFault.NoRoom) ⊎ (fault ≡ StoreFault.Io) ⊎ (fault ≡ StoreFault.Closed)) }
         ensures calls { Calls F.model result self.old self.new }
         ensures running { OnOk result (self.new.has_stopped ≡ false) }
     {
@@ -238,7 +241,8 @@ impl<F: FilePair> RecordFile<F> {
             → Passes F.model [] (λ r. AgreesBut loose r (F.model.seen self.old.files Records)) self.old self.new }
         ensures sure { OnOk result (self.new.is_loose ≡ false) }
         ensures same { Agrees (F.model.seen self.new.files Records) (F.model.seen self.old.files Records) }
-        ensures errors { IfErr result (λ fault. (fault ≡ StoreFault.Io) ⊎ (fault ≡ StoreFault.Closed)) }
+        ensures errors { IfErr result (λ fault. (fault ≡ StoreFault.NoRoom) ⊎ (fault ≡ StoreFault.Io) ⊎ (fault ≡ StoreFault.Closed)) }
+        ensures no_room { IsErrOf result StoreFault.NoRoom → end_of self.new.redo ≡ bounds.log_start }
         ensures calls { Calls F.model result self.old self.new }
     {
         if self.is_loose {

@@ -1,5 +1,5 @@
 use Rattle.std.proofs.Common.{◌-◌, ◌≤◌, length}
-use Rattle.oram_store.proofs.files.bytes_at.Given as goal
+use Rattle.oram_store.proofs.written_again.bytes_at.Given as goal
 
 abbrev pub invariant-loop-got : goal.invariant-loop-got
 invariant-loop-got l = l.got ≤ length l.bytes

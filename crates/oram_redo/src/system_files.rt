@@ -1,0 +1,143 @@
+//! The system's calls on a pair of files, each in a method that makes one call and notes it.
+//!
+//! No contract of the standard library says what a file of the system returns. So each method notes its call and the result in a
+//! history that only contracts read, and the definitions say what such a history means. The prover can't check that a method really makes
+//! the call that it notes: for that, read this file. Everything that is built on these calls is proved.
+//!
+//! Three calls aren't noted, since they change nothing that a read of the pair returns and nothing that a crash may leave: zeros
+//! that make the log longer, cutting them off again, and a write into the front of a file. Each requires what makes that true.
+ghost use Rattle.std.specs.Prelude.{◌≡◌, ◌<◌, ◌≤◌, ◌+◌, [], ◌∷◌, true, false, length, take, IfErr, IfOk, OnErr, OnOk};
+ghost use Rattle.oram_redo.specs.Blank.{IsBlankFrom};
+ghost use Rattle.oram_redo.specs.Calls.{calls_of};
+
+use crate::FileKind;
+use crate::call_history::CallHistory;
+use std::fs::File;
+use std::io;
+use std::os::unix::fs::FileExt;
+
+/// The length of the front of each file, in bytes. Nothing but a write into the front may rest on what the front holds.
+pub(crate) const FRONT_LEN: u64 = 4_096;
+
+/// The most zeros that one call writes.
+pub(crate) const ZEROS_LEN: usize = 4_096;
+
+const ZEROS: [u8; ZEROS_LEN] = [0; ZEROS_LEN];
+
+const WRITE: u64 = 1;
+
+const READ: u64 = 2;
+
+const SYNC: u64 = 3;
+
+const LENGTH: u64 = 4;
+
+/// Two files of the system, both open for reading and writing, and the calls that were made on them.
+#[derive(Drop)]
+pub(crate) struct SystemFiles {
+    records: File,
+    log: File,
+    history: CallHistory,
+}
+
+impl SystemFiles {
+    pub(crate) fn new(records: File, log: File) -> SystemFiles
+        ensures { calls_of result ≡ [] }
+    {
+        SystemFiles {
+            records,
+            log,
+            history: CallHistory::new(),
+        }
+    }
+
+    fn file(&self, file: FileKind) -> &File {
+        match file {
+            FileKind::Records => &self.records,
+            FileKind::Log => &self.log,
+        }
+    }
+
+    fn note(&mut self, kind: u64, file: FileKind, at: u64, is_ok: bool, bytes: &[u8])
+        ensures { calls_of self.new ≡ record { kind = kind; file = file; at = at; is_ok = is_ok; bytes = bytes.now } ∷ calls_of self.old }
+    {
+        match file {
+            FileKind::Records => self.history.note(&[kind, 0, at, u64::from(is_ok)], bytes),
+            FileKind::Log => self.history.note(&[kind, 1, at, u64::from(is_ok)], bytes),
+        }
+    }
+
+    /// Reads into `bytes`, and returns how many bytes the system gave. It gives none only at the end of the file.
+    pub(crate) fn read_at(&mut self, file: FileKind, at: u64, bytes: &mut [u8]) -> io::Result<usize>
+        requires { 0 < length bytes.old }
+        ensures count { IfOk result (λ n. n ≤ length bytes.new) }
+        ensures noted { IfOk result (λ n. calls_of self.new ≡ record { kind = 2; file = file; at = at; is_ok = true; bytes = take n bytes.new } ∷ calls_of self.old) }
+        ensures err { OnErr result (calls_of self.new ≡ calls_of self.old) }
+    {
+        let len = self.file(file).read_at(bytes, at)?;
+        self.note(READ, file, at, true, &bytes[..len]);
+        Ok(len)
+    }
+
+    /// Writes `bytes`, and returns how many of them the system took.
+    pub(crate) fn write_at(&mut self, file: FileKind, at: u64, bytes: &[u8]) -> io::Result<usize>
+        ensures count { IfOk result (λ n. n ≤ length bytes.now) }
+        ensures noted { IfOk result (λ n. calls_of self.new ≡ record { kind = 1; file = file; at = at; is_ok = true; bytes = take n bytes.now } ∷ calls_of self.old) }
+        ensures err { OnErr result (calls_of self.new ≡ record { kind = 1; file = file; at = at; is_ok = false; bytes = bytes.now } ∷ calls_of self.old) }
+    {
+        match self.file(file).write_at(bytes, at) {
+            Ok(len) => {
+                self.note(WRITE, file, at, true, &bytes[..len]);
+                Ok(len)
+            }
+            Err(error) => {
+                self.note(WRITE, file, at, false, bytes);
+                Err(error)
+            }
+        }
+    }
+
+    /// Syncs a file.
+    pub(crate) fn sync(&mut self, file: FileKind) -> io::Result<()>
+        ensures noted { OnOk result (calls_of self.new ≡ record { kind = 3; file = file; at = 0; is_ok = true; bytes = [] } ∷ calls_of self.old) }
+        ensures err { OnErr result (calls_of self.new ≡ calls_of self.old) }
+    {
+        self.file(file).sync_data()?;
+        self.note(SYNC, file, 0, true, &[]);
+        Ok(())
+    }
+
+    /// Returns the length of a file.
+    pub(crate) fn len(&mut self, file: FileKind) -> io::Result<u64>
+        ensures noted { IfOk result (λ len. calls_of self.new ≡ record { kind = 4; file = file; at = len; is_ok = true; bytes = [] } ∷ calls_of self.old) }
+        ensures err { OnErr result (calls_of self.new ≡ calls_of self.old) }
+    {
+        let len = self.file(file).metadata()?.len();
+        self.note(LENGTH, file, len, true, &[]);
+        Ok(len)
+    }
+
+    /// Writes zeros into the log behind its end, and returns how many the system took.
+    pub(crate) fn write_zeros(&self, at: u64, len: usize) -> io::Result<usize>
+        requires blank { IsBlankFrom FileKind.Log at (calls_of self.now) }
+        requires within { len ≤ ZEROS_LEN }
+        ensures { IfOk result (λ n. n ≤ len) }
+    {
+        self.log.write_at(&ZEROS[..len], at)
+    }
+
+    /// Cuts off zeros at the end of the log.
+    pub(crate) fn cut_zeros(&self, len: u64) -> io::Result<()>
+        requires { IsBlankFrom FileKind.Log len (calls_of self.now) }
+    {
+        self.log.set_len(len)
+    }
+
+    /// Writes `bytes` into the front of a file, and returns how many of them the system took.
+    pub(crate) fn write_front(&self, file: FileKind, at: u64, bytes: &[u8]) -> io::Result<usize>
+        requires { at + length bytes.now ≤ FRONT_LEN }
+        ensures { IfOk result (λ n. n ≤ length bytes.now) }
+    {
+        self.file(file).write_at(bytes, at)
+    }
+}
