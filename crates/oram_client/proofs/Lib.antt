@@ -7,6 +7,8 @@ pub mod Streamed
 pub mod Formatted
 pub mod Greeted
 pub mod Tries
+pub mod SentAhead
+pub mod AskedAhead
 pub mod OneHostTries
 pub mod Reached
 pub mod TwoTries

@@ -2,6 +2,7 @@ pub mod KeptFile
 pub mod Keys
 pub mod FileKeeper
 pub mod Reconnect
+pub mod Pipelined
 pub mod StreamBatches
 pub mod TreesApart
 pub mod BatchExchanges

@@ -179,14 +179,14 @@ two_tries = (store_body 0 0 ones, Ok done_answer) ∷ (fetch_body 0 0, Err Close
 
 -- a link with a reconnect timeout of one second, before it has opened a connection
 abbrev pub fresh : ReconnectState ℕ Bytes
-fresh = record { dialer = 0; line = None; reconnect_timeout = 1000; trouble = None }
+fresh = record { dialer = 0; line = None; reconnect_timeout = 1000; trouble = None; awaited = None }
 
 -- the second connection, after it has carried the batch
 abbrev pub emptied : Bytes
 emptied = record { reader = []; writer = frame (store_body 0 0 ones) ++ frame (fetch_body 0 0); disk = this_disk; closed = false }
 
 abbrev pub done_link : ReconnectState ℕ Bytes
-done_link = record { dialer = 2; line = Some emptied; reconnect_timeout = 1000; trouble = None }
+done_link = record { dialer = 2; line = Some emptied; reconnect_timeout = 1000; trouble = None; awaited = None }
 
 -- The batch sends both messages again, and all connections lead to the host, which is honest in all exchanges.
 abbrev pub TwoTriesExample : Type 0

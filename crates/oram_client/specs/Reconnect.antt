@@ -8,6 +8,7 @@ use Rattle.oram_link_laws.specs.Runs.{Exchange}
 use Rattle.oram_rounds.specs.Batches.{BatchOutcome}
 use Rattle.oram_client.specs.Attempts.{Attempt, link_outcome}
 use Rattle.oram_client.specs.Dialer.{lacks_memory, may_pass}
+use Rattle.oram_client.specs.declared.awaited.Awaited.{Awaited}
 use Rattle.oram_client.specs.declared.dialer.Limits.{Limits}
 use Rattle.oram_client.specs.declared.dialer.Trouble.{Trouble}
 use Rattle.oram_client.specs.declared.dialer.Trouble.TheVariants.{OutOfReach, NoRoom}
@@ -18,6 +19,7 @@ pub record ReconnectState (D L : Type 0) : Type 0 where
   pub line : Option L
   pub reconnect_timeout : ℕ
   pub trouble : Option Trouble  -- why it gave up, once it has
+  pub awaited : Option (Awaited L)  -- what was sent ahead of its answers; it has the open connection then
 
 -- Why an attempt has to be made again: not all messages were answered, or the host had no room for one of them. `None` if
 -- the attempt has something for the caller: the answers, or that memory ran out.

@@ -16,7 +16,7 @@ use Rattle.oram_client.specs.Attempts.{Attempt, attempt_for, link_outcome}
 use Rattle.oram_client.specs.Dialer.{Destination, IsGreeted, IsUngreeted, mismatch_trouble, stamps_question}
 use Rattle.oram_client.specs.StampMessages.{stamp_put}
 use Rattle.oram_client.specs.declared.identity.TheConstants.{STAMP_TREE}
-use Rattle.oram_client.specs.StreamBatches.{Connection, StreamBatch}
+use Rattle.oram_client.specs.StreamBatches.{Connection, StreamAsk, StreamBatch}
 use Rattle.oram_client.specs.declared.dialer.Trouble.{Trouble}
 use Rattle.oram_client.specs.declared.dialer.Trouble.TheVariants.{OutOfReach, NoRoom, AnotherDisk, NoDisk, OlderState, OlderHost, NoStamps}
 
@@ -153,3 +153,7 @@ module _ {S : Type 0} (remaining contents : S → Option (List ℕ)) where
   abbrev pub CarriesStamped : Destination → Line → List (List ℕ) → Attempt → List Exchange → Destination → Line → Type 0
   CarriesStamped d line bodies came exchanges e line' =
       IsUnsent d line came exchanges e line' ⊎ IsPlain d line bodies came exchanges e line' ⊎ IsBetween d line bodies came exchanges e line'
+
+-- Messages may go ahead of their answers only if their batch needs no stamps.
+abbrev pub AsksPlainly : {S : Type 0} → (S → Option (List ℕ)) → Destination → Connection S S → List (List ℕ) → Connection S S → Type 0
+AsksPlainly contents d line bodies line' = IsSettled d.known × StreamAsk contents line bodies line'

@@ -94,6 +94,14 @@ pub record AreSent {W : Type 0} (contents : W → Option (List ℕ)) (writer : W
   pub fit : All IsBody bodies
   pub wrote : Appends (contents writer) (contents writer') (flat_map frame bodies)
 
+-- The messages of a batch were sent over an open connection, and nothing was read.
+pub record StreamAsk {R W : Type 0} (contents : W → Option (List ℕ)) (l : Connection R W) (bodies : List (List ℕ)) (m : Connection R W) : Type 0 where
+  pub was_open : l.closed ≡ false
+  pub is_open : m.closed ≡ false
+  pub sent : AreSent contents l.writer bodies m.writer
+  pub unread : m.reader ≡ l.reader
+  pub disk : m.disk ≡ l.disk
+
 -- Nothing goes over a closed connection.
 pub record IsClosed {R W : Type 0} (l : Connection R W) (o : BatchOutcome) (exchanges : List Exchange) (m : Connection R W) : Type 0 where
   pub says : o ≡ Err Closed

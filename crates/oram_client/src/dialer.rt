@@ -3,7 +3,9 @@ ghost use Rattle.std.specs.Prelude.{◌≡◌, ◌++◌, ℕ, List, Option, IfOk
 ghost use Rattle.oram_client.specs.Attempts.{Attempt, DialersAreBatches, attempt_of};
 ghost use Rattle.oram_link_laws.specs.Runs.{Exchange};
 ghost use Rattle.oram_rounds.specs.Batches.{texts};
+ghost use Rattle.oram_client.specs.Pipelined.{EndsCarrying, IsSending};
 
+use crate::awaited::Sending;
 use oram_cli::SocketFault;
 use oram_session::LinkFault;
 use oram_stamps::Mismatch;
@@ -176,6 +178,9 @@ pub trait Dial {
     /// exchanges with the host. It turns the dialer from `old` into `new`, and the connection into `line'`.
     ghost carries: { Self → Self.Line → List (List ℕ) → Attempt → List Exchange → Self → Self.Line → Type 0 };
 
+    /// `asks dialer line bodies line'`: these messages were sent ahead of their answers over `line`, which became `line'`.
+    ghost asks: { Self → Self.Line → List (List ℕ) → Self.Line → Type 0 };
+
     /// The bytes that the dialer wants to have kept with its process.
     ghost notes: { Self → List ℕ };
 
@@ -198,6 +203,20 @@ pub trait Dial {
         last: &[Vec<u8>],
     ) -> Result<Vec<Vec<u8>>, Trouble>
         ensures { (exchanges : List Exchange) × carries self.old line.old (texts first.now ++ texts last.now) (attempt_of result) exchanges self.new line.new };
+
+    /// Sends the messages of a batch over a connection that this dialer has opened, and reads nothing. If they have to go otherwise,
+    /// nothing is sent. If sending fails, that is the outcome of the batch.
+    fn ask(&self, alloc: Global, line: Self::Line, bodies: &[Vec<u8>]) -> Sending<Self::Line>
+        ensures { IsSending asks carries self.now line (texts bodies.now) result };
+
+    /// Returns the answers to the messages that `ask` has just sent over a connection, in their order.
+    fn hear(
+        &self,
+        alloc: Global,
+        line: &mut Self::Line,
+        bodies: &[Vec<u8>],
+    ) -> Result<Vec<Vec<u8>>, Trouble>
+        ensures { EndsCarrying asks carries self.now (texts bodies.now) line.old (attempt_of result) line.new };
 
     /// Returns the dialer's note, which may be empty.
     fn note(&self, alloc: Global) -> Result<Vec<u8>, AllocError>

@@ -14,6 +14,7 @@
 
 mod ahead;
 mod answer_lengths;
+mod awaited;
 mod deed_history;
 mod dialer;
 mod disk_format;
@@ -35,9 +36,11 @@ mod refusals;
 mod stream_batches;
 mod tcp_dialer;
 mod timed_link;
+mod trouble_reporter;
 
 pub use ahead::{Ahead, Progress};
 pub use answer_lengths::AnswerLengths;
+pub use awaited::{Awaited, Sending};
 pub use deed_history::DeedHistory;
 pub use dialer::{Dial, HostWatch, Limits, Trouble};
 pub use disk_format::format_ahead;

@@ -1,14 +1,18 @@
 //! A link that tries until its host answers.
-ghost use Rattle.std.specs.Prelude.{◌≡◌, ◌≢◌, ◌++◌, ◌*◌, ◌-◌, ◌<◌, ◌≤◌, ◌^◌, [], ◌∷◌, List, None, Some, min, IfOk, IfErr, IfSome, MatchBool, MatchOption};
+ghost use Rattle.std.specs.Prelude.{◌≡◌, ◌≢◌, ◌⊎◌, ◌++◌, ◌*◌, ◌-◌, ◌<◌, ◌≤◌, ◌^◌, [], ◌∷◌, List, None, Some, min, IfOk, IfErr, IfSome, MatchBool, MatchOption, MatchResult};
 ghost use Rattle.oram_wire.specs.HostMessages.{no_room_answer};
 ghost use Rattle.oram_link_laws.specs.Repair.{IsAmong};
 ghost use Rattle.oram_link_laws.specs.Runs.{Exchange};
 ghost use Rattle.oram_rounds.specs.Batches.{BatchOutcome, batch_outcome_of, texts};
 ghost use Rattle.oram_client.specs.Attempts.{attempt_of, link_outcome};
+ghost use Rattle.oram_client.specs.Pipelined.{EndsAwaited, EndsTry, GoesOn};
 ghost use Rattle.oram_client.specs.Reconnect.{HasLine, IsPaused, IsReached, IsTimedOut, IsTried, IsTroubleIn, MakesTries, ReconnectBatch, dialer_kind, elapsed, limits, time_left};
 
+use crate::awaited::{Awaited, Sending};
 use crate::dialer::{Dial, HostWatch, Limits, Trouble};
+use crate::trouble_reporter::TroubleReporter;
 use oram_host::HostRefusal;
+use oram_pipeline::PipelinedLink;
 use oram_rounds::BatchLink;
 use oram_session::LinkFault;
 use oram_wire::REFUSED;
@@ -31,43 +35,6 @@ const MOST_SILENCE: u64 = 60_000;
 /// the reconnect timeout is shorter.
 const LEAST_BATCH: u64 = 20_000;
 
-/// Reports each trouble to the watch only once until the host has answered again.
-#[derive(Debug, Drop)]
-struct TroubleReporter<W> {
-    watch: W,
-    lost: bool,
-    full: bool,
-}
-
-impl<W: HostWatch> TroubleReporter<W> {
-    fn report_trouble(&mut self, trouble: Trouble) {
-        match trouble {
-            Trouble::OutOfReach(_) => {
-                if !self.lost {
-                    self.lost = true;
-                    self.watch.lost();
-                }
-            }
-            Trouble::NoRoom => {
-                if !self.full {
-                    self.full = true;
-                    self.watch.full();
-                }
-            }
-            // The link gives up, and its program says why.
-            _ => {}
-        }
-    }
-
-    fn report_answer(&mut self) {
-        if self.lost || self.full {
-            self.lost = false;
-            self.full = false;
-            self.watch.back();
-        }
-    }
-}
-
 /// How long messages that have no answers yet go on waiting, in milliseconds.
 #[derive(Clone, Copy, Debug)]
 struct Wait {
@@ -87,6 +54,9 @@ struct Wait {
 /// carries it out once more, in the same order and with the same result; a session repeats a message after a fault in the same
 /// manner. The reconnect timeout is time by the clock from the beginning of the batch: while nobody uses the link, it doesn't
 /// run. Once it has passed, or the host turned out to keep another disk or none, later batches try nothing.
+///
+/// While a connection is open, the messages of a batch can be sent ahead of their answers ([`PipelinedLink`]). Their answers are then
+/// what the first try comes to. If they don't come, the whole batch is sent again as any other.
 #[derive(Debug, Drop)]
 pub struct ReconnectLink<D: Dial, W> {
     dialer: D,
@@ -96,6 +66,8 @@ pub struct ReconnectLink<D: Dial, W> {
     reconnect_timeout: u64,
     /// Why the link gave up.
     trouble: Option<Trouble>,
+    /// What was sent ahead. It has the open connection then, and `line` is `None`.
+    awaited: Option<Awaited<D::Line>>,
 }
 
 impl<D: Dial, W> Model for ReconnectLink<D, W> {
@@ -103,7 +75,7 @@ impl<D: Dial, W> Model for ReconnectLink<D, W> {
 
     ghost Value = { ReconnectState D D.Line };
 
-    ghost view = { λ l. record { dialer = l.dialer; line = l.line; reconnect_timeout = l.reconnect_timeout; trouble = l.trouble } };
+    ghost view = { λ l. record { dialer = l.dialer; line = l.line; reconnect_timeout = l.reconnect_timeout; trouble = l.trouble; awaited = l.awaited } };
 }
 
 /// Returns whether an answer says that the host has no room.
@@ -193,19 +165,15 @@ fn time_left(
 impl<D: Dial, W: HostWatch> ReconnectLink<D, W> {
     /// Makes a link with no connection yet and with a reconnect timeout of `seconds`. Allocates nothing.
     pub fn new(_alloc: Global, dialer: D, watch: W, seconds: u64) -> ReconnectLink<D, W>
-        ensures { result ≡ record { dialer = dialer; line = None; reconnect_timeout = min (seconds * 1000) (2 ^ 64 - 1); trouble = None } }
+        ensures { result ≡ record { dialer = dialer; line = None; reconnect_timeout = min (seconds * 1000) (2 ^ 64 - 1); trouble = None; awaited = None } }
     {
-        let news = TroubleReporter {
-            watch,
-            lost: false,
-            full: false,
-        };
         ReconnectLink {
             dialer,
-            news,
+            news: TroubleReporter::new(watch),
             line: None,
             reconnect_timeout: seconds.saturating_mul(1_000),
             trouble: None,
+            awaited: None,
         }
     }
 
@@ -328,6 +296,43 @@ impl<D: Dial, W: HostWatch> ReconnectLink<D, W> {
         }
     }
 
+    /// Goes on after the first try of a batch has come to `came`: tries until there are answers to give, memory runs out, or no time is
+    /// left. The tries began when the clock read `begin`.
+    fn go_on(
+        &mut self,
+        alloc: Global,
+        begin: Option<u64>,
+        first_came: Result<Vec<Vec<u8>>, Trouble>,
+        first: &[Vec<u8>],
+        last: &[Vec<u8>],
+    ) -> Result<Vec<Vec<u8>>, LinkFault>
+        requires { self.old.trouble ≡ None }
+        ensures tried { GoesOn (dialer_kind D.opens D.fails D.pauses D.reads D.carries) begin
+            self.old (texts first.now ++ texts last.now) (attempt_of first_came) (batch_outcome_of result) self.new }
+        ensures reconnect_timeout { self.new.reconnect_timeout ≡ self.old.reconnect_timeout }
+    {
+        let mut came = first_came;
+        let mut wait = Wait {
+            pause: FIRST_PAUSE,
+            left: self.reconnect_timeout,
+        };
+        loop {
+            let Some(trouble) = trouble_in(&came) else {
+                self.report_answer(&came);
+                return link_outcome(came);
+            };
+            self.report_trouble(trouble);
+            match self.wait(begin, wait, trouble) {
+                Some(next) => wait = next,
+                None => {
+                    self.give_up(trouble);
+                    return link_outcome(came);
+                }
+            }
+            came = self.attempt(alloc, first, last, wait.left);
+        }
+    }
+
     /// Tries until there are answers to give, memory runs out, or no time is left.
     fn make_tries(
         &mut self,
@@ -341,28 +346,11 @@ impl<D: Dial, W: HostWatch> ReconnectLink<D, W> {
         ensures reconnect_timeout { self.new.reconnect_timeout ≡ self.old.reconnect_timeout }
     {
         let begin = self.now();
-        let mut wait = Wait {
-            pause: FIRST_PAUSE,
-            left: self.reconnect_timeout,
-        };
-        loop {
-            let came = self.attempt(alloc, first, last, wait.left);
-            let Some(trouble) = trouble_in(&came) else {
-                self.report_answer(&came);
-                return link_outcome(came);
-            };
-            self.report_trouble(trouble);
-            match self.wait(begin, wait, trouble) {
-                Some(next) => wait = next,
-                None => {
-                    self.give_up(trouble);
-                    return link_outcome(came);
-                }
-            }
-        }
+        let came = self.attempt(alloc, first, last, self.reconnect_timeout);
+        self.go_on(alloc, begin, came, first, last)
     }
 
-    /// Passes messages on to the host, unless the link has given up.
+    /// Passes messages on to the host, unless the link has given up. If answers to others are due, their connection is closed.
     fn pass(
         &mut self,
         alloc: Global,
@@ -372,10 +360,78 @@ impl<D: Dial, W: HostWatch> ReconnectLink<D, W> {
         ensures { (exchanges : List Exchange) × ReconnectBatch (dialer_kind D.opens D.fails D.pauses D.reads D.carries)
             self.old (texts first.now ++ texts last.now) (batch_outcome_of result) exchanges self.new }
     {
+        self.awaited = None;
         match self.trouble {
             None => self.make_tries(alloc, first, last),
             Some(_) => Err(LinkFault::Closed),
         }
+    }
+
+    /// Keeps a connection after a try over it, unless the try had a fault.
+    fn keep_line(&mut self, line: D::Line, came: &Result<Vec<Vec<u8>>, Trouble>)
+        ensures kept { MatchResult (attempt_of came.now) (λ _. self.new.line ≡ Some line) (λ _. self.new.line ≡ None) }
+        ensures same { self.new ≡ record self.old { line = self.new.line } }
+    {
+        self.line = came.is_ok().then_some(line);
+    }
+
+    /// Makes the first try of a batch whose messages were to go ahead: receives their answers, or sends them now. After a fault the
+    /// connection is closed.
+    fn end_try(
+        &mut self,
+        alloc: Global,
+        sending: Sending<D::Line>,
+        bodies: &[Vec<u8>],
+    ) -> Result<Vec<Vec<u8>>, Trouble>
+        ensures tried { EndsTry (dialer_kind D.opens D.fails D.pauses D.reads D.carries) D.asks
+            self.old (texts bodies.now) sending (attempt_of result) self.new }
+        ensures same { self.new ≡ record self.old { dialer = self.new.dialer; line = self.new.line } }
+    {
+        match sending {
+            Sending::Sent(mut line) => {
+                let came = self.dialer.hear(alloc, &mut line, bodies);
+                self.keep_line(line, &came);
+                came
+            }
+            Sending::Unsent(mut line) => {
+                let came = self.dialer.carry(alloc, &mut line, &[], bodies);
+                self.keep_line(line, &came);
+                came
+            }
+            Sending::Failed(trouble) => {
+                self.line = None;
+                Err(trouble)
+            }
+        }
+    }
+
+    /// Takes out what was sent ahead, unless the link has given up.
+    fn take_awaited(&mut self) -> Option<Awaited<D::Line>>
+        ensures taken { MatchOption result ((self.old.awaited ≡ None) ⊎ (self.old.trouble ≢ None))
+            (λ awaited. (self.old.awaited ≡ Some awaited) × (self.old.trouble ≡ None)) }
+        ensures same { self.new ≡ record self.old { awaited = self.new.awaited } }
+    {
+        match self.trouble {
+            None => self.awaited.take(),
+            Some(_) => None,
+        }
+    }
+
+    /// Ends a batch whose messages were to go ahead. If their answers don't come, it sends them again as any others.
+    fn end_batch(
+        &mut self,
+        alloc: Global,
+        awaited: Awaited<D::Line>,
+        bodies: &[Vec<u8>],
+    ) -> Result<Vec<Vec<u8>>, LinkFault>
+        requires { self.old.trouble ≡ None }
+        ensures ends { EndsAwaited (dialer_kind D.opens D.fails D.pauses D.reads D.carries) D.asks
+            self.old (texts bodies.now) awaited (batch_outcome_of result) self.new }
+        ensures reconnect_timeout { self.new.reconnect_timeout ≡ self.old.reconnect_timeout }
+    {
+        let Awaited { begin, sending } = awaited;
+        let came = self.end_try(alloc, sending, bodies);
+        self.go_on(alloc, begin, came, &[], bodies)
     }
 }
 
@@ -411,4 +467,31 @@ impl<D: Dial, W: HostWatch> BatchLink for ReconnectLink<D, W> {
 
     ghost learning_sends_nothing = { λ l m check learnt.
         learnt_nothing_sent (dialer_kind D.opens D.fails D.pauses D.reads D.carries) D.learns l m check learnt };
+}
+
+impl<D: Dial, W: HostWatch> PipelinedLink for ReconnectLink<D, W> {
+    ghost use Rattle.oram_client.specs.Reconnect.{dialer_kind};
+    ghost use Rattle.oram_client.specs.Pipelined.{LinkAsk};
+
+    ghost asks = { λ l bodies k. LinkAsk (dialer_kind D.opens D.fails D.pauses D.reads D.carries) D.asks l bodies k };
+
+    /// Sends messages ahead over the open connection, if there is one and the link hasn't given up.
+    fn ask(&mut self, alloc: Global, bodies: &[Vec<u8>]) {
+        self.awaited = None;
+        if self.trouble.is_some() {
+            return;
+        }
+        if let Some(line) = self.line.take() {
+            let begin = self.now();
+            let sending = self.dialer.ask(alloc, line, bodies);
+            self.awaited = Some(Awaited { begin, sending });
+        }
+    }
+
+    fn answers(&mut self, alloc: Global, bodies: &[Vec<u8>]) -> Result<Vec<Vec<u8>>, LinkFault> {
+        match self.take_awaited() {
+            Some(awaited) => self.end_batch(alloc, awaited, bodies),
+            None => self.pass(alloc, &[], bodies),
+        }
+    }
 }

@@ -1,12 +1,14 @@
 //! Batches of messages over a reader and a writer.
-ghost use Rattle.std.specs.Prelude.{◌≡◌, ◌≤◌, ◌++◌, ◌∷◌, [], ℕ, List, length, IfOk, IfErr, OnOk};
+ghost use Rattle.std.specs.Prelude.{◌≡◌, ◌≤◌, ◌++◌, ◌∷◌, [], ℕ, List, Err, length, true, IfOk, IfErr, OnOk};
 ghost use Rattle.std.specs.List.{All, flat_map};
 ghost use Rattle.oram_wire.specs.FrameStream.{IsBody, frame};
 ghost use Rattle.oram_session.specs.Outcome.{outcome_of};
+ghost use Rattle.oram_session.specs.declared.link.LinkFault.TheVariants.{Closed};
 ghost use Rattle.oram_link_laws.specs.Runs.{Exchange};
 ghost use Rattle.oram_rounds.specs.Batches.{batch_outcome_of, texts};
 ghost use Rattle.oram_client.specs.AnswerLengths.{longest_answer};
-ghost use Rattle.oram_client.specs.StreamBatches.{AreAdded, AreReceived, AreSent, AreUnframed, Carries, FailsToSendAll, ReceivesWithin, StopsAfter, StreamBatch, connection};
+ghost use Rattle.oram_pipeline.specs.Pipelines.{EndsBatch};
+ghost use Rattle.oram_client.specs.StreamBatches.{AreAdded, AreReceived, AreSent, AreUnframed, Carries, FailsToSendAll, ReceivesWithin, StopsAfter, StreamAsk, StreamBatch, connection};
 
 use crate::answer_lengths::AnswerLengths;
 use oram_rounds::BatchLink;
@@ -283,6 +285,43 @@ impl<R: Read, W: Write> StreamBatches<R, W> {
         );
         self.closed = outcome.is_err();
         outcome
+    }
+}
+
+impl<R: Read, W: Write> StreamBatches<R, W> {
+    /// Sends the messages of a batch and reads nothing: [`hear`](StreamBatches::hear) reads their answers. If it fails, that is the outcome
+    /// of the batch.
+    pub fn ask(&mut self, alloc: Global, bodies: &[Vec<u8>]) -> Result<(), LinkFault>
+        ensures ok { OnOk result (StreamAsk W.contents self.old (texts bodies.now) self.new) }
+        ensures err { IfErr result (λ fault. (exchanges : List Exchange) × StreamBatch R.remaining W.contents self.old (texts bodies.now) (Err fault) exchanges self.new) }
+    {
+        if self.is_closed() {
+            return Err(LinkFault::Closed);
+        }
+        let sent = send_all(alloc, &mut self.writer, &[], &[], &[], bodies);
+        self.closed = sent.is_err();
+        sent
+    }
+
+    /// Reads the answers to the messages that [`ask`](StreamBatches::ask) has just sent, in their order.
+    pub fn hear(&mut self, alloc: Global, bodies: &[Vec<u8>]) -> Result<Vec<Vec<u8>>, LinkFault>
+        ensures ends { EndsBatch (StreamBatch R.remaining W.contents) (StreamAsk W.contents) (texts bodies.now) self.old (batch_outcome_of result) self.new }
+        ensures closed { self.old.closed ≡ true → (batch_outcome_of result ≡ Err Closed) × (self.new ≡ self.old) }
+    {
+        if self.is_closed() {
+            return Err(LinkFault::Closed);
+        }
+        let heard = receive_all(
+            alloc,
+            &mut self.reader,
+            &self.lengths,
+            &[],
+            &[],
+            &[],
+            bodies,
+        );
+        self.closed = heard.is_err();
+        heard
     }
 }
 

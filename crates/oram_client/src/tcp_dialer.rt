@@ -15,6 +15,7 @@ ghost use Rattle.oram_wire.specs.declared.host_messages.HostAnswer.TheVariants.{
 ghost use Rattle.oram_client.specs.Dialer.{Shows, IsGreetedOver, IsUngreetedOver};
 
 use crate::answer_lengths::AnswerLengths;
+use crate::awaited::Sending;
 use crate::dialer::{Dial, Limits, Trouble};
 use crate::identity::{IDENTITY_TREE, STAMP_TREE, stamp_message};
 use crate::reconnect_link::{elapsed, has_no_room, is_no_room};
@@ -304,7 +305,7 @@ impl<R: Net + Clock + Copy> TcpDialer<R> {
 
 impl<R: Net + Clock + Copy> Dial for TcpDialer<R> {
     ghost use Rattle.std.specs.Prelude.{◌≡◌};
-    ghost use Rattle.oram_client.specs.Stamped.{CarriesStamped, FailsToOpen, Opens};
+    ghost use Rattle.oram_client.specs.Stamped.{AsksPlainly, CarriesStamped, FailsToOpen, Opens};
     ghost use Rattle.oram_client.specs.StampedBatches.{carries_are_batches};
     ghost use Rattle.oram_client.specs.Dialer.{Destination};
     ghost use Rattle.oram_stamps.specs.Known.{kept};
@@ -319,6 +320,8 @@ impl<R: Net + Clock + Copy> Dial for TcpDialer<R> {
     ghost fails = { λ d _ trouble e. FailsToOpen (bytes_of R.Stream.remaining) (bytes_of R.Stream.contents) d trouble × (e ≡ d) };
 
     ghost carries = { λ d line bodies came exchanges e line'. CarriesStamped (bytes_of R.Stream.remaining) (bytes_of R.Stream.contents) d line bodies came exchanges e line' };
+
+    ghost asks = { λ d line bodies line'. AsksPlainly (bytes_of R.Stream.contents) d line bodies line' };
 
     ghost notes = { λ d. note_text d.known };
 
@@ -377,6 +380,34 @@ impl<R: Net + Clock + Copy> Dial for TcpDialer<R> {
             return self.carry_stamped(alloc, line, first, last);
         }
         match line.call_all(alloc, first, last) {
+            Ok(answers) => Ok(answers),
+            Err(fault) => Err(Trouble::OutOfReach(fault)),
+        }
+    }
+
+    /// Sends nothing if the next batch has to go between its stamps, since its caller doesn't receive the answers to them.
+    fn ask(
+        &self,
+        alloc: Global,
+        mut line: TimedLink<Connection<R::Stream>, R>,
+        bodies: &[Vec<u8>],
+    ) -> Sending<TimedLink<Connection<R::Stream>, R>> {
+        if !self.known.is_settled() {
+            return Sending::Unsent(line);
+        }
+        match line.ask(alloc, bodies) {
+            Ok(()) => Sending::Sent(line),
+            Err(fault) => Sending::Failed(Trouble::OutOfReach(fault)),
+        }
+    }
+
+    fn hear(
+        &self,
+        alloc: Global,
+        line: &mut TimedLink<Connection<R::Stream>, R>,
+        bodies: &[Vec<u8>],
+    ) -> Result<Vec<Vec<u8>>, Trouble> {
+        match line.hear(alloc, bodies) {
             Ok(answers) => Ok(answers),
             Err(fault) => Err(Trouble::OutOfReach(fault)),
         }

@@ -1,8 +1,9 @@
 //! A connection whose batches have a time limit.
-ghost use Rattle.std.specs.Prelude.{◌≡◌, ◌++◌, List, IfOk, IfErr};
+ghost use Rattle.std.specs.Prelude.{◌≡◌, ◌++◌, List, Err, IfOk, IfErr, OnOk};
 ghost use Rattle.oram_link_laws.specs.Runs.{Exchange};
 ghost use Rattle.oram_rounds.specs.Batches.{batch_outcome_of, texts};
-ghost use Rattle.oram_client.specs.StreamBatches.{StreamBatch, connection};
+ghost use Rattle.oram_pipeline.specs.Pipelines.{EndsBatch};
+ghost use Rattle.oram_client.specs.StreamBatches.{StreamAsk, StreamBatch, connection};
 
 use crate::answer_lengths::AnswerLengths;
 use crate::stream_batches::StreamBatches;
@@ -168,6 +169,26 @@ impl<S: Read + Write, C: Clock> TimedLink<S, C> {
     {
         self.begin_batch();
         self.line.call_between(alloc, before, first, between, last)
+    }
+}
+
+impl<S: Read + Write, C: Clock> TimedLink<S, C> {
+    /// Sends the messages of a batch and reads nothing, as [`StreamBatches::ask`] does. It may take as long as a batch.
+    pub fn ask(&mut self, alloc: Global, bodies: &[Vec<u8>]) -> Result<(), LinkFault>
+        ensures ok { OnOk result (StreamAsk S.contents self.old (texts bodies.now) self.new) }
+        ensures err { IfErr result (λ fault. (exchanges : List Exchange) × StreamBatch S.remaining S.contents self.old (texts bodies.now) (Err fault) exchanges self.new) }
+    {
+        self.begin_batch();
+        self.line.ask(alloc, bodies)
+    }
+
+    /// Reads the answers to the messages that [`ask`](TimedLink::ask) has just sent. It may take as long as a batch, and the time since
+    /// they were sent doesn't count.
+    pub fn hear(&mut self, alloc: Global, bodies: &[Vec<u8>]) -> Result<Vec<Vec<u8>>, LinkFault>
+        ensures { EndsBatch (StreamBatch S.remaining S.contents) (StreamAsk S.contents) (texts bodies.now) self.old (batch_outcome_of result) self.new }
+    {
+        self.begin_batch();
+        self.line.hear(alloc, bodies)
     }
 }
 

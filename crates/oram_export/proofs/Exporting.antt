@@ -27,7 +27,7 @@ use Rattle.oram_export.specs.Images.{AreBlocksOf, BlockWrite, IsBackup, PutsBloc
 use Rattle.oram_export.specs.Laws.{ReadingsAreRight}
 use Rattle.oram_export.specs.Stages.{HasLength, record_in}
 use Rattle.oram_records.specs.Messages.{rows_text}
-use Rattle.oram_export.specs.Reading.{AreRead, HasAsked, HasAskedTrees, IsRead, asked_in, asked_of, sound_in}
+use Rattle.oram_export.specs.Reading.{AreRead, HasAsked, HasAskedTrees, IsRead, MayAskNext, asked_in, asked_of, sound_in}
 use Rattle.oram_export.specs.declared.findings.LevelFindings.{LevelFindings}
 use Rattle.oram_export.specs.declared.tree_reading.TreeToRead.{TreeToRead}
 use Rattle.oram_export.proofs.Imaging.{images_are_right, node_after, none_lost_whole, sound_none_lost}
@@ -118,13 +118,20 @@ readings_right batches tree l m rows levels records stored read = (
 
 -- ---- a reading that stops
 
-pub asked_nothing : {B : Type 0} (batches : B → List (List ℕ) → BatchOutcome → List Exchange → B → Type 0) (trees : ℕ → TreeToRead) (l : B) → HasAskedTrees batches trees l l
-asked_nothing batches trees l = ([], l, refl, ([], refl, (asked_of (trees 0), refl)))
+module _ {B : Type 0} (batches : B → List (List ℕ) → BatchOutcome → List Exchange → B → Type 0) (asks : B → List (List ℕ) → B → Type 0) where
+  asks_none : (l : B) (later : List (List (List ℕ))) → MayAskNext asks l later l
+  asks_none l [] = refl
+  asks_none l (bodies ∷ later) = inl refl
 
-pub asked_some : {B : Type 0} (batches : B → List (List ℕ) → BatchOutcome → List Exchange → B → Type 0) (trees : ℕ → TreeToRead) (i : ℕ) (l k m : B) (found : List (List LevelFindings)) → length found ≡ i
-    → AreRead batches trees 0 l found k → HasAsked batches (trees i) k m → HasAskedTrees batches trees l m
-asked_some batches trees i l k m found count are asked = (found, k, are, subst (λ j. HasAsked batches (trees j) k m) (sym count) asked)
+  pub asked_none : (tree : TreeToRead) (l : B) → HasAsked batches asks tree l l
+  asked_none tree l = ([], l, refl, (asked_of tree, refl, asks_none l (asked_of tree)))
 
-pub asked_all : {B : Type 0} (batches : B → List (List ℕ) → BatchOutcome → List Exchange → B → Type 0) (tree : TreeToRead) (l m : B) (rows : List Row) (levels : List LevelFindings)
-    → IsRead batches tree l rows levels m → HasAsked batches tree l m
-asked_all batches tree l m rows levels read = (read.askings, read.carried, ([], sym read.asked ∙ sym (append-nil (asked_in read.askings))))
+  pub asked_nothing : (trees : ℕ → TreeToRead) (l : B) → HasAskedTrees batches asks trees l l
+  asked_nothing trees l = ([], l, refl, asked_none (trees 0) l)
+
+  pub asked_some : (trees : ℕ → TreeToRead) (i : ℕ) (l k m : B) (found : List (List LevelFindings)) → length found ≡ i
+      → AreRead batches trees 0 l found k → HasAsked batches asks (trees i) k m → HasAskedTrees batches asks trees l m
+  asked_some trees i l k m found count are asked = (found, k, are, subst (λ j. HasAsked batches asks (trees j) k m) (sym count) asked)
+
+  pub asked_all : (tree : TreeToRead) (l m : B) (rows : List Row) (levels : List LevelFindings) → IsRead batches tree l rows levels m → HasAsked batches asks tree l m
+  asked_all tree l m rows levels read = (read.askings, m, read.carried, ([], sym read.asked ∙ sym (append-nil (asked_in read.askings)), refl))

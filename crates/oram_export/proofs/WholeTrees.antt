@@ -1,19 +1,21 @@
 -- The reading of a tree, batch by batch.
-use Rattle.std.proofs.Common.{◌≡◌, ℕ, zero, suc, ◌+◌, ◌-◌, ◌*◌, ◌^◌, ◌<◌, ◌≤◌, min, arith, ap, sym, ◌∙◌, refl, subst, List, [], ◌∷◌, ◌++◌, length, get_or, map, drop, Some, None, Ok, Err, cond, replicate, sum_by, zero-add, append_assoc}
+use Rattle.std.proofs.Common.{◌≡◌, ℕ, zero, suc, ◌+◌, ◌-◌, ◌*◌, ◌^◌, ◌<◌, ◌≤◌, min, inl, inr, arith, ap, sym, ◌∙◌, refl, subst, List, [], ◌∷◌, ◌++◌, length, get_or, map, drop, Some, None, Ok, Err, cond, replicate, sum_by, zero-add, append_assoc}
 use Rattle.std.specs.List.{FoldsTo, count_by, flat_map, range_with_len}
+use Rattle.std.proofs.lemmas.Bool.{cases_lt}
 use Rattle.std.proofs.lemmas.Fn.{FoldsTo-push}
 use Rattle.std.proofs.lemmas.List.{append-nil, length-replicate, map-append, take-append-drop}
 use Rattle.std.proofs.lemmas.List.FromFn.{map-range_with_len_more, take-map-range_with_len}
 use Rattle.std.proofs.lemmas.List.Sums.{sum_by-cons, sum_by-set}
 use Rattle.std.proofs.Math.ListN.{set}
 use Rattle.oram_link_laws.specs.Runs.{Exchange}
+use Rattle.oram_pipeline.specs.Pipelines.{EndsBatch}
 use Rattle.oram_rounds.specs.Batches.{BatchOutcome}
 use Rattle.oram_scan.specs.Laws.{Row, Takes}
 use Rattle.oram_scan.specs.Scan.{Scan, begun, node_count}
 use Rattle.oram_scan.specs.declared.tree_scan.Finding.TheVariants.{Sound, Changed, Unchecked}
 use Rattle.oram_export.specs.Findings.{IsCounted, count_of, finding_of, is_lost, lost_of, none_found, one_more}
-use Rattle.oram_export.specs.Reading.{Asking, Carries, HasAsked, IsRead, answers_text, asked_in, asked_of, sound_in}
-use Rattle.oram_export.specs.Requests.{batch_at, batch_count, requests_for}
+use Rattle.oram_export.specs.Reading.{Asking, Carries, HasAsked, IsRead, MayAskNext, answers_text, asked_in, asked_of, sound_in}
+use Rattle.oram_export.specs.Requests.{AsksNext, batch_at, batch_count, requests_for}
 use Rattle.oram_export.specs.Stages.{IsFurther, IsUnderWay, Stage, TakesRow, TakesRows, stage_of}
 use Rattle.oram_export.specs.declared.batches.Requests.{Requests}
 use Rattle.oram_export.specs.declared.findings.LevelFindings.{LevelFindings}
@@ -167,21 +169,70 @@ whole_read batches sees tree l s k p m t some all read =
 first_batches : (r : Requests) (k n : ℕ) → k ≤ n → map (batch_at r) (range_with_len 0 n) ≡ map (batch_at r) (range_with_len 0 k) ++ drop k (map (batch_at r) (range_with_len 0 n))
 first_batches r k n within = sym (take-append-drop k (map (batch_at r) (range_with_len 0 n))) ∙ ap (λ (bs : List (List (List ℕ))). bs ++ drop k (map (batch_at r) (range_with_len 0 n))) (take-map-range_with_len (batch_at r) 0 n k within)
 
-pub stopped_between : {B T : Type 0} (batches : B → List (List ℕ) → BatchOutcome → List Exchange → B → Type 0) (sees : T → List ℕ → T → Type 0) (tree : TreeToRead) (l : B) (s : T)
-    (k : ℕ) (p : TreeProgress) (m : B) (t : T) → HasRead batches sees tree l s k p m t → k ≤ batch_count (requests_to tree) → HasAsked batches tree l m
-stopped_between batches sees tree l s k p m t read within =
-    let r = requests_to tree in
-    (read.askings, read.carried, (drop k (asked_of tree), first_batches r k (batch_count r) within ∙ ap (λ (bs : List (List (List ℕ))). bs ++ drop k (asked_of tree)) (sym read.asked)))
+-- k batches were asked for and taken, and the next one was asked for, if there is one
+pub record HasReadAhead {B T : Type 0} (batches : B → List (List ℕ) → BatchOutcome → List Exchange → B → Type 0) (asks : B → List (List ℕ) → B → Type 0) (sees : T → List ℕ → T → Type 0)
+    (tree : TreeToRead) (l : B) (s : T) (k : ℕ) (p : TreeProgress) (bodies : List (List ℕ)) (m : B) (t : T) : Type 0 where
+  pub link : B  -- before it was asked
+  pub read : HasRead batches sees tree l s k p link t
+  pub ahead : AsksNext asks (requests_to tree) k link bodies m
 
-pub stopped_after : {B T : Type 0} (batches : B → List (List ℕ) → BatchOutcome → List Exchange → B → Type 0) (sees : T → List ℕ → T → Type 0) (tree : TreeToRead) (l : B) (s : T)
-    (k : ℕ) (p : TreeProgress) (m n : B) (t : T) (bodies : List (List ℕ)) (o : BatchOutcome) → HasRead batches sees tree l s k p m t → k < batch_count (requests_to tree)
-    → bodies ≡ batch_at (requests_to tree) k → (exchanges : List Exchange) × batches m bodies o exchanges n → HasAsked batches tree l n
-stopped_after {B} batches sees tree l s k p m n t bodies o read below are carries =
-    let r = requests_to tree in
-    let asked : asked_in (read.askings ++ (bodies, o) ∷ []) ≡ map (batch_at r) (range_with_len 0 (k + 1)) =
-    asked_more read.askings bodies o ∙ ap (λ (bs : List (List (List ℕ))). bs ++ bodies ∷ []) read.asked
-    ∙ ap (λ (b : List (List ℕ)). map (batch_at r) (range_with_len 0 k) ++ b ∷ []) are ∙ sym (map-range_with_len_more (batch_at r) 0 k k (omega arith)) in (
-      read.askings ++ (bodies, o) ∷ [],
-      FoldsTo-push {P = B} {A = Asking} (λ a x b. (exchanges : List Exchange) × batches a x.0 x.1 exchanges b) l read.askings m (bodies, o) n read.carried carries,
-      (drop (k + 1) (asked_of tree), first_batches r (k + 1) (batch_count r) (omega arith) ∙ ap (λ (bs : List (List (List ℕ))). bs ++ drop (k + 1) (asked_of tree)) (sym asked)),
-    )
+-- k batches were asked for and answered
+abbrev pub HasCarried : {B : Type 0} → (B → List (List ℕ) → BatchOutcome → List Exchange → B → Type 0) → TreeToRead → B → ℕ → B → Type 0
+HasCarried batches tree l k m = (askings : List Asking) × Carries batches l askings m × (asked_in askings ≡ map (batch_at (requests_to tree)) (range_with_len 0 k))
+
+module _ {B : Type 0} (batches : B → List (List ℕ) → BatchOutcome → List Exchange → B → Type 0) (tree : TreeToRead) where
+  pub carried_more : (l : B) (k : ℕ) (m n : B) (bodies : List (List ℕ)) (o : BatchOutcome) → HasCarried batches tree l k m → bodies ≡ batch_at (requests_to tree) k
+      → (exchanges : List Exchange) × batches m bodies o exchanges n → HasCarried batches tree l (k + 1) n
+  carried_more l k m n bodies o (askings, carried, asked) are carries =
+      let r = requests_to tree in (
+        askings ++ (bodies, o) ∷ [],
+        FoldsTo-push {P = B} {A = Asking} (λ a x b. (exchanges : List Exchange) × batches a x.0 x.1 exchanges b) l askings m (bodies, o) n carried carries,
+        asked_more askings bodies o ∙ ap (λ (bs : List (List (List ℕ))). bs ++ bodies ∷ []) asked
+            ∙ ap (λ (b : List (List ℕ)). map (batch_at r) (range_with_len 0 k) ++ b ∷ []) are ∙ sym (map-range_with_len_more (batch_at r) 0 k k (omega arith)),
+      )
+
+  module _ (asks : B → List (List ℕ) → B → Type 0) where
+    asks_none : (k m : B) (later : List (List (List ℕ))) → m ≡ k → MayAskNext asks k later m
+    asks_none k m [] same = same
+    asks_none k m (bodies ∷ later) same = inl same
+
+    -- nothing was asked for after these batches
+    pub stopped_here : (l : B) (k : ℕ) (m n : B) → HasCarried batches tree l k m → k ≤ batch_count (requests_to tree) → n ≡ m → HasAsked batches asks tree l n
+    stopped_here l k m n (askings, carried, asked) within same =
+        let r = requests_to tree in
+        (askings, m, carried, (drop k (asked_of tree), first_batches r k (batch_count r) within ∙ ap (λ (bs : List (List (List ℕ))). bs ++ drop k (asked_of tree)) (sym asked), asks_none m n (drop k (asked_of tree)) same))
+
+    -- the next batch was asked for, if there is one
+    pub stopped_ahead : (l : B) (k : ℕ) (m n : B) (bodies : List (List ℕ)) → HasCarried batches tree l k m → k ≤ batch_count (requests_to tree)
+        → AsksNext asks (requests_to tree) k m bodies n → HasAsked batches asks tree l n
+    stopped_ahead l k m n bodies carries within next =
+        let r = requests_to tree in
+        elim (cases_lt k (batch_count r)) [
+          | inr last ↦ stopped_here l k m n carries within (next.none (omega (arith, last)))
+          | inl below ↦
+              let others = drop (k + 1) (asked_of tree) in
+              let first = batch_at r k in
+              let all : asked_of tree ≡ asked_in carries.0 ++ first ∷ others =
+              first_batches r (k + 1) (batch_count r) (omega (arith, below))
+              ∙ ap (λ (bs : List (List (List ℕ))). bs ++ others) (map-range_with_len_more (batch_at r) 0 k k (omega arith))
+              ∙ append_assoc (map (batch_at r) (range_with_len 0 k)) (first ∷ []) others
+              ∙ ap (λ (bs : List (List (List ℕ))). bs ++ first ∷ others) (sym carries.2) in
+              let asked = next.next below in
+              (carries.0, m, carries.1, (first ∷ others, all, inr (subst (λ (b : List (List ℕ)). asks m b n) asked.0 asked.1)))
+        ]
+
+    -- the batch that was asked for was answered
+    pub next_answered : {T : Type 0} (sees : T → List ℕ → T → Type 0) (l : B) (s : T) (k : ℕ) (p : TreeProgress) (bodies : List (List ℕ)) (m n : B) (t : T) (sent : List (List ℕ)) (o : BatchOutcome)
+        → (h : HasReadAhead batches asks sees tree l s k p bodies m t) → k < batch_count (requests_to tree) → sent ≡ bodies → EndsBatch batches asks sent m o n
+        → (sent ≡ batch_at (requests_to tree) k) × ((exchanges : List Exchange) × batches h.link sent o exchanges n)
+    next_answered sees l s k p bodies m n t sent o h below same ends =
+        let asked = h.ahead.next below in
+        (same ∙ asked.0, ends h.link (subst (λ (b : List (List ℕ)). asks h.link b m) (sym same) asked.1))
+
+    -- and what that makes of the batches before
+    pub next_carried : {T : Type 0} (sees : T → List ℕ → T → Type 0) (l : B) (s : T) (k : ℕ) (p : TreeProgress) (bodies : List (List ℕ)) (m n : B) (t : T) (sent : List (List ℕ)) (o : BatchOutcome)
+        → HasReadAhead batches asks sees tree l s k p bodies m t → k < batch_count (requests_to tree) → sent ≡ bodies → EndsBatch batches asks sent m o n
+        → HasCarried batches tree l (k + 1) n
+    next_carried sees l s k p bodies m n t sent o h below same ends =
+        let next = next_answered sees l s k p bodies m n t sent o h below same ends in
+        carried_more l k h.link n sent o (h.read.askings, h.read.carried, h.read.asked) next.0 next.1

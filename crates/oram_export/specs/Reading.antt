@@ -1,5 +1,5 @@
 -- A tree that was read whole.
-use Rattle.std.specs.Prelude.{◌≡◌, ℕ, ◌+◌, List, [], ◌∷◌, ◌++◌, drop, length, map, count_by, sum_by, Ok, Err, Some}
+use Rattle.std.specs.Prelude.{◌≡◌, ◌⊎◌, ℕ, ◌+◌, List, [], ◌∷◌, ◌++◌, drop, length, map, count_by, sum_by, Ok, Err, Some}
 use Rattle.std.specs.List.{All, FoldsTo, flat_map}
 use Rattle.oram_link_laws.specs.Runs.{Exchange}
 use Rattle.oram_records.specs.Messages.{rows_text}
@@ -55,9 +55,15 @@ pub record IsRead {B : Type 0} (batches : B → List (List ℕ) → BatchOutcome
   pub counted : levels ≡ levels_of tree.depth rows
   pub lost : sum_by lost_of levels ≡ count_by is_lost rows
 
--- A reading that stopped has asked for the first records of the tree.
-abbrev pub HasAsked : {B : Type 0} → (B → List (List ℕ) → BatchOutcome → List Exchange → B → Type 0) → TreeToRead → B → B → Type 0
-HasAsked batches tree l m = (askings : List Asking) × Carries batches l askings m × ((later : List (List (List ℕ))) × (asked_of tree ≡ asked_in askings ++ later))
+-- The link is asked for the first of these batches ahead, or for none.
+abbrev pub MayAskNext : {B : Type 0} → (B → List (List ℕ) → B → Type 0) → B → List (List (List ℕ)) → B → Type 0
+MayAskNext asks k [] m = m ≡ k
+MayAskNext asks k (bodies ∷ later) m = (m ≡ k) ⊎ asks k bodies m
+
+-- A reading that stopped has asked for the first records of the tree, and perhaps for the next ones, whose answers it hasn't read.
+abbrev pub HasAsked : {B : Type 0} → (B → List (List ℕ) → BatchOutcome → List Exchange → B → Type 0) → (B → List (List ℕ) → B → Type 0) → TreeToRead → B → B → Type 0
+HasAsked {B} batches asks tree l m = (askings : List Asking) × (k : B) × Carries batches l askings k
+    × ((later : List (List (List ℕ))) × (asked_of tree ≡ asked_in askings ++ later) × MayAskNext asks k later m)
 
 -- these trees were read, one after the other, from tree i on
 abbrev pub AreRead : {B : Type 0} → (B → List (List ℕ) → BatchOutcome → List Exchange → B → Type 0) → (ℕ → TreeToRead) → ℕ → B → List (List LevelFindings) → B → Type 0
@@ -65,5 +71,5 @@ AreRead batches trees i l [] m = m ≡ l
 AreRead {B} batches trees i l (levels ∷ found) m = (k : B) × ((rows : List Row) × IsRead batches (trees i) l rows levels k) × AreRead batches trees (i + 1) k found m
 
 -- Of these trees the first ones were read, and of the next one the first records were asked for.
-abbrev pub HasAskedTrees : {B : Type 0} → (B → List (List ℕ) → BatchOutcome → List Exchange → B → Type 0) → (ℕ → TreeToRead) → B → B → Type 0
-HasAskedTrees {B} batches trees l m = (found : List (List LevelFindings)) × (k : B) × AreRead batches trees 0 l found k × HasAsked batches (trees (length found)) k m
+abbrev pub HasAskedTrees : {B : Type 0} → (B → List (List ℕ) → BatchOutcome → List Exchange → B → Type 0) → (B → List (List ℕ) → B → Type 0) → (ℕ → TreeToRead) → B → B → Type 0
+HasAskedTrees {B} batches asks trees l m = (found : List (List LevelFindings)) × (k : B) × AreRead batches trees 0 l found k × HasAsked batches asks (trees (length found)) k m

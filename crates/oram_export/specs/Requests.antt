@@ -1,5 +1,5 @@
 -- What a reading of a tree asks of the host. It depends on the tree's number, its depth and the length of its records alone.
-use Rattle.std.specs.Prelude.{ℕ, ◌+◌, ◌-◌, ◌*◌, ◌/◌, ◌^◌, ◌<◌, min, List, map}
+use Rattle.std.specs.Prelude.{◌≡◌, ℕ, ◌+◌, ◌-◌, ◌*◌, ◌/◌, ◌^◌, ◌<◌, ◌≤◌, min, List, map}
 use Rattle.std.specs.Int.{div_ceil}
 use Rattle.std.specs.List.{range_with_len}
 use Rattle.oram_records.specs.Messages.{records_body}
@@ -39,3 +39,8 @@ pub record IsRequests (r : Requests) : Type 0 where
   pub some : 0 < r.most
   pub few : r.most < 2 ^ 20
   pub nodes : r.nodes < 2 ^ 25
+
+-- the link is asked to send batch b ahead, if there is one
+pub record AsksNext {B : Type 0} (asks : B → List (List ℕ) → B → Type 0) (r : Requests) (b : ℕ) (l : B) (bodies : List (List ℕ)) (m : B) : Type 0 where
+  pub next : b < batch_count r → (bodies ≡ batch_at r b) × asks l bodies m
+  pub none : batch_count r ≤ b → m ≡ l

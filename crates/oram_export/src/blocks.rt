@@ -21,8 +21,8 @@ pub trait BlockSink {
 
     /// Takes the data of the block at this address. Blocks come in no order. A block that never comes was never written, so its data
     /// is zeros.
-    fn put(&mut self, address: u32, data: &[u8]) -> Result<(), SinkStop>
-        ensures { OnOk result (takes self.old (record { address = address; content = data.now }) self.new) };
+    fn put(&mut self, address: u32, content: &[u8]) -> Result<(), SinkStop>
+        ensures { OnOk result (takes self.old (record { address = address; content = content.now }) self.new) };
 }
 
 /// Puts blocks into a sink, in their order.
@@ -48,8 +48,8 @@ impl<S: Sealer, K: BlockSink> RecordVisitor<K> for BucketOpener<'_, S> {
 
     ghost sees = { λ v s r t. PutsBlocks (Reads (S.cipher v.sealer.now).opening v.device.now 0) K.takes s r t };
 
-    fn see(&self, alloc: Global, target: &mut K, record: &[u8]) -> Result<(), VisitFault> {
-        let sealed = &record[..record.len() - 2 * DIGEST_LEN];
+    fn see(&self, alloc: Global, target: &mut K, record_bytes: &[u8]) -> Result<(), VisitFault> {
+        let sealed = &record_bytes[..record_bytes.len() - 2 * DIGEST_LEN];
         let blocks = open_bucket(alloc, self.sealer, self.device, 0, sealed)?;
         put_blocks(target, &blocks)?;
         Ok(())

@@ -14,7 +14,7 @@ use crate::tree_reading::{ReadingWatch, TreeToRead, read_tree};
 use crate::visitor::NoVisit;
 use oram_bucket::Sealer;
 use oram_core::{Core, Parts, Pending};
-use oram_rounds::BatchLink;
+use oram_pipeline::PipelinedLink;
 use oram_tree::TreeParts;
 use std::alloc::{AllocError, Global};
 
@@ -60,7 +60,7 @@ pub(crate) fn tree_to_read<S: Sealer>(core: &Core<S>, tree: u8, parts: &TreePart
 /// have carried out what the core has sent ([`send_stores`]). Commands may wait in the core.
 ///
 /// Fails with `Failed` if the core has failed; it asks the host for nothing then.
-pub fn check_disk<S: Sealer, B: BatchLink, W: ReadingWatch>(
+pub fn check_disk<S: Sealer, B: PipelinedLink, W: ReadingWatch>(
     alloc: Global,
     core: &Core<S>,
     link: &mut B,
@@ -68,7 +68,7 @@ pub fn check_disk<S: Sealer, B: BatchLink, W: ReadingWatch>(
 ) -> Result<Vec<TreeFindings>, ReadFault>
     ensures count { IfOk result (λ found. length found.items ≡ trees_of core.now.device) }
     ensures read { IfOk result (λ found. AreRead B.batches (to_read (scheme_of S.cipher core.now) core.now.state) 0 link.old found.items link.new) }
-    ensures asked { OnErr result (HasAskedTrees B.batches (to_read (scheme_of S.cipher core.now) core.now.state) link.old link.new) }
+    ensures asked { OnErr result (HasAskedTrees B.batches B.asks (to_read (scheme_of S.cipher core.now) core.now.state) link.old link.new) }
     ensures failed { core.now.state.failure ≢ None → (result ≡ Err Failed) × (link.new ≡ link.old) }
 {
     let parts = live_parts(alloc, core)?;

@@ -13,7 +13,7 @@ use crate::tree_reading::{ReadingWatch, read_tree};
 use crate::waiting::put_waiting;
 use oram_bucket::Sealer;
 use oram_core::Core;
-use oram_rounds::BatchLink;
+use oram_pipeline::PipelinedLink;
 use std::alloc::Global;
 
 /// Reads the records of a core's tree 0, checks them, and puts the blocks of those that are what was stored into the sink, then the blocks
@@ -23,7 +23,7 @@ use std::alloc::Global;
 ///
 /// `sealer` opens what the core's sealer has sealed. Fails with `Failed` if the core has failed. After any other fault the sink has taken
 /// some of the blocks.
-pub fn export_disk<S: Sealer, B: BatchLink, K: BlockSink, W: ReadingWatch>(
+pub fn export_disk<S: Sealer, B: PipelinedLink, K: BlockSink, W: ReadingWatch>(
     alloc: Global,
     core: &Core<S>,
     sealer: &S,
@@ -36,7 +36,7 @@ pub fn export_disk<S: Sealer, B: BatchLink, K: BlockSink, W: ReadingWatch>(
         IfOk result (λ findings. IsExport B.batches K.takes v core.now.state (link.old, sink.old) findings (link.new, sink.new)) }
     ensures failed { core.now.state.failure ≢ None → (result ≡ Err Failed) × (link.new ≡ link.old) × (sink.new ≡ sink.old) }
     ensures asked { let v = scheme_of S.cipher core.now in
-        OnErr result (HasAsked B.batches (to_read v core.now.state 0) link.old link.new) }
+        OnErr result (HasAsked B.batches B.asks (to_read v core.now.state 0) link.old link.new) }
 {
     let parts = live_parts(alloc, core)?;
     let zeros = vec![in alloc; 0u8; core.device().block_bytes()]?;

@@ -60,14 +60,14 @@ fn tell<T, V: RecordVisitor<T>>(
     alloc: Global,
     visitor: &V,
     target: &mut T,
-    record: &[u8],
+    record_bytes: &[u8],
     finding: Finding,
 ) -> Result<(), VisitFault>
-    requires { finding ≡ Sound → 64 < length record.now }
-    ensures { OnOk result (SeesRow (V.sees visitor.now) target.old (Some (record.now, finding)) target.new) }
+    requires { finding ≡ Sound → 64 < length record_bytes.now }
+    ensures { OnOk result (SeesRow (V.sees visitor.now) target.old (Some (record_bytes.now, finding)) target.new) }
 {
     match finding {
-        Finding::Sound => visitor.see(alloc, target, record),
+        Finding::Sound => visitor.see(alloc, target, record_bytes),
         _ => Ok(()),
     }
 }
@@ -78,16 +78,16 @@ fn take_record<T, V: RecordVisitor<T>>(
     progress: &mut TreeProgress,
     visitor: &V,
     target: &mut T,
-    record: &[u8],
+    record_bytes: &[u8],
 ) -> Result<(), ReadFault>
     requires next { progress.old.scan.node < node_count progress.old.scan.depth }
     requires under_way { IsUnderWay progress.old }
     ensures ok { OnOk result ((finding : FindingOf)
-        × TakesRow (V.sees visitor.now) (stage_of progress.old target.old) (Some (record.now, finding)) (stage_of progress.new target.new)) }
+        × TakesRow (V.sees visitor.now) (stage_of progress.old target.old) (Some (record_bytes.now, finding)) (stage_of progress.new target.new)) }
 {
     let node = progress.scan.node();
-    let finding = progress.scan.take(record)?;
-    tell(alloc, visitor, target, record, finding)?;
+    let finding = progress.scan.take(record_bytes)?;
+    tell(alloc, visitor, target, record_bytes, finding)?;
     progress.findings.count(node, Some(finding));
     Ok(())
 }

@@ -5,7 +5,7 @@ ghost use Rattle.oram_rounds.specs.Batches.{texts};
 ghost use Rattle.oram_scan.specs.Laws.{Row};
 ghost use Rattle.oram_scan.specs.Scan.{node_count};
 ghost use Rattle.oram_export.specs.Reading.{HasAsked, IsRead, sound_in};
-ghost use Rattle.oram_export.specs.Requests.{requests_for};
+ghost use Rattle.oram_export.specs.Requests.{AsksNext, IsRequests, requests_for};
 ghost use Rattle.oram_export.specs.Stages.{IsFurther, IsUnderWay, TakesRows, stage_of};
 
 use crate::batches::Requests;
@@ -14,8 +14,8 @@ use crate::progress::{TreeProgress, take_answer};
 use crate::read_fault::ReadFault;
 use crate::visitor::RecordVisitor;
 use oram_hash::DIGEST_LEN;
+use oram_pipeline::PipelinedLink;
 use oram_records::most_rows;
-use oram_rounds::BatchLink;
 use std::alloc::Global;
 
 /// Is told how far a reading has come.
@@ -73,12 +73,32 @@ fn take_answers<T, V: RecordVisitor<T>>(
     Ok(())
 }
 
+/// Asks for the next batch of records, if there are more batches, and returns its requests.
+fn ask_next<B: PipelinedLink>(
+    alloc: Global,
+    link: &mut B,
+    requests: &Requests,
+    index: u64,
+) -> Result<Vec<Vec<u8>>, ReadFault>
+    requires requests { IsRequests requests.now }
+    ensures ok { IfOk result (λ bodies. AsksNext B.asks requests.now index link.old (texts bodies.items) link.new) }
+    ensures err { OnErr result (link.new ≡ link.old) }
+{
+    if index >= requests.batch_count() {
+        return Ok(Vec::new(alloc));
+    }
+    let bodies = requests.batch(alloc, index)?;
+    link.ask(alloc, &bodies);
+    Ok(bodies)
+}
+
 /// Reads all records of a tree over a link to the host, checks each of them against the digest above it, and tells the visitor of those
 /// that are what was stored. Returns how many records of each level are sound, changed, missing, or can't be checked.
 ///
-/// Each request asks for as many records as fit into an answer, and 16 requests go to the host before their answers are read. Which
-/// requests these are depends on the tree's number and depth and on the length of its records, and on nothing else.
-pub fn read_tree<B: BatchLink, T, V: RecordVisitor<T>, W: ReadingWatch>(
+/// Each request asks for as many records as fit into an answer, and 16 requests go to the host before their answers are read. The next 16
+/// go there before these answers are worked through, so that the host sends meanwhile. Which requests these are depends on the tree's
+/// number and depth and on the length of its records, and on nothing else.
+pub fn read_tree<B: PipelinedLink, T, V: RecordVisitor<T>, W: ReadingWatch>(
     alloc: Global,
     link: &mut B,
     tree: &TreeToRead,
@@ -91,14 +111,15 @@ pub fn read_tree<B: BatchLink, T, V: RecordVisitor<T>, W: ReadingWatch>(
     requires short { tree.now.record_len < 1048575 }
     ensures ok { IfOk result (λ findings. (rows : List Row) × IsRead B.batches tree.now link.old rows findings link.new
         × FoldsTo (V.sees visitor.now) target.old (sound_in rows) target.new) }
-    ensures err { OnErr result (HasAsked B.batches tree.now link.old link.new) }
+    ensures err { OnErr result (HasAsked B.batches B.asks tree.now link.old link.new) }
 {
     let requests = requests_of(tree);
     let mut progress = TreeProgress::new(alloc, tree.depth, tree.record_len, &tree.root)?;
+    let mut bodies = ask_next(alloc, link, &requests, 0)?;
     for index in 0..requests.batch_count() {
         let before = progress.scan.node();
-        let bodies = requests.batch(alloc, index)?;
-        let answers = link.call_all(alloc, &[], &bodies)?;
+        let answers = link.answers(alloc, &bodies)?;
+        bodies = ask_next(alloc, link, &requests, index + 1)?;
         take_answers(
             alloc,
             &mut progress,

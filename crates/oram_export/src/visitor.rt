@@ -55,9 +55,9 @@ pub trait RecordVisitor<T> {
     ghost sees: { Self → T → List ℕ → T → Type 0 };
 
     /// Tells the visitor of a record: a sealed bucket, and then 64 bytes of digests.
-    fn see(&self, alloc: Global, target: &mut T, record: &[u8]) -> Result<(), VisitFault>
-        requires { 64 < length record.now }
-        ensures { OnOk result (sees self.now target.old record.now target.new) };
+    fn see(&self, alloc: Global, target: &mut T, record_bytes: &[u8]) -> Result<(), VisitFault>
+        requires { 64 < length record_bytes.now }
+        ensures { OnOk result (sees self.now target.old record_bytes.now target.new) };
 }
 
 /// Does nothing with a record.
@@ -67,7 +67,12 @@ pub struct NoVisit;
 impl RecordVisitor<()> for NoVisit {
     ghost sees = { λ v s r t. t ≡ s };
 
-    fn see(&self, _alloc: Global, _target: &mut (), _record: &[u8]) -> Result<(), VisitFault> {
+    fn see(
+        &self,
+        _alloc: Global,
+        _target: &mut (),
+        _record_bytes: &[u8],
+    ) -> Result<(), VisitFault> {
         Ok(())
     }
 }

@@ -2,8 +2,11 @@
 
 use crate::far_end::{Answers, FarEnd, HostBehaviour, Messages};
 use crate::links::write_answers;
-use oram_client::{AnswerLengths, Dial, HostWatch, Limits, ReconnectLink, StreamBatches, Trouble};
+use oram_client::{
+    AnswerLengths, Dial, HostWatch, Limits, ReconnectLink, Sending, StreamBatches, Trouble,
+};
 use oram_geometry::Device;
+use oram_pipeline::PipelinedLink;
 use oram_rounds::BatchLink;
 use oram_session::LinkFault;
 use rows::{Page, RowFault, RowWords};
@@ -39,6 +42,8 @@ impl<'a> Dial for Connections<'a> {
 
     ghost carries = { λ d l bodies came exchanges e m. Plainly (λ k bs o es n. IsBatch bs o es) d l bodies came exchanges e m };
 
+    ghost asks = { λ _ _ _ _. ⊤ };
+
     ghost notes = { λ _. [] };
 
     ghost learns = { λ d _ e. e ≡ d };
@@ -72,6 +77,30 @@ impl<'a> Dial for Connections<'a> {
         last: &[Vec<u8>],
     ) -> Result<Vec<Vec<u8>>, Trouble> {
         match line.call_all(alloc, first, last) {
+            Ok(answers) => Ok(answers),
+            Err(fault) => Err(Trouble::OutOfReach(fault)),
+        }
+    }
+
+    fn ask(
+        &self,
+        alloc: Global,
+        mut line: StreamBatches<Answers<'a>, Messages<'a>>,
+        bodies: &[Vec<u8>],
+    ) -> Sending<StreamBatches<Answers<'a>, Messages<'a>>> {
+        match line.ask(alloc, bodies) {
+            Ok(()) => Sending::Sent(line),
+            Err(fault) => Sending::Failed(Trouble::OutOfReach(fault)),
+        }
+    }
+
+    fn hear(
+        &self,
+        alloc: Global,
+        line: &mut StreamBatches<Answers<'a>, Messages<'a>>,
+        bodies: &[Vec<u8>],
+    ) -> Result<Vec<Vec<u8>>, Trouble> {
+        match line.hear(alloc, bodies) {
             Ok(answers) => Ok(answers),
             Err(fault) => Err(Trouble::OutOfReach(fault)),
         }
@@ -122,6 +151,48 @@ fn send(
         return Err(RowFault::OutOfMemory);
     }
     write_answers(outcome, page)
+}
+
+/// Sends a first message as a batch, and all others ahead of their answers. Writes the answers, and how many messages the host has answered.
+fn send_ahead(
+    alloc: Global,
+    far: &RefCell<FarEnd>,
+    digits: &[u8],
+    words: &mut RowWords,
+    page: &mut Page,
+) -> Result<(), RowFault> {
+    let mut messages = words.bodies(alloc);
+    if messages.is_empty() {
+        return Err(RowFault::NoRow);
+    }
+    let first = messages.remove(0);
+    let dialer = Connections {
+        far,
+        digits,
+        opened: 0,
+    };
+    let mut link = ReconnectLink::new(alloc, dialer, NoWatch, 1);
+    let outcome = link.call_all(alloc, &[], &[first]);
+    write_answers(outcome, page)?;
+    link.ask(alloc, &messages);
+    let outcome = link.answers(alloc, &messages);
+    if far.try_borrow().is_ok_and(|far| far.lacks_memory()) {
+        return Err(RowFault::OutOfMemory);
+    }
+    write_answers(outcome, page)?;
+    page.word("answered");
+    let Ok(far) = far.try_borrow() else {
+        return Err(RowFault::NoRow);
+    };
+    page.number(far.answered());
+    Ok(())
+}
+
+/// `link asks DIGITS MESSAGES`: as `talks`, but the first message is a batch of its own, and the others are sent ahead of their answers.
+pub fn asks(alloc: Global, words: &mut RowWords, page: &mut Page) -> Result<(), RowFault> {
+    let digits = words.text().as_bytes();
+    let far = RefCell::new(FarEnd::new(alloc, 0, HostBehaviour::Honest));
+    send_ahead(alloc, &far, digits, words, page)
 }
 
 /// Sends all messages but the last one in a list, and the last one in another. Writes the answers, and how many messages the

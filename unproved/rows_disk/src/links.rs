@@ -1,8 +1,9 @@
 //! A link that tries until its host answers.
 
 use crate::batches;
-use oram_client::{Dial, HostWatch, Limits, ReconnectLink, Trouble};
+use oram_client::{Dial, HostWatch, Limits, ReconnectLink, Sending, Trouble};
 use oram_host::HostRefusal;
+use oram_pipeline::PipelinedLink;
 use oram_rounds::{BatchLink, OneByOne};
 use oram_session::{Link, LinkFault};
 use oram_wire::REFUSED;
@@ -125,7 +126,8 @@ impl<'a> Link for Way<'a> {
     ghost counts = { λ l m body outcome h. h };
 }
 
-/// Opens connections by the letters. For `o` it opens one. For `d` the host keeps another disk, for `n` it keeps none, and for
+/// Opens connections by the letters, and sends messages ahead by them. For `p` it sends them, for `u` they have to go otherwise, for `m`
+/// memory runs out, and for any other letter sending fails. For `o` it opens one. For `d` the host keeps another disk, for `n` it keeps none, and for
 /// `r` it has no room. For `s` the host gives no answer within the limit, for `m` memory runs out, for `w` the try fails after
 /// some time, and for any other letter at once.
 #[derive(Drop)]
@@ -145,6 +147,8 @@ impl<'a> Dial for Script<'a> {
     ghost reads = { λ _ _ _. ⊤ };
 
     ghost carries = { λ d l bodies came exchanges e m. Plainly (λ k bs o es n. IsBatch bs o es) d l bodies came exchanges e m };
+
+    ghost asks = { λ _ _ _ _. ⊤ };
 
     ghost notes = { λ _. [] };
 
@@ -186,6 +190,32 @@ impl<'a> Dial for Script<'a> {
         last: &[Vec<u8>],
     ) -> Result<Vec<Vec<u8>>, Trouble> {
         match line.call_all(alloc, first, last) {
+            Ok(answers) => Ok(answers),
+            Err(fault) => Err(Trouble::OutOfReach(fault)),
+        }
+    }
+
+    fn ask(
+        &self,
+        _alloc: Global,
+        line: OneByOne<Way<'a>>,
+        _bodies: &[Vec<u8>],
+    ) -> Sending<OneByOne<Way<'a>>> {
+        match self.0.next() {
+            b'p' => Sending::Sent(line),
+            b'u' => Sending::Unsent(line),
+            b'm' => Sending::Failed(Trouble::OutOfReach(LinkFault::OutOfMemory)),
+            _ => Sending::Failed(Trouble::OutOfReach(LinkFault::Io)),
+        }
+    }
+
+    fn hear(
+        &self,
+        alloc: Global,
+        line: &mut OneByOne<Way<'a>>,
+        bodies: &[Vec<u8>],
+    ) -> Result<Vec<Vec<u8>>, Trouble> {
+        match line.call_all(alloc, &[], bodies) {
             Ok(answers) => Ok(answers),
             Err(fault) => Err(Trouble::OutOfReach(fault)),
         }
@@ -272,7 +302,8 @@ fn write_batch(
 }
 
 /// Does with the link what a word says: it makes a `call` with an empty message, sends a `batch FIRST LAST` of two lists
-/// with FIRST and LAST messages that are their own numbers, tries to `reach` the host, or stays `idle` for a thousand seconds.
+/// with FIRST and LAST messages that are their own numbers, tries to `reach` the host, or stays `idle` for a thousand seconds. Or it does an
+/// `ask COUNT`: it sends so many messages ahead; and then `answers COUNT` receives their answers.
 fn ask<'a>(
     alloc: Global,
     link: &mut ReconnectLink<Script<'a>, News<'a>>,
@@ -286,6 +317,11 @@ fn ask<'a>(
             let first = numbered(alloc, 0x10, words.number())?;
             let last = numbered(alloc, 0x20, words.number())?;
             write_batch(play, link.call_all(alloc, &first, &last), page)?;
+        }
+        "ask" => link.ask(alloc, &numbered(alloc, 0x30, words.number())?),
+        "answers" => {
+            let asked = numbered(alloc, 0x30, words.number())?;
+            write_batch(play, link.answers(alloc, &asked), page)?;
         }
         "reach" => match link.reach(alloc) {
             Ok(()) => page.word("reached"),
@@ -362,6 +398,7 @@ pub fn answer(
     match name {
         "plays" => plays(alloc, words, page),
         "talks" => batches::talks(alloc, words, page),
+        "asks" => batches::asks(alloc, words, page),
         "refused" => batches::refused(alloc, words, page),
         "long" => batches::long(alloc, words, page),
         _ => Err(RowFault::NoRow),

@@ -2,6 +2,7 @@
 //! hosts of disks.
 
 use oram_host::Server;
+use oram_pipeline::PipelinedLink;
 use oram_records::RecordsRequest;
 use oram_rounds::BatchLink;
 use oram_session::LinkFault;
@@ -73,6 +74,8 @@ pub(crate) struct RecordsHost {
     pub(crate) way: Way,
     /// The first bodies of each batch, and how many it has.
     pub(crate) batches: Vec<Vec<Vec<u8>>>,
+    /// The messages that were sent ahead, and whose answers aren't read yet.
+    pub(crate) asked: Option<Vec<Vec<u8>>>,
 }
 
 impl RecordsHost {
@@ -186,4 +189,31 @@ impl BatchLink for RecordsHost {
     }
 
     fn learn_kept(&mut self, _check: u64) {}
+}
+
+impl PipelinedLink for RecordsHost {
+    ghost use Rattle.std.specs.Prelude.{⊤};
+
+    ghost asks = { λ _ _ _. ⊤ };
+
+    fn ask(&mut self, alloc: Global, bodies: &[Vec<u8>]) {
+        self.asked = copies(alloc, bodies).ok();
+    }
+
+    /// Fails if other messages were asked for than these.
+    fn answers(&mut self, alloc: Global, bodies: &[Vec<u8>]) -> Result<Vec<Vec<u8>>, LinkFault> {
+        match self.asked.take() {
+            Some(asked) if asked.as_slice() == bodies => self.call_all(alloc, &[], bodies),
+            _ => Err(LinkFault::TooLarge),
+        }
+    }
+}
+
+/// Copies some messages.
+fn copies(alloc: Global, bodies: &[Vec<u8>]) -> Result<Vec<Vec<u8>>, AllocError> {
+    let mut all = Vec::new(alloc);
+    for body in bodies {
+        push(&mut all, body.to_vec(alloc)?)?;
+    }
+    Ok(all)
 }

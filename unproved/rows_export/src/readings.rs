@@ -10,6 +10,7 @@ use oram_export::{
 };
 use oram_geometry::Device;
 use oram_host::Server;
+use oram_pipeline::PipelinedLink;
 use oram_records::RecordsRequest;
 use oram_rounds::BatchLink;
 use oram_session::{ChaChaTape, Direct, LinkFault, format_device, resume, submit};
@@ -80,6 +81,7 @@ fn device_read(
         record_len,
         way,
         batches: Vec::new(alloc),
+        asked: None,
     };
     Ok((core, Box::new(alloc, host)?, addresses))
 }
@@ -259,4 +261,16 @@ impl BatchLink for EmptyHost {
     }
 
     fn learn_kept(&mut self, _check: u64) {}
+}
+
+impl PipelinedLink for EmptyHost {
+    ghost use Rattle.std.specs.Prelude.{◌≡◌};
+
+    ghost asks = { λ l bodies k. k ≡ l };
+
+    fn ask(&mut self, _alloc: Global, _bodies: &[Vec<u8>]) {}
+
+    fn answers(&mut self, alloc: Global, bodies: &[Vec<u8>]) -> Result<Vec<Vec<u8>>, LinkFault> {
+        self.call_all(alloc, &[], bodies)
+    }
 }

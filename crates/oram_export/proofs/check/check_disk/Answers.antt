@@ -26,22 +26,22 @@ loop-tree-preserved g c =
 
 pub returns-in_err-parts-clause-asked : goal.returns-in_err-parts-clause-asked
 returns-in_err-parts-clause-asked g c =
-    on_err c.from_residual.result (asked_nothing g.B.BatchLink.batches (to_read (scheme_of g.S.Sealer.cipher c.args.core.now) c.args.core.now.state) c.args.link.now)
+    on_err c.from_residual.result (asked_nothing g.B.BatchLink.batches g.B.PipelinedLink.asks (to_read (scheme_of g.S.Sealer.cipher c.args.core.now) c.args.core.now.state) c.args.link.now)
 
 pub returns-in_err-findings-clause-asked : goal.returns-in_err-findings-clause-asked
 returns-in_err-findings-clause-asked g c =
     let batches = g.B.BatchLink.batches in
     let trees = to_read (scheme_of g.S.Sealer.cipher c.args.core.now) c.args.core.now.state in
-    let asked = subst (λ (t : TreeToRead). HasAsked batches t c.loop-tree.link c.read_tree.new.link) c.tree_to_read-to_read.ensures.read c.in_err-findings.ensures.err in
+    let asked = subst (λ (t : TreeToRead). HasAsked batches g.B.PipelinedLink.asks t c.loop-tree.link c.read_tree.new.link) c.tree_to_read-to_read.ensures.read c.in_err-findings.ensures.err in
     on_err c.from_residual-in_err-findings.result
-    (asked_some batches trees c.loop-tree.tree c.args.link.now c.loop-tree.link c.read_tree.new.link c.loop-tree.found.items c.loop-tree.invariant.count c.loop-tree.invariant.read asked)
+    (asked_some batches g.B.PipelinedLink.asks trees c.loop-tree.tree c.args.link.now c.loop-tree.link c.read_tree.new.link c.loop-tree.found.items c.loop-tree.invariant.count c.loop-tree.invariant.read asked)
 
 pub returns-in_err-push-clause-asked : goal.returns-in_err-push-clause-asked
 returns-in_err-push-clause-asked g c =
     let batches = g.B.BatchLink.batches in
     let trees = to_read (scheme_of g.S.Sealer.cipher c.args.core.now) c.args.core.now.state in
     let read = c.in_ok-findings.ensures.ok in
-    let asked = subst (λ (t : TreeToRead). HasAsked batches t c.loop-tree.link c.read_tree.new.link) c.tree_to_read-to_read.ensures.read
-    (asked_all batches c.tree_to_read-to_read.result c.loop-tree.link c.read_tree.new.link read.0 c.in_ok-findings.findings read.1) in
+    let asked = subst (λ (t : TreeToRead). HasAsked batches g.B.PipelinedLink.asks t c.loop-tree.link c.read_tree.new.link) c.tree_to_read-to_read.ensures.read
+    (asked_all batches g.B.PipelinedLink.asks c.tree_to_read-to_read.result c.loop-tree.link c.read_tree.new.link read.0 c.in_ok-findings.findings read.1) in
     on_err c.from_residual-in_err-push.result
-    (asked_some batches trees c.loop-tree.tree c.args.link.now c.loop-tree.link c.read_tree.new.link c.loop-tree.found.items c.loop-tree.invariant.count c.loop-tree.invariant.read asked)
+    (asked_some batches g.B.PipelinedLink.asks trees c.loop-tree.tree c.args.link.now c.loop-tree.link c.read_tree.new.link c.loop-tree.found.items c.loop-tree.invariant.count c.loop-tree.invariant.read asked)

@@ -6,14 +6,15 @@ use Rattle.oram_bucket.specs.Cipher.{Cipher}
 use Rattle.oram_bucket.specs.SealedBlocks.{Reads}
 use Rattle.oram_core.specs.Core.{scheme_of}
 use Rattle.oram_core.specs.declared.parts.Pending.{Pending}
+use Rattle.oram_rounds.proofs.Tries.{on_err}
 use Rattle.oram_semantics.proofs.Bounds.{some_trees}
 use Rattle.oram_tree.specs.Parts.{Parts}
-use Rattle.oram_export.specs.Export.{tree_in}
+use Rattle.oram_export.specs.Export.{to_read, tree_in}
 use Rattle.oram_export.specs.Images.{PutsBlocks, write_of, writes_of}
 use Rattle.oram_export.specs.Reading.{IsRead, sound_in}
 use Rattle.oram_export.specs.declared.tree_reading.TreeToRead.{TreeToRead}
 use Rattle.oram_export.proofs.Backups.{pending_writes}
-use Rattle.oram_export.proofs.Exporting.{exported, part_at}
+use Rattle.oram_export.proofs.Exporting.{asked_all, asked_none, exported, part_at}
 use Rattle.oram_export.proofs.export.export_disk.Goals as goal
 
 pub index-requires : goal.index-requires
@@ -51,3 +52,27 @@ returns-clause-ok g c =
     let pending = subst (λ ps. FoldsTo takes c.put_blocks.new.sink (flat_map (λ (p : Pending). writes_of zero p.command) ps) c.put_waiting.new.sink) c.deref-2.ensures.value written in
     let waiting = subst (λ ws. FoldsTo takes c.put_blocks.new.sink ws c.put_waiting.new.sink) (pending_writes zero c.in_ok-parts.parts.waiting.items s.queue c.in_ok-parts.ensures.waiting) pending in
     exported batches takes v s c.args.link.now c.read_tree.new.link c.args.sink.now c.read_tree.new.target c.put_blocks.new.sink c.put_waiting.new.sink ok.0 c.in_ok-findings.findings c.device-2.ensures.sound.ranges read told put waiting
+
+pub returns-in_err-parts-clause-asked : goal.returns-in_err-parts-clause-asked
+returns-in_err-parts-clause-asked g c =
+    on_err c.from_residual.result (asked_none g.B.BatchLink.batches g.B.PipelinedLink.asks (to_read (scheme_of g.S.Sealer.cipher c.args.core.now) c.args.core.now.state 0) c.args.link.now)
+
+pub returns-in_err-zeros-clause-asked : goal.returns-in_err-zeros-clause-asked
+returns-in_err-zeros-clause-asked g c =
+    on_err c.from_residual-in_err-zeros.result (asked_none g.B.BatchLink.batches g.B.PipelinedLink.asks (to_read (scheme_of g.S.Sealer.cipher c.args.core.now) c.args.core.now.state 0) c.args.link.now)
+
+pub returns-in_err-put_blocks-clause-asked : goal.returns-in_err-put_blocks-clause-asked
+returns-in_err-put_blocks-clause-asked g c =
+    let batches = g.B.BatchLink.batches in
+    let tree = to_read (scheme_of g.S.Sealer.cipher c.args.core.now) c.args.core.now.state 0 in
+    let ok = c.in_ok-findings.ensures.ok in
+    let read = subst (λ (t : TreeToRead). IsRead batches t c.args.link.now ok.0 c.in_ok-findings.findings c.read_tree.new.link) c.tree_to_read-to_read.ensures.read ok.1 in
+    on_err c.from_residual-in_err-put_blocks.result (asked_all batches g.B.PipelinedLink.asks tree c.args.link.now c.read_tree.new.link ok.0 c.in_ok-findings.findings read)
+
+pub returns-in_err-put_waiting-clause-asked : goal.returns-in_err-put_waiting-clause-asked
+returns-in_err-put_waiting-clause-asked g c =
+    let batches = g.B.BatchLink.batches in
+    let tree = to_read (scheme_of g.S.Sealer.cipher c.args.core.now) c.args.core.now.state 0 in
+    let ok = c.in_ok-findings.ensures.ok in
+    let read = subst (λ (t : TreeToRead). IsRead batches t c.args.link.now ok.0 c.in_ok-findings.findings c.read_tree.new.link) c.tree_to_read-to_read.ensures.read ok.1 in
+    on_err c.from_residual-in_err-put_waiting.result (asked_all batches g.B.PipelinedLink.asks tree c.args.link.now c.read_tree.new.link ok.0 c.in_ok-findings.findings read)

@@ -14,6 +14,6 @@ pub returns : goal.returns
 returns g c = record {
   cells = c.in_ok-blocks.blocks.items;
   read = subst (λ (sealed : List ℕ). Reads (g.S.Sealer.cipher c.args.self.now.sealer.now).opening c.args.self.now.device.now 0 sealed c.in_ok-blocks.blocks.items)
-      (sealed_part-slice c.args.record.now) c.in_ok-blocks.ensures.ok;
+      (sealed_part-slice c.args.record_bytes.now) c.in_ok-blocks.ensures.ok;
   put = subst (λ (cells : List Cell). FoldsTo g.K.BlockSink.takes c.args.target.now (map write_of cells) c.put_blocks.new.sink) c.deref.ensures.value c.in_ok-put_blocks.ensures;
 }
