@@ -78,9 +78,12 @@ def try_lost_map(trial):
     disk.relay.instead = lose
     end = end_of(disk.start("check"))
     trial.check("a lost map: check", end.status == RECORDS_LOST and b"all sound\ntree 1: 1 record, 1 lost\n" in end.out, end)
+    trial.check("a lost map: what it says of an export", end.out.endswith(b"all data is in tree 0, so an export loses nothing\n"), end)
     trial.check("a lost map: it was asked for", 1 in asked, asked)
     asked.clear()
     check_export(trial, "a lost map: export", disk, array, "lostmap.img")
+    end = end_of(start_export(disk, "-"))
+    trial.check("a lost map: export to standard output", b" to standard output: all 31 records are sound\n" in end.err, end.err)
     trial.check("a lost map: it wasn't asked for", set(asked) == {0}, asked)
     disk.relay.instead = lambda body: None
     check_and_end(trial, "a lost map: it goes on once it is back", disk, array)

@@ -2,6 +2,7 @@
 
 import json
 import os
+import re
 import shutil
 import signal
 import struct
@@ -195,6 +196,8 @@ def try_salvage(trial):
         lost_blocks += sum(one != other for one, other in blocks)
         disk.put_host_files(before)
     trial.check("salvage: some blocks were lost", lost_blocks > 0)
+    check_salvage(trial, disk)
+    disk.put_host_files(before)
     # The waiting commands fail at once, so nothing is stored that the host's own files lack.
     tamper(disk.host.path())
     fail_whole(trial, disk)
@@ -204,6 +207,23 @@ def try_salvage(trial):
     disk.start_host()
     trial.check("salvage: retry", end_of(disk.start("retry")).status == 0)
     check_and_end(trial, "salvage: it goes on", disk, array)
+
+
+def check_salvage(trial, disk):
+    """A check says how many blocks an export would save if the host has lost records, and only then. It has lost every other leaf's, more
+    than the STOREs that wait put right."""
+    levels = levels_of(disk)
+    for lost in (False, True):
+        if lost:
+            buckets = BucketFile(disk.host.path())
+            for node in range(2 ** (levels - 1), 2**levels - 1, 2):
+                lose_record(trial, buckets, node)
+        disk.start_host()
+        end = end_of(disk.start("check", "--salvage"))
+        told = re.search(rb"^an export would save [1-9]\d* blocks that were written; all others are zeros, or lost\n\Z", end.out, re.M)
+        trial.check(f"check --salvage, lost: {lost}", (end.status == RECORDS_LOST, told is not None) == (lost, lost), end)
+        trial.check(f"check --salvage, lost: {lost}: it exports nothing", b"checking: 100 %" in end.err and b"exporting" not in end.err, end)
+        disk.host.stop()
 
 
 def lose_record(trial, buckets, node):

@@ -87,11 +87,22 @@ fn push_tree(
     Ok(())
 }
 
+/// Returns whether records are lost, but none of tree 0, which has the disk's data.
+fn has_lost_maps_alone(trees: &[TreeFindings]) -> bool {
+    match trees.split_first() {
+        Some((data, maps)) => data.lost() == 0 && Counts::of_all(maps).lost != 0,
+        None => false,
+    }
+}
+
 /// Returns what a check prints: for each tree how many records it has and, if some are lost, at which levels they are.
 pub(crate) fn findings_text(alloc: Global, trees: &[TreeFindings]) -> Result<String, AllocError> {
     let mut text = String::new(alloc);
     for (number, tree) in trees.iter().enumerate() {
         push_tree(alloc, &mut text, number, tree)?;
+    }
+    if has_lost_maps_alone(trees) {
+        text.push_str("all data is in tree 0, so an export loses nothing\n")?;
     }
     Ok(text)
 }
@@ -111,7 +122,7 @@ pub(crate) fn saved_text(alloc: Global, blocks: u64) -> Result<String, AllocErro
     )
 }
 
-/// Returns what is said of an export of a disk of `size` bytes, all of whose records are sound.
+/// Returns what is said of an export of a disk of `size` bytes, all of whose records are sound. `image` says where it went.
 pub(crate) fn exported_text(
     alloc: Global,
     size: u64,

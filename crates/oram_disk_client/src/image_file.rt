@@ -15,6 +15,9 @@ use std::{fs, io};
 /// The name that stands for standard output.
 const STANDARD_OUTPUT: &str = "-";
 
+/// What standard output is called in a line.
+const SAID_OUTPUT: &str = "standard output";
+
 /// The mode of an image, which isn't encrypted.
 const OWNERS_ALONE: u32 = 0o600;
 
@@ -162,7 +165,13 @@ impl<'a> ImageFile<'a> {
             return Err(self.fault_of(&error));
         }
         if let Err(error) = link_or_rename(self.rt, self.unfinished.as_str(), name) {
-            return Err(call_fault(alloc, name, &error));
+            let missing = error.kind() == ErrorKind::NotFound;
+            let about = if missing {
+                self.unfinished.as_str()
+            } else {
+                name
+            };
+            return Err(call_fault(alloc, about, &error));
         }
         let folder = folder_of(name);
         match sync_folder(self.rt, folder) {
@@ -175,7 +184,7 @@ impl<'a> ImageFile<'a> {
     fn print(&self) -> Result<(), FileFault> {
         match copy_to(&self.file, self.rt) {
             Ok(()) => Ok(()),
-            Err(error) => Err(call_fault(self.rt.alloc(), "standard output", &error)),
+            Err(error) => Err(call_fault(self.rt.alloc(), SAID_OUTPUT, &error)),
         }
     }
 
@@ -201,6 +210,15 @@ impl<'a> BlockSink for ImageFile<'a> {
                 Err(SinkStop)
             }
         }
+    }
+}
+
+/// Returns what the place of an image is called in a line.
+pub(crate) fn place_of(image: &str) -> &str {
+    if image == STANDARD_OUTPUT {
+        SAID_OUTPUT
+    } else {
+        image
     }
 }
 

@@ -9,7 +9,7 @@ use crate::disk_files::{disk_in, kept_in, keys_in, process_for, state_bytes};
 use crate::findings_text::{Counts, exported_text, findings_text, saved_text};
 use crate::host_asked::ask_host;
 use crate::host_link::link_to;
-use crate::image_file::{ImageFile, check_free};
+use crate::image_file::{ImageFile, check_free, place_of};
 use crate::progress_printer::ProgressPrinter;
 use crate::reading_ends::{ExportEnd, export_end, lost_fault, read_fault};
 use crate::serving::{DiskSealer, LockedDisk, sealer_in};
@@ -97,7 +97,7 @@ fn settle_host<D: Dial, W: HostWatch>(
 /// What is to be done with a whole disk.
 #[derive(Drop)]
 enum Reading {
-    /// To check all records, and to say how many blocks could be saved if `is_salvage`.
+    /// To check all records, and to say how many blocks could be saved if some are lost and `is_salvage`.
     Check { is_salvage: bool },
     /// To write an image of this name, and one that lacks what is lost if `is_salvage`.
     Export { image: String, is_salvage: bool },
@@ -119,16 +119,17 @@ struct WholeDisk<'a, S: Sealer> {
     settings: &'a DiskSettings,
 }
 
-/// Reads the blocks of a disk into a sink.
+/// Reads the blocks of a disk into a sink, and prints how far this has come, as that of `work`.
 fn read_blocks<S: Sealer, D: Dial, W: HostWatch, K: BlockSink>(
     rt: &HostRuntime,
     disk: &WholeDisk<'_, S>,
     link: &mut ReconnectLink<D, W>,
     sink: &mut K,
+    work: LongWork,
 ) -> Result<TreeFindings, ReadFault>
     requires { S.cipher disk.now.sealer.now ≡ S.cipher disk.now.core.now.sealer }
 {
-    let mut watch = reading_printer(rt, LongWork::Exporting, records_in(disk.core, 1));
+    let mut watch = reading_printer(rt, work, records_in(disk.core, 1));
     export_blocks(rt.alloc(), disk.core, disk.sealer, link, sink, &mut watch)
 }
 
@@ -142,7 +143,7 @@ fn print_saved<S: Sealer, D: Dial, W: HostWatch>(
 {
     let alloc = rt.alloc();
     let mut counter = BlockCounter { blocks: 0 };
-    match read_blocks(rt, disk, link, &mut counter) {
+    match read_blocks(rt, disk, link, &mut counter, LongWork::Checking) {
         Ok(_) => print(rt, saved_text(alloc, counter.blocks)?.as_str()),
         Err(fault) => Err(read_fault(alloc, fault, link.trouble(), disk.settings)),
     }
@@ -163,7 +164,8 @@ fn read_records<S: Sealer, D: Dial, W: HostWatch>(
     }
 }
 
-/// Checks all records of a disk, and prints what it found. Fails with [`FaultKind::LostRecords`] after that if some are lost.
+/// Checks all records of a disk, and prints what it found. If some are lost, and `is_salvage`, it prints how many blocks an export would
+/// save, and in any case it fails with [`FaultKind::LostRecords`] after that.
 fn check<S: Sealer, D: Dial, W: HostWatch>(
     rt: &HostRuntime,
     disk: &WholeDisk<'_, S>,
@@ -176,14 +178,13 @@ fn check<S: Sealer, D: Dial, W: HostWatch>(
     let trees = read_records(rt, disk, link)?;
     print(rt, findings_text(alloc, &trees)?.as_str())?;
     let counts = Counts::of_all(&trees);
+    if counts.lost == 0 {
+        return Ok(());
+    }
     if is_salvage {
         print_saved(rt, disk, link)?;
     }
-    if counts.lost == 0 {
-        Ok(())
-    } else {
-        Err(lost_fault(alloc, FaultKind::LostRecords, disk.settings, counts))
-    }
+    Err(lost_fault(alloc, FaultKind::LostRecords, disk.settings, counts))
 }
 
 /// Reads the blocks of a disk into an image.
@@ -195,7 +196,7 @@ fn fill_image<S: Sealer, D: Dial, W: HostWatch>(
 ) -> Result<Counts, Fault>
     requires { S.cipher disk.now.sealer.now ≡ S.cipher disk.now.core.now.sealer }
 {
-    match read_blocks(rt, disk, link, file) {
+    match read_blocks(rt, disk, link, file, LongWork::Exporting) {
         Ok(tree) => Ok(Counts::of(&tree)),
         Err(fault) => match file.take_fault() {
             Some(fault) => Err(fault.into()),
@@ -249,7 +250,8 @@ fn export<S: Sealer, D: Dial, W: HostWatch>(
     let mut file = ImageFile::begin(rt, image, settings.state.as_str(), settings.size)?;
     let found = fill_image(rt, disk, link, &mut file);
     let counts = end_image(rt, settings, file, found, is_salvage)?;
-    let line = exported_text(rt.alloc(), settings.size, name.as_str(), counts.records)?;
+    let place = place_of(name.as_str());
+    let line = exported_text(rt.alloc(), settings.size, place, counts.records)?;
     let _passed_over = rt.eprint(line.as_str());
     Ok(())
 }
@@ -316,8 +318,8 @@ fn read_disk(
 }
 
 /// Checks all records of the disk whose settings are in the file `name` at its host, and prints for each tree how many there are and
-/// which are lost. Fails with [`FaultKind::LostRecords`] after that if some are. If `is_salvage`, also prints how many blocks
-/// [`export_image`] would save.
+/// which are lost. Fails with [`FaultKind::LostRecords`] after that if some are. If `is_salvage`, it prints then how many blocks
+/// [`export_image`] would save, too.
 pub fn check_host(rt: &HostRuntime, name: String, is_salvage: bool) -> Result<(), Fault> {
     let (settings, _) = disk_in(rt, name.as_str())?;
     let locked = LockedDisk::take(rt, settings)?;
