@@ -75,7 +75,7 @@ pub(crate) struct RecordsHost {
     /// The first bodies of each batch, and how many it has.
     pub(crate) batches: Vec<Vec<Vec<u8>>>,
     /// The messages that were sent ahead, and whose answers aren't read yet.
-    pub(crate) asked: Option<Vec<Vec<u8>>>,
+    pub(crate) asked: Option<Result<Vec<Vec<u8>>, AllocError>>,
 }
 
 impl RecordsHost {
@@ -197,13 +197,14 @@ impl PipelinedLink for RecordsHost {
     ghost asks = { λ _ _ _. ⊤ };
 
     fn ask(&mut self, alloc: Global, bodies: &[Vec<u8>]) {
-        self.asked = copies(alloc, bodies).ok();
+        self.asked = Some(copies(alloc, bodies));
     }
 
     /// Fails if other messages were asked for than these.
     fn answers(&mut self, alloc: Global, bodies: &[Vec<u8>]) -> Result<Vec<Vec<u8>>, LinkFault> {
         match self.asked.take() {
-            Some(asked) if asked.as_slice() == bodies => self.call_all(alloc, &[], bodies),
+            Some(Ok(asked)) if asked.as_slice() == bodies => self.call_all(alloc, &[], bodies),
+            Some(Err(_)) => Err(LinkFault::OutOfMemory),
             _ => Err(LinkFault::TooLarge),
         }
     }
