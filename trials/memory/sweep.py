@@ -2,8 +2,7 @@
 
 from trials.memory.verdicts import WENT_ON, WRONG, judge
 
-# The most allocations of a block that are refused in one trial. Each trial begins at another one, so that later ones find what this
-# one leaves out.
+# The most allocations of a block that are refused in one trial.
 MOST = 250
 
 
@@ -29,10 +28,11 @@ def standing_alone(refuser, program, rows):
 
 
 def spread(dice, count):
-    """The numbers of the allocations that are refused: all of them, or MOST of them, spread evenly, if there are more."""
+    """The numbers of the allocations that are refused: all of them, or MOST of them if there are more. Those are spread evenly, from the first
+    one on, or from a random one on if there are dice."""
     if count <= MOST:
         return range(1, count + 1)
-    first = dice.randrange(count // MOST)
+    first = dice.randrange(count // MOST) if dice else 0
     return [1 + first + at * count // MOST for at in range(MOST)]
 
 
