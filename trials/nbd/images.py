@@ -4,6 +4,7 @@ import os
 import shutil
 import signal
 
+from trials import strace
 from trials.bucket_messages import RECORDS, is_a
 from trials.disk import Disk
 from trials.disk_array import check_and_end
@@ -61,6 +62,42 @@ def try_lost_output(trial):
         trial.check(f"{command} to a pipe that nobody reads", end.status == BAD_FILE and end.err.endswith(line), end)
     trial.check("nothing is left of that", not list(disk.folder.glob("*.export")))
     check_and_end(trial, "output: it goes on", disk, array)
+
+
+# What the last line says of a file if its disk fails.
+FAILED = "can't open, read or write {}: see that it is there and may be written, and that its disk has room"
+# For each call of an export on its unfinished image that fails: the call, its error, which of these calls fails, and what the last line
+# says of the file.
+FAILURES = [
+    ("openat", "EACCES", 1, "{}: permission denied: see that you may read and write it"),
+    ("ftruncate", "EIO", 1, FAILED),
+    ("pwrite64", "EIO", 3, FAILED),
+    ("fsync", "EIO", 1, FAILED),
+]
+
+
+def try_failing_image(trial):
+    """Each system call with which an export writes an image fails once. The export ends with a line about the file, and leaves nothing.
+    On a file system without links an image gets its name all the same, and also then it replaces nothing."""
+    if not strace.is_usable():
+        trial.skip()
+        return
+    disk, array = used_disk(trial, "failing-image")
+    image = trial.folder / "failing.img"
+    words = ("export", "failing-image/disk.toml", "failing.img")
+    name = "failing.img.unfinished"
+    for calls, error, when, why in FAILURES:
+        end = end_of(trial.start_under(strace.failing_on(trial.folder / name, calls, error, when), *words))
+        holds = (end.status, end.err.decode().endswith(f"oramdisk: {why.format(name)}\n")) == (BAD_FILE, True)
+        trial.check(f"an image whose {calls} fails: {error}", holds, end)
+        trial.check(f"an image whose {calls} fails: nothing is left", not list(trial.folder.glob("failing.img*")))
+    end = end_of(trial.start_under(strace.failing("linkat,link", "EPERM", 1), *words))
+    trial.check("an image on a file system without links", end.status == 0 and array.wrong(image.read_bytes()) == [], end)
+    trial.check("an image without links: no other file is left", [path.name for path in trial.folder.glob("failing.img*")] == ["failing.img"])
+    end = end_of(trial.start_under(strace.failing_on(trial.folder, "fsync", "EIO", 1), "export", "failing-image/disk.toml", "second.img"))
+    left = [path.read_bytes() for path in trial.folder.glob("second.img*")]
+    trial.check("an image whose folder can't be synced", end.status == BAD_FILE and all(array.wrong(one) == [] for one in left), (end, len(left)))
+    check_and_end(trial, "failing image: it goes on", disk, array)
 
 
 def try_lost_map(trial):
