@@ -1,12 +1,12 @@
 -- From a blank place on, an honest file holds zeros.
-use Rattle.std.proofs.Common.{◌≡◌, inl, inr, ℕ, ◌+◌, ◌≤◌, true, false, List, [], ◌∷◌, length, refl, ◌∙◌, subst, arith}
+use Rattle.std.proofs.Common.{◌≡◌, inl, inr, ℕ, zero, suc, ◌+◌, ◌≤◌, true, false, List, [], ◌∷◌, length, refl, ◌∙◌, subst, arith}
 use Rattle.std.specs.Prelude.{if◌then◌else◌, Bool, ◌==◌, ◌&&◌}
 use Rattle.std.proofs.lemmas.Bool.Decides.{nat_tests}
-use Rattle.oram_redo.specs.Laws.{BlanksAreZeros}
+use Rattle.oram_redo.specs.Laws.{BlanksAreZeros, BlanksExample, one_byte}
 use Rattle.oram_redo.specs.Note.{Call}
-use Rattle.oram_redo.specs.Opened.{Opened}
+use Rattle.oram_redo.specs.Opened.{Opened, contents_in}
 use Rattle.oram_redo.specs.FilePair.{Contents}
-use Rattle.oram_redo.specs.System.{put_in, seen_after}
+use Rattle.oram_redo.specs.System.{EndsAt, put_in, seen_after}
 use Rattle.oram_redo.specs.declared.file_pair.FileKind.{FileKind}
 use Rattle.oram_redo.specs.declared.file_pair.FileKind.TheVariants.{Records, Log}
 use Rattle.oram_redo.proofs.Bytes.{put_outside}
@@ -38,3 +38,11 @@ blanks_are_zeros first file at (call ∷ calls) (inl asked) honest = λ i low.
 blanks_are_zeros first file at (call ∷ calls) (inr rest) honest = λ i low.
     kept first calls call file i ((call.kind == 1) && call.is_ok) refl (λ write same. omega (arith, rest.0 write same, low))
     ∙ blanks_are_zeros first file at calls rest.1 honest.3 i low
+
+-- a log of one byte holds zeros behind that
+ends_at_one : EndsAt (contents_in one_byte Log) 1
+ends_at_one zero low = absurd (omega (arith, low))
+ends_at_one (suc i) low = refl
+
+pub blanks_example : BlanksExample
+blanks_example = (inl (refl, refl, omega arith), ((λ read. absurd (omega (arith, read))), (λ read none. absurd (omega (arith, read))), (λ asked. ends_at_one), tt))

@@ -12,8 +12,9 @@ use std::io::{self, ErrorKind};
 /// How many bytes the log grows ahead when a write reaches past its end.
 const MEBIBYTE: u64 = 1 << 20;
 
-/// Before a write that ends at `end`, makes the log longer if that is past its end, but at most `room` bytes long. So the sync after the
-/// write has no new length to save, and is quicker. A write that ends past the new length makes the log longer anyway.
+/// Adds zeros to the log before a write to it that ends at `end`, if that is past the log's end: a mebibyte, or fewer, so that the log doesn't
+/// get longer than `room` bytes. So the sync after the write has no new length to save, and is quicker. If the zeros don't reach `end`,
+/// the write makes the log longer itself.
 pub(crate) fn reach(files: &mut SystemFiles, file: FileKind, end: u64, room: u64)
     ensures { TouchedNothing (calls_of files.old) (calls_of files.new) }
 {
@@ -28,7 +29,8 @@ pub(crate) fn reach(files: &mut SystemFiles, file: FileKind, end: u64, room: u64
     }
 }
 
-/// Makes the log longer by so many bytes, but at most `room` bytes long.
+/// Adds `more` zeros to the end of the log, or fewer, so that it doesn't get longer than `room` bytes. If the system refuses, the log stays
+/// as long as it is.
 pub(crate) fn grow(files: &mut SystemFiles, more: u64, room: u64)
     ensures { TouchedNothing (calls_of files.old) (calls_of files.new) }
 {

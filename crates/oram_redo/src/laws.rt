@@ -3,7 +3,7 @@
 ghost use Rattle.std.specs.Prelude.{◌≡◌, ℕ, [], All, OnOk};
 ghost use Rattle.oram_redo.specs.Batch.{patches_of};
 ghost use Rattle.oram_redo.specs.FilePair.{Contents};
-ghost use Rattle.oram_redo.specs.Laws.{BlanksAreZeros, FilesStandForOne, LogsAreOne, ReplayHeals};
+ghost use Rattle.oram_redo.specs.Laws.{BlanksAreZeros, BlanksExample, FilesStandForOne, LogsAreOne, ReplayHeals};
 ghost use Rattle.oram_redo.specs.Log.{Fits, Keeps, StandsFor, put_all};
 ghost use Rattle.oram_redo.specs.Redo.{IsCrashConsistent, bounds_of};
 
@@ -21,9 +21,10 @@ pub fn replay_heals()
     ensures { ReplayHeals }
 {}
 
-/// From a blank place on, an honest file of the system holds zeros.
+/// From a blank place on, an honest file of the system holds zeros. A log that was asked for its length is an example.
 pub fn blanks_are_zeros()
-    ensures { BlanksAreZeros }
+    ensures law { BlanksAreZeros }
+    ensures example { BlanksExample }
 {}
 
 /// Between two calls, whatever a crash leaves stands for the records that are read, except in loose places.

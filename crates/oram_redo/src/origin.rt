@@ -5,7 +5,8 @@ ghost use Rattle.oram_redo.specs.Opened.{Opened};
 
 use std::marker::{Model, PhantomData};
 
-/// What a file of records and its log held when a pair was made of them, and what of it no sync had covered. It takes no bytes at run time, and no code can read it.
+/// What a file of records and its log held when a pair was made of them, and what of it no sync had covered. It takes no bytes at run time,
+/// and no code can read it.
 #[derive(Drop)]
 pub struct Origin {
     marker: PhantomData<u8>,
