@@ -56,7 +56,8 @@ struct Wait {
 /// run. Once it has passed, or the host turned out to keep another disk or none, later batches try nothing.
 ///
 /// While a connection is open, the messages of a batch can be sent ahead of their answers ([`PipelinedLink`]). Their answers are then
-/// what the first try comes to. If they don't come, the whole batch is sent again as any other.
+/// what the first try comes to. If they don't come, the whole batch is sent again as any other. Its reconnect timeout runs from the moment
+/// when its messages were sent, also while the caller does something else.
 #[derive(Debug, Drop)]
 pub struct ReconnectLink<D: Dial, W> {
     dialer: D,
