@@ -108,6 +108,23 @@ class FrameClient:
             return None
         return read_frame(self.stream)
 
+    def send_all(self, bodies):
+        """Sends messages in one write, and reads no answer. Returns whether they were sent."""
+        try:
+            self.stream.sendall(b"".join(map(frame_of, bodies)))
+        except OSError:
+            return False
+        return True
+
+    def send_slowly(self, bodies):
+        """Sends messages one byte at a time."""
+        for number in b"".join(map(frame_of, bodies)):
+            self.stream.sendall(bytes([number]))
+
+    def read(self):
+        """The next answer; None if the connection ended before it."""
+        return read_frame(self.stream)
+
     def close(self):
         if self.stream:
             self.stream.close()

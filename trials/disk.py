@@ -6,6 +6,7 @@ import signal
 import subprocess
 from contextlib import suppress
 
+from trials.bucket_file import BucketFile, log_of
 from trials.bucket_host import Host
 from trials.connections import connect
 from trials.nbd_client import NbdClient
@@ -160,9 +161,14 @@ class Disk:
         """The bytes of the files in which its host keeps its buckets."""
         return {file: file.read_bytes() for file in self.folder.glob(f"{self.host.file}*")}
 
+    def settled_files(self):
+        """What counts in the files of its host once it has settled. Behind the shut gate at its beginning a log has nothing that counts, and a
+        start copies no more of it."""
+        return {file: whole[: BucketFile.LOG_START + 1] if file == log_of(file.parent / self.host.file) else whole for file, whole in self.host_files().items()}
+
     def settle_host(self):
         """Waits until its host has emptied its log after the last connection, since it answers the next one only then. From then on its
-        files stay as they are, also over a start."""
+        files stay as they are in what counts (`settled_files`), also over a start."""
         client = self.host.client()
         client.ask(b"")
         client.close()

@@ -60,14 +60,22 @@ def noting_bytes(calls, file):
     return ["strace", "-f", "-y", "-xx", "-s", str(1 << 20), "-o", file, "-e", f"trace={calls}"]
 
 
+def noting_bytes_and_failing(calls, file, call, when):
+    """The words that start a program under strace as `noting_bytes` does, and make this call fail once with an error of the disk: the call
+    with this number."""
+    return [*noting_bytes(calls, file), "-e", f"inject={call}:error=EIO:when={when}"]
+
+
 @dataclasses.dataclass
 class Call:
-    """A call that was done: a write, with its file, place and bytes; a sync of a file; or something that was sent."""
+    """A call that was done: a write, with its file, place and bytes; a sync of a file or folder; a new file, a file with a new name, or one
+    that was removed; or something that was sent. Or a sync that was made to fail."""
 
     name: str
     file: Path
     data: bytes = b""
     place: int = 0
+    new_name: Path = None
 
     def is_write(self):
         return self.name == "pwrite64"
@@ -75,41 +83,55 @@ class Call:
     def is_sync(self):
         return self.name in ("fsync", "fdatasync")
 
+    def is_failed_sync(self):
+        return self.name == "failed sync"
+
     def is_send(self):
         return self.name == "sendto"
 
 
-def writes_syncs_and_sends(text):
-    """The calls of a process that succeeded, by the lines that strace writes if it notes bytes. Fails on a call of another kind."""
+# The calls that change files or names, sync them, or send something.
+CHANGES_AND_SENDS = "pwrite64,ftruncate,fallocate,fsync,fdatasync,sendto,openat,rename,renameat,renameat2,unlink,unlinkat"
+
+
+def changes_and_sends(text):
+    """The calls of a process that succeeded and changed something, by the lines that strace writes if it notes bytes. Fails on a call of
+    another kind."""
     found = []
-    for line in re.findall(r"^\d+ +(\w+\(.*\) += [0-9]+)$", text, re.MULTILINE):
+    for line in text.splitlines():
+        call, _, result = line.partition(" ")[2].strip().rpartition(" = ")
+        if not re.match(r"\w+\(", call) or (result.startswith("-1") and " EIO " not in result):
+            continue
+        line = f"{call.rstrip()} = {result}"
         if wrote := re.fullmatch(r'pwrite64\(\d+<(.*)>, "(.*)", \d+, (\d+)\) += (\d+)', line):
             data = from_hex(wrote[2])[: int(wrote[4])]
-            found.append(Call("pwrite64", Path(from_hex(wrote[1]).decode()), data, int(wrote[3])))
+            found.append(Call("pwrite64", path_in(wrote[1]), data, int(wrote[3])))
         elif synced := re.fullmatch(r"(fsync|fdatasync)\(\d+<(.*)>\) += 0", line):
-            found.append(Call(synced[1], Path(from_hex(synced[2]).decode())))
+            found.append(Call(synced[1], path_in(synced[2])))
+        elif failed := re.fullmatch(r"f(?:data)?sync\(\d+<(.*)>\) += -1 EIO .*", line):
+            found.append(Call("failed sync", path_in(failed[1])))
         elif line.startswith("sendto("):
             found.append(Call("sendto", None))
+        elif renamed := re.fullmatch(r'rename\w*\((?:AT_FDCWD<.*>, )?"(.*)", (?:AT_FDCWD<.*>, )?"([^"]*)".*\) += 0', line):
+            found.append(Call("rename", path_in(renamed[1]), new_name=path_in(renamed[2])))
+        elif removed := re.fullmatch(r'unlink\w*\((?:AT_FDCWD<.*>, )?"(.*)".*\) += 0', line):
+            found.append(Call("unlink", path_in(removed[1])))
+        elif opened := re.fullmatch(r'openat\(AT_FDCWD<.*>, "(.*)", ([A-Z_|]+).*\) += \d+<.*>', line):
+            if "O_CREAT" in opened[2]:
+                found.append(Call("create", path_in(opened[1])))
         else:
             raise ValueError(f"a call of another kind: {line[:80]}")
     return found
 
 
+def path_in(text):
+    """The path that strace shows in hexadecimal digits."""
+    return Path(from_hex(text).decode())
+
+
 def from_hex(text):
     """The bytes that strace shows as \\x41\\x42."""
     return bytes.fromhex(text.replace("\\x", ""))
-
-
-def writes_before_sync(text, file):
-    """What a process wrote to a file before it first synced it, by the lines of strace: for each write its place and its length. None if
-    it never synced it."""
-    name, writes = re.escape(f"<{file}>"), []
-    for line in text.splitlines():
-        if re.search(rf"fd?a?t?a?sync\(\d+{name}\) += 0", line):
-            return writes
-        if wrote := re.search(rf"pwrite64\(\d+{name}, .*, \d+, (\d+)\) += (\d+)", line):
-            writes.append((int(wrote[1]), int(wrote[2])))
-    return None
 
 
 def trace_renames_and_syncs(folder, *words):

@@ -32,6 +32,7 @@ class Reading:
         """All checks, given how many commands were accepted."""
         self.check_head(accepted)
         self.check_stores()
+        self.check_stamps()
         self.check_places()
         found = [self.check_tree(tree) for tree in range(len(self.sizes.trees()))]
         self.check_nonces([nonce for nonces, _ in found for nonce in nonces])
@@ -55,6 +56,16 @@ class Reading:
         trees = sorted({store.tree for store in self.state.stores})
         wanted = [] if self.state.accepted == len(self.state.waiting) else list(range(len(depths)))
         self.check("the STOREs that wait", all(are_whole) and trees == wanted, (are_whole, trees, wanted))
+
+    def check_stamps(self):
+        """The host has begun and done a batch of this keeping, if commands were carried out."""
+        start, key = b"\0\0\0\1", self.derived(b"vidlaqe stamp key")
+        check = self.state.process_check.to_bytes(8, "big")
+        masked = hashlib.sha256(start + key + b"\2" + check).digest()[:8] if self.state.accepted else bytes(8)
+        for node, place in enumerate(("begun", "done")):
+            record = self.buckets.record(STAMP_TREE, node)
+            tag = hashlib.sha256(start + key + bytes([node]) + record[:16]).digest()
+            self.check(f"the stamp that is {place}", record[8:16] == masked and record[16:] == tag, record)
 
     def check_places(self):
         """Each tree has the shape that follows from the sizes, and its cells lie apart."""

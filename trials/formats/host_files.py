@@ -82,6 +82,12 @@ def generation_of(front):
     return max(numbers)
 
 
+def least_length_of(front):
+    """The length that a file has at least, as its front says; 0 if it says none."""
+    length, check = front[64:72], front[72:80]
+    return int.from_bytes(length, "little") if siphash(length) == int.from_bytes(check, "little") else 0
+
+
 def read_buckets(name):
     """A bucket file with its log, whose entries are put at their places."""
     file, log = Reader(Path(name).read_bytes(), "little"), Reader(Path(f"{name}-log").read_bytes(), "little")
@@ -89,6 +95,9 @@ def read_buckets(name):
     log.expect(b"VIDLAQEL", "its log begins so")
     if (file.number(8), log.number(8)) != (3, 3) or file.take(16) != log.take(16):
         raise Misread("the versions, or the identities")
+    # A host has written a generation by now, and with it the length.
+    if not 8192 < least_length_of(file.data) <= len(file.data):
+        raise Misread("the length of the file")
     data, entries = bytearray(file.data), list(log_entries(log.data))
     ahead = generation_of(log.data) - generation_of(file.data)
     if ahead not in ([0] if entries else [0, 1]):

@@ -6,6 +6,9 @@ from trials.formats.ciphers import siphash
 from trials.formats.reader import Misread, Reader
 from trials.formats.sizes import Sizes
 
+LETTERS = b"VIDLAQE6"
+# How many bytes the salt, the key check and the sealer have, and how many fields of a core that hasn't failed stand before its table.
+HEAD, BEFORE_TABLE = 65, 45
 # The kind of a command that writes.
 WRITE_BLOCK = 0x12
 # A state that has failed keeps no trees, and one that is at work has the commands that wait.
@@ -47,6 +50,7 @@ class State:
     stashes: list = field(default_factory=list)
     stores: list = field(default_factory=list)
     note: bytes = b""
+    process_check: int = 0
     waiting: list = field(default_factory=list)
     outstanding: int = -1
     message: bytes = b""
@@ -55,7 +59,7 @@ class State:
 def read_state(data):
     """The state that a file keeps."""
     head = Reader(data)
-    head.expect(b"VIDLAQE5", "a kept file begins so")
+    head.expect(LETTERS, "a kept file begins so")
     salt, check, sealer = head.take(32), head.take(32), head.number(1)
     if siphash(data[head.at : -8]) != int.from_bytes(data[-8:], "big"):
         raise Misread("the checksum")
@@ -74,6 +78,9 @@ def read_state(data):
         read_trees(reader, state)
     if mode in AT_WORK:
         read_work(reader, state)
+    text = data[len(LETTERS) + HEAD : -8]
+    table_at = head.at - len(LETTERS) - HEAD + BEFORE_TABLE
+    state.process_check = siphash(text[:table_at] + text[table_at + 4 * len(state.table) :])
     if mode != FAILED and not reader.is_at_end():
         raise Misread("there is more after the state")
     return state

@@ -11,6 +11,7 @@ from pathlib import Path
 from trials import strace
 from trials.bucket_file import log_of
 from trials.bucket_host import Host
+from trials.bucket_messages import NO_ROOM, refused
 from trials.host.kills import kill_children, random_store
 from trials.host.rot import DEPTH, RECORD_LEN, killed_host
 
@@ -31,10 +32,13 @@ class Asked:
         self.unanswered, self.is_traced = 0, True
 
     def ask_all(self, stores=6):
-        """Stores random paths. Returns whether each one was done, or had no answer and was done or not, as the host says then."""
+        """Stores random paths. Returns whether each one was done, or had no answer and was done or not, as the host says then. One that
+        found no room is asked for again, and has to be done then."""
         for _ in range(stores):
             body, then = random_store(self.trial.dice, DEPTH, RECORD_LEN), copy.deepcopy(self.model)
             wanted, answer = then.answer(body), self.client.ask(body)
+            if answer == refused(NO_ROOM):
+                answer = self.client.ask(body)
             if answer == wanted:
                 self.model = then
             elif answer is not None or not self.is_found(then):

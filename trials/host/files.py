@@ -79,6 +79,37 @@ def make_other_files(trial, folder):
     return text, older, first, newer, damaged, twice
 
 
+# Where the front of a file says how long the file is, in how many bytes.
+LENGTH_AT, LENGTH_FIELD_LEN = 64, 16
+
+
+def try_cut_short(trial):
+    """A file that was cut short is refused, however little is gone. A file whose front says no length opens, as those of earlier versions do."""
+    folder = trial.folder / "cut-short"
+    folder.mkdir()
+    host, model = used_host(trial, folder)
+    whole, log = host.path().read_bytes(), log_of(host.path()).read_bytes()
+    said = int.from_bytes(whole[LENGTH_AT : LENGTH_AT + 8], "little")
+    trial.check("the front says how long the file was", said == len(whole), (said, len(whole)))
+    write_settings(folder, "short")
+    short = folder / "short"
+    log_of(short).write_bytes(log)
+    start, line = lambda: trial.start("host", "host.toml", folder=folder), f"oramdisk: short {NO_HOST}"
+    for length in (said - 1, said // 2, 8192, LENGTH_AT + LENGTH_FIELD_LEN):
+        short.write_bytes(whole[:length])
+        check_refused(trial, f"a file that was cut to {length} bytes", short, start, DAMAGED, line)
+        trial.check("its log is as it was", log_of(short).read_bytes() == log)
+    for what, field in (("no length", bytes(LENGTH_FIELD_LEN)), ("a torn length", whole[LENGTH_AT : LENGTH_AT + 8] + bytes(8))):
+        older = Host(trial.oramdisk, folder / what.replace(" ", "-"), "older")
+        older.path().write_bytes(whole[:LENGTH_AT] + field + whole[LENGTH_AT + LENGTH_FIELD_LEN :])
+        log_of(older.path()).write_bytes(log)
+        client = older.start().client()
+        check_answers(trial, f"a file whose front says {what}", client, model, model.all_fetches())
+        client.close()
+        older.stop()
+        trial.check(f"{what}: it says it then", older.path().read_bytes()[LENGTH_AT : LENGTH_AT + 8] == whole[LENGTH_AT : LENGTH_AT + 8])
+
+
 def try_logs(trial):
     """A file and its log belong together: what was stored last may be only in the log."""
     folder = trial.folder / "logs"

@@ -1,5 +1,4 @@
-"""A host that is killed: while it stores, right before a write or a sync, after a formatting, and while thousands of PUTs wait. And what it
-writes when it starts again."""
+"""A host that is killed: while it stores, right before a write or a sync, after a formatting, and while thousands of PUTs wait."""
 
 import contextlib
 import copy
@@ -15,8 +14,8 @@ from trials.bucket_host import check_answers
 from trials.bucket_messages import DONE, MISSING, PUT, SHAPE_TAKEN, DiskModel, Model, fetch, is_a, put, refused, shape, store
 from trials.host.messages import random_body
 
-# How many bytes a host writes at once when it writes its log over itself.
-WRITTEN_AGAIN = 4096
+# How many bytes a host copies at once when it copies its log.
+COPIED_AT_ONCE = 65536
 
 # The most records of a formatting that a host leaves unsynced before it syncs them together.
 MOST_PENDING = 4096
@@ -80,6 +79,83 @@ def try_kills(trial, rounds=15, depth=4, record_len=2000):
     print(f"{in_all} STOREs between {rounds} kills", flush=True)
 
 
+def prefixes(model, messages):
+    """What a host holds before these messages, after the first, and so on to the last."""
+    fetches, now = model.all_fetches(), copy.deepcopy(model)
+    held = [[now.answer(body) for body in fetches]]
+    for body in messages:
+        now.answer(body)
+        held.append([now.answer(body) for body in fetches])
+    return held
+
+
+def store_groups_until_killed(trial, host, depth, record_len, together):
+    """Stores random paths, some of them in one write each time, until the host is killed. Returns them, and how many had an answer."""
+    client = host.client()
+    killer = threading.Timer(trial.dice.uniform(0.02, 0.6), lambda: host.process.send_signal(signal.SIGKILL))
+    killer.start()
+    sent, answered, goes_on = [], 0, True
+    while goes_on:
+        group = [random_store(trial.dice, depth, record_len) for _ in range(together)]
+        sent += group
+        goes_on = client.send_all(group)
+        for _ in group if goes_on else []:
+            answer = client.read()
+            if answer is None:
+                goes_on = False
+                break
+            trial.check("a STORE of a group", answer == DONE, answer[:8].hex())
+            answered += 1
+    killer.join()
+    host.wait()
+    client.close()
+    return sent, answered
+
+
+def try_killed_groups(trial, rounds=15, depth=4, record_len=700, together=16):
+    """The host is killed while STOREs arrive together: what was acknowledged is there, and of the others a beginning, each of them whole."""
+    host, model = trial.host("killed-groups").start(), Model()
+    format_tree(trial, host, model, depth, record_len)
+    in_all = 0
+    for number in range(rounds):
+        sent, answered = store_groups_until_killed(trial, host, depth, record_len, together)
+        in_all += answered
+        host.start()
+        client = host.client()
+        found = [client.ask(body) for body in model.all_fetches()]
+        held = prefixes(model, sent[: answered + together])[answered:]
+        trial.check(f"kill {number}: every acknowledged STORE, and a beginning of the others", found in held, (answered, len(sent)))
+        for body in sent[: answered + (held.index(found) if found in held else 0)]:
+            model.answer(body)
+        client.close()
+    trial.check("STOREs between the kills", in_all > 0, in_all)
+    host.stop()
+    print(f"{in_all} STOREs that arrived together between {rounds} kills", flush=True)
+
+
+def try_left_groups(trial, depth=4, record_len=700, together=16):
+    """A client sends STOREs in one write and leaves, so that nobody reads the answers: a beginning of them is there, each of them whole. And
+    a client sends STOREs one byte at a time, and gets an answer to each."""
+    host, model = trial.host("left-groups").start(), Model()
+    format_tree(trial, host, model, depth, record_len)
+    group = [random_store(trial.dice, depth, record_len) for _ in range(together)]
+    client = host.client()
+    client.send_all(group)
+    client.stream.close()
+    client = host.client()
+    found = [client.ask(body) for body in model.all_fetches()]
+    held = prefixes(model, group)
+    trial.check("a client that left: a beginning of its STOREs", found in held, "")
+    for body in group[: held.index(found) if found in held else 0]:
+        model.answer(body)
+    slow = [random_store(trial.dice, depth, 1) for _ in range(3)] + [random_store(trial.dice, depth, record_len)] + model.all_fetches()[:2]
+    client.send_slowly(slow)
+    given = [client.read() for _ in slow]
+    trial.check("one byte at a time", given == [model.answer(body) for body in slow], given[:4])
+    client.close()
+    host.stop()
+
+
 def try_cut_writes(trial, rounds=40):
     """The host is killed right before a write or a sync, even while it opens its file: what was acknowledged is there, and the
     request in flight is there whole or not at all. Of the PUTs that no other answer has covered yet, a beginning is there."""
@@ -91,8 +167,8 @@ def try_cut_writes(trial, rounds=40):
     host.stop()
     cuts = 0
     for _ in range(rounds):
-        # A host first writes its log over itself. Most of the cuts come after that.
-        opening = log_of(host).stat().st_size // WRITTEN_AGAIN + 1
+        # A host first copies its log. Most of the cuts come after that.
+        opening = log_of(host).stat().st_size // COPIED_AT_ONCE + 3
         when = trial.dice.randrange(1, 60) + trial.dice.choice([0, opening, opening, opening])
         host.start(strace.killing_before("pwrite64,fdatasync,fsync", when))
         states, has_ended = ask_until_killed(trial, host, model)
@@ -108,31 +184,6 @@ def try_cut_writes(trial, rounds=40):
 def log_of(host):
     """The log beside a host's file."""
     return host.path().with_name(f"{host.path().name}-log")
-
-
-def try_log_written_again(trial, stores=20):
-    """A host writes its whole log over itself before it first syncs it, since an earlier sync may have failed. Nothing else changes."""
-    if not strace.is_usable():
-        trial.skip()
-        return
-    host, model = trial.host("log-again").start(), Model()
-    format_tree(trial, host, model, 3, 700)
-    client = host.client()
-    check_answers(trial, "STOREs into the log", client, model, [random_store(trial.dice, 3, 700) for _ in range(stores)])
-    client.close()
-    host.stop()
-    log, before = log_of(host), log_of(host).read_bytes()
-    with tempfile.NamedTemporaryFile() as found:
-        host.start(strace.noting("pwrite64,fsync,fdatasync", found.name))
-        client = host.client()
-        check_answers(trial, "what it holds with its log written again", client, model, [fetch(0, leaf) for leaf in range(8)])
-        client.close()
-        kill_children(host.process)
-        host.wait()
-        writes = strace.writes_before_sync(Path(found.name).read_text(), log.resolve())
-    places = {at for place, length in writes or [] for at in range(place, place + length)}
-    trial.check("the log is written again before it is synced", places == set(range(len(before))), (len(places), len(before)))
-    trial.check("the log that was written again", log.read_bytes() == before)
 
 
 def ask_until_killed(trial, host, model, count=40):

@@ -1,13 +1,16 @@
 """A host whose file is older than what its disk knows, or whose stamps are forged; and a process that slept while another one went on."""
 
 import copy
+import hashlib
 import shutil
 import signal
+import tomllib
 
 from trials.bucket_file import BucketFile
 from trials.bucket_messages import NO_ROOM, PUT, STORE, fetch, is_a, refused
 from trials.disk import Disk
 from trials.disk_array import DiskArray, check_and_end, check_disk, lose_write, make_requests, write_block
+from trials.formats.ciphers import derived
 from trials.nbd.tampering import STAMP_TREE
 from trials.statuses import NO_STAMPS, OLDER_HOST, REPLACED_STATE
 
@@ -136,6 +139,33 @@ def try_forged_stamps(trial):
         trial.check(f"forged stamps, {what}: two messages", disk.relay.messages == 2, disk.relay.messages)
     disk.relay.instead = lambda body: None
     check_and_end(trial, "forged stamps: what it holds afterwards", disk, array)
+
+
+def try_fifth_format(trial):
+    """A state of the format before is served beside the stamps that its program has put, which have the checksum of its whole text."""
+    disk, array, _ = used_disk(trial, "fifth_format")
+    state, own = disk.state_file.read_bytes(), stamps_of(disk)
+    answer = stamps_before(disk, state, own[1:9])
+    disk.start_host()
+    disk.relay.instead = lambda body: answer if body == fetch(STAMP_TREE, 0) else None
+    trial.ends("fifth format: its stamps beside the newest format", disk.start("serve"), REPLACED_STATE, f"oramdisk: {disk.name}/disk.state {REPLACED}")
+    disk.state_file.write_bytes(b"VIDLAQE5" + state[8:])
+    client = disk.serve().client()
+    disk.relay.instead = lambda body: None
+    check_disk(trial, "fifth format: what it holds", client, array)
+    disk.end(client)
+    trial.check("fifth format: what is kept next", disk.state_file.read_bytes()[:8] == b"VIDLAQE6")
+    disk.start_host()
+    check_and_end(trial, "fifth format: what it holds afterwards", disk, array)
+
+
+def stamps_before(disk, state, number):
+    """The stamps of this number that the program of the format before has put beside this state."""
+    settings = tomllib.loads(disk.settings_file.read_text())
+    key = derived(bytes.fromhex(settings["key"]), b"vidlaqe stamp key", state[8:40])
+    start = b"\0\0\0\1" + key
+    stamp = number + hashlib.sha256(start + b"\2" + state[-8:]).digest()[:8]
+    return b"\x80" + b"".join(stamp + hashlib.sha256(start + place + stamp).digest() for place in (b"\0", b"\1"))
 
 
 def stamps_of(disk):

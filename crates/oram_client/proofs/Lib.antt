@@ -26,3 +26,5 @@ pub mod StampedHost
 pub mod TreesApartExample
 pub mod Rows
 pub mod StampedExample
+pub mod Checksums
+pub mod Tables

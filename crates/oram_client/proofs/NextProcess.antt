@@ -1,6 +1,6 @@
 -- The next process reads what was kept.
 use Rattle.std.proofs.Common.{◌≡◌, inl, inr, refl, ℕ, arith, Bool, true, false, List, [], ◌∷◌, ◌++◌, length, Option, None, Some, sym, ◌∙◌, ap, subst, codes, take, drop, slice_index}
-use Rattle.std.specs.Prelude.{◌↔◌}
+use Rattle.std.specs.Prelude.{◌↔◌, unwrap_or}
 use Rattle.std.proofs.lemmas.List.{append_cancel_left, drop_at, take_at}
 use Rattle.oram_link_laws.specs.Examples.{new_core, one_block}
 use Rattle.oram_rounds.specs.Files.{IsFile, IsFileOf, IsFileWith}
@@ -13,11 +13,12 @@ use Rattle.oram_client.specs.declared.kept_file.SealerKind.TheVariants.{Plain, C
 use Rattle.oram_client.specs.DeedHistory.{PlaceNote, IsPossible, possible_after, some_possible}
 use Rattle.oram_client.specs.FileKeeper.{FileKeeperState, KeepsFile, MayReadBack}
 use Rattle.oram_client.specs.FilePlace.{FilePlaceState, NotesDeed, NotesFound, PlaceMayBe}
-use Rattle.oram_client.specs.KeptFile.{IsHead, IsOlder, behind_letters, kept_file, sealer_byte}
+use Rattle.oram_client.specs.KeptFile.{IsHead, IsOlder, IsReadAs, behind_letters, kept_file, sealer_byte, with_checksum}
+use Rattle.oram_client.proofs.Checksums.{sums_same}
 use Rattle.oram_client.specs.NextProcess.{FoundBegins, FoundIsReadBack, FoundMayBeLost, KeptDisk, KeptIsFound, KeptOutlastsLoss, NextProcessExample, TellsOf, TellsOnlyOf, UnkeptLeavesOne, UnkeptMayBeFound, empty_place, first_keeper, having_kept, new_disk, noting, place_with, some_head}
 use Rattle.oram_client.specs.PowerLoss.{FolderHistory, FoldersAfter, IsLeftByLoss, names_now}
 use Rattle.oram_client.specs.Replacement.{FileDeed, Names, Writes, Renames, SyncsFolder, Clears, found}
-use Rattle.oram_client.proofs.ReadBack.{either_lasting, found_kept, found_unkept, lasting, only_process}
+use Rattle.oram_client.proofs.ReadBack.{either_lasting, found_kept, found_unkept, lasting, read_same}
 
 -- the parts of two equal lists whose first parts are equally long
 cut : (b c u v : List ℕ) → length b ≡ length c → b ++ u ≡ c ++ v → (b ≡ c) × (u ≡ v)
@@ -35,21 +36,23 @@ same_sealer ChaCha20 ChaCha20 e = refl
 -- a kept file has one head and one process
 one_head : (h g : Head) (p q : List ℕ) → IsHead h → IsHead g → kept_file h p ≡ kept_file g q → (h ≡ g) × (p ≡ q)
 one_head h g p q is are e =
-    let behind : behind_letters h p ≡ behind_letters g q = append_cancel_left (codes "VIDLAQE5") (behind_letters h p) (behind_letters g q) e in
-    let salt = cut h.salt.0 g.salt.0 (h.key_check.0 ++ sealer_byte h.sealer ∷ p) (g.key_check.0 ++ sealer_byte g.sealer ∷ q) (is.salt ∙ sym are.salt) behind in
-    let check = cut h.key_check.0 g.key_check.0 (sealer_byte h.sealer ∷ p) (sealer_byte g.sealer ∷ q) (is.key_check ∙ sym are.key_check) salt.1 in
+    let a = with_checksum p in
+    let b = with_checksum q in
+    let behind : behind_letters h a ≡ behind_letters g b = append_cancel_left (codes "VIDLAQE6") (behind_letters h a) (behind_letters g b) e in
+    let salt = cut h.salt.0 g.salt.0 (h.key_check.0 ++ sealer_byte h.sealer ∷ a) (g.key_check.0 ++ sealer_byte g.sealer ∷ b) (is.salt ∙ sym are.salt) behind in
+    let check = cut h.key_check.0 g.key_check.0 (sealer_byte h.sealer ∷ a) (sealer_byte g.sealer ∷ b) (is.key_check ∙ sym are.key_check) salt.1 in
     let byte : sealer_byte h.sealer ≡ sealer_byte g.sealer = ap (λ (l : List ℕ). slice_index l 0) check.1 in
     let sealer : h.sealer ≡ g.sealer = same_sealer h.sealer g.sealer byte in (
       (λ k. record { salt = record { 0 = salt.0 k }; key_check = record { 0 = check.0 k }; sealer = sealer k }),
-      ap (drop 1) check.1,
+      sums_same p q (ap (drop 1) check.1),
     )
 
 -- its letters are those of the newest format
 not_older : (h : Head) (p : List ℕ) → IsOlder (kept_file h p) → ⊥
-not_older h p (inl (rest, e)) = let letter : 53 ≡ 49 = ap (λ (l : List ℕ). slice_index l 7) e in omega (arith, letter)
-not_older h p (inr (inl (rest, e))) = let letter : 53 ≡ 50 = ap (λ (l : List ℕ). slice_index l 7) e in omega (arith, letter)
-not_older h p (inr (inr (inl (rest, e)))) = let letter : 53 ≡ 51 = ap (λ (l : List ℕ). slice_index l 7) e in omega (arith, letter)
-not_older h p (inr (inr (inr (rest, e)))) = let letter : 53 ≡ 52 = ap (λ (l : List ℕ). slice_index l 7) e in omega (arith, letter)
+not_older h p (inl (rest, e)) = let letter : 54 ≡ 49 = ap (λ (l : List ℕ). slice_index l 7) e in omega (arith, letter)
+not_older h p (inr (inl (rest, e))) = let letter : 54 ≡ 50 = ap (λ (l : List ℕ). slice_index l 7) e in omega (arith, letter)
+not_older h p (inr (inr (inl (rest, e)))) = let letter : 54 ≡ 51 = ap (λ (l : List ℕ). slice_index l 7) e in omega (arith, letter)
+not_older h p (inr (inr (inr (rest, e)))) = let letter : 54 ≡ 52 = ap (λ (l : List ℕ). slice_index l 7) e in omega (arith, letter)
 
 one_disk : (disk other : KeptDisk) (file : List ℕ) → TellsOf file disk → other.overhead ≡ disk.overhead → TellsOf file other → other ≡ disk
 one_disk disk other file t overhead u =
@@ -108,15 +111,17 @@ found_there : (p q : FilePlaceState) (file : Option (List ℕ)) → NotesFound p
 found_there p q file notes d possible = subst (λ (l : List PlaceNote). IsPossible l d) notes.noted possible
 
 pub found_is_read_back : FoundIsReadBack
-found_is_read_back p q head sync bytes notes =
+found_is_read_back p q head sync file bytes check is notes =
     let some = some_possible q.notes in (
-      record { folder = some.0; possible = some.1; is_found = found_there p q (Some (kept_file head bytes)) notes some.0 some.1 },
-      (λ other r. only_process head other bytes (sym r.is_found ∙ found_there p q (Some (kept_file head bytes)) notes r.folder r.possible)),
+      record { folder = some.0; possible = some.1; file = file; is_found = found_there p q (Some file) notes some.0 some.1; check = check; is_read = is },
+      (λ other r.
+          let same : r.file ≡ file = ap (λ (f : Option (List ℕ)). unwrap_or f []) (sym r.is_found ∙ found_there p q (Some file) notes r.folder r.possible) in
+          read_same head file other bytes r.check check (subst (λ (f : List ℕ). IsReadAs f head other r.check) same r.is_read) is),
     )
 
 pub found_begins : (B : Type 0) → FoundBegins B
-found_begins B p q head sync bytes notes v stores core inner file =
-    let only = (found_is_read_back p q head sync bytes notes).1 in (
+found_begins B p q head sync kept bytes check is notes v stores core inner file =
+    let only = (found_is_read_back p q head sync kept bytes check is notes).1 in (
       (λ other r. subst (λ (b : List ℕ). IsFile v b stores core) (sym (only other r)) file),
       (λ may_lie host before array k stores_are core_is.
           begun_is_safe B (MayReadBack PlaceMayBe) may_lie v inner stores core (first_keeper q head sync) bytes host before array k stores_are core_is only),
@@ -134,11 +139,10 @@ unsynced_lost : (file : List ℕ) → IsLeftByLoss (unsynced file) no_files
 unsynced_lost file = record { kept = inl tt; fresh = inl refl; aside = inl refl }
 
 pub found_may_be_lost : FoundMayBeLost
-found_may_be_lost p q head sync bytes notes lasts =
-    let file : List ℕ = kept_file head bytes in
+found_may_be_lost p q head sync file bytes notes lasts =
     let there : found (names_now (unsynced file)) ≡ Some file = refl in
     let possible : PlaceMayBe q (unsynced file) = subst (λ (l : List PlaceNote). IsPossible l (unsynced file)) (sym notes.noted) there in
-    absurd (let none : None ≡ Some file = lasts (unsynced file) possible no_files (unsynced_lost file) in cc)
+    absurd (let none : None ≡ Some (kept_file head bytes) = lasts (unsynced file) possible no_files (unsynced_lost file) in cc)
 
 -- the example
 
@@ -170,5 +174,8 @@ next_process_example bytes note file = (
   lasting NotesDeed PlaceMayBe place_after (λ p. some_possible p.notes) (first_keeper empty_place some_head true) (having_kept bytes) bytes refl (first_kept bytes),
   (λ others. record { head = refl; sync = refl; kept = inl (noted_by (place_with bytes) (Writes true (kept_file some_head others)) false, inl refl) }),
   record { name = refl; noted = refl },
+  refl,
+  record { name = refl; noted = refl },
+  (refl, refl),
   (λ may_lie. (new_process_example.3 may_lie).kept bytes file.0),
 )

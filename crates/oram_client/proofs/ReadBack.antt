@@ -1,12 +1,13 @@
 -- The process that is read back after a keeper has put a file, or failed to.
-use Rattle.std.proofs.Common.{◌≡◌, ◌⊎◌, inl, inr, refl, ℕ, Bool, true, false, List, [], ◌∷◌, Option, None, Some, sym, ◌∙◌, ap, subst, codes, drop}
+use Rattle.std.proofs.Common.{◌≡◌, ◌⊎◌, inl, inr, refl, ℕ, Bool, true, false, List, [], ◌∷◌, Option, None, Some, sym, ◌∙◌, ap, subst, codes, drop, arith, slice_index}
 use Rattle.std.proofs.lemmas.Bool.{true≢false}
 use Rattle.std.proofs.lemmas.List.{append_cancel_left}
 use Rattle.std.specs.Prelude.{◌↔◌, IsSomeAnd, MatchOption, OnErr, OnOk, Result, Ok, Err, is_ok, unwrap_or}
 use Rattle.oram_client.specs.declared.file_step.FileFailure.{FileFailure}
 use Rattle.oram_client.specs.declared.file_step.FileStep.{FileStep}
 use Rattle.oram_client.specs.declared.kept_file.Head.{Head}
-use Rattle.oram_client.specs.KeptFile.{behind_letters, kept_file, sealer_byte}
+use Rattle.oram_client.specs.KeptFile.{IsReadAs, behind_letters, fifth_file, kept_file, sealer_byte, with_checksum}
+use Rattle.oram_client.proofs.Checksums.{sums_same}
 use Rattle.oram_client.specs.FileKeeper.{FileKeeperState, IsEitherLasting, IsLasting, KeepsFile, MayReadBack, PutsFile}
 use Rattle.oram_client.specs.PowerLoss.{FolderHistory, DoesToFolder, FoldersAfter, IsLeftByLoss, IsSure, names_now}
 use Rattle.oram_client.specs.Replacement.{FileDeed, DoesAll, IsBrokenOff, deeds_of, found}
@@ -14,13 +15,31 @@ use Rattle.oram_client.proofs.NamesNow.{names_all, names_broken}
 use Rattle.oram_client.proofs.PowerLoss.{done_all, lost_in, synced_files_last}
 use Rattle.oram_client.proofs.Whole.{files_are_kept, files_outlast_failures}
 
+-- what stands behind the letters has one end after its head
+only_rest : (head : Head) (a b : List ℕ) → behind_letters head a ≡ behind_letters head b → a ≡ b
+only_rest head a b behind =
+    let check = append_cancel_left head.salt.0 _ _ behind in
+    ap (drop 1) (append_cancel_left head.key_check.0 (sealer_byte head.sealer ∷ a) (sealer_byte head.sealer ∷ b) check)
+
 -- A kept file has one process after its head.
 pub only_process : (head : Head) (a b : List ℕ) → Some (kept_file head a) ≡ Some (kept_file head b) → a ≡ b
 only_process head a b same =
     let whole : kept_file head a ≡ kept_file head b = ap (λ (file : Option (List ℕ)). unwrap_or file []) same in
-    let behind : behind_letters head a ≡ behind_letters head b = append_cancel_left (codes "VIDLAQE5") _ _ whole in
-    let check = append_cancel_left head.salt.0 _ _ behind in
-    ap (drop 1) (append_cancel_left head.key_check.0 (sealer_byte head.sealer ∷ a) (sealer_byte head.sealer ∷ b) check)
+    sums_same a b (only_rest head (with_checksum a) (with_checksum b) (append_cancel_left (codes "VIDLAQE6") _ _ whole))
+
+fifth_same : (head : Head) (a b : List ℕ) → fifth_file head a ≡ fifth_file head b → a ≡ b
+fifth_same head a b whole = sums_same a b (only_rest head (with_checksum a) (with_checksum b) (append_cancel_left (codes "VIDLAQE5") _ _ whole))
+
+-- and no file of the fifth format is one
+pub read_once : (head : Head) (process bytes : List ℕ) (check : Option ℕ) → IsReadAs (kept_file head process) head bytes check → bytes ≡ process
+read_once head process bytes None is = sym (only_process head process bytes (ap Some is))
+read_once head process bytes (Some check) is = let letter : 54 ≡ 53 = ap (λ (l : List ℕ). slice_index l 7) is.0 in absurd (omega (arith, letter))
+
+-- the same of two files of one format
+pub read_same : (head : Head) (file a b : List ℕ) (x y : Option ℕ) → IsReadAs file head a x → IsReadAs file head b y → a ≡ b
+read_same head file a b None y is are = sym (read_once head a b y (subst (λ (f : List ℕ). IsReadAs f head b y) is are))
+read_same head file a b (Some x) None is are = read_once head b a (Some x) (subst (λ (f : List ℕ). IsReadAs f head a (Some x)) are is)
+read_same head file a b (Some x) (Some y) is are = fifth_same head a b (sym is.0 ∙ are.0)
 
 -- After deeds with sync that are all done, a loss of power leaves the new file.
 sure_kept : (file : List ℕ) (d e : FolderHistory) → DoesAll DoesToFolder d (deeds_of true file) e → IsSure e (Some file)
@@ -64,13 +83,19 @@ module _ {P : Type 0} (does : P → FileDeed → Bool → P → Type 0) (may_be 
     behind : (bytes : List ℕ) → m.head ≡ k.head → Some (kept_file m.head bytes) ≡ Some (kept_file k.head bytes)
     behind bytes same = ap (λ (head : Head). Some (kept_file head bytes)) same
 
+    -- if the file with the process is found, that process is read back
+    read_new : (bytes : List ℕ) → m.head ≡ k.head → (r : MayReadBack may_be m bytes) → found (names_now r.folder) ≡ Some (kept_file k.head process) → bytes ≡ process
+    read_new bytes same r new =
+        let file : r.file ≡ kept_file k.head process = ap (λ (f : Option (List ℕ)). unwrap_or f []) (sym r.is_found ∙ new) in
+        read_once k.head process bytes r.check (subst (λ (f : List ℕ). IsReadAs f k.head bytes r.check) file (subst (λ (h : Head). IsReadAs r.file h bytes r.check) same r.is_read))
+
     there : KeepsFile does k process true m → MayReadBack may_be m process
     there keeps =
         let some = some_folder m.place in
-        record { folder = some.0; possible = some.1; is_found = found_kept keeps some.0 some.1 ∙ sym (behind process keeps.head) }
+        record { folder = some.0; possible = some.1; file = kept_file m.head process; is_found = found_kept keeps some.0 some.1 ∙ sym (behind process keeps.head); check = None; is_read = refl }
 
     only : KeepsFile does k process true m → (bytes : List ℕ) → MayReadBack may_be m bytes → bytes ≡ process
-    only keeps bytes r = only_process k.head bytes process (sym (r.is_found ∙ behind bytes keeps.head) ∙ found_kept keeps r.folder r.possible)
+    only keeps bytes r = read_new bytes keeps.head r (found_kept keeps r.folder r.possible)
 
     -- one deed has failed, or an earlier keeping had
     abbrev pub HasFailed : Option FileFailure → Type 0
@@ -98,8 +123,8 @@ module _ {P : Type 0} (does : P → FileDeed → Bool → P → Type 0) (may_be 
 
     unkept : (bytes : List ℕ) → m.head ≡ k.head → (failure : Option FileFailure) → HasFailed failure → MayReadBack may_be m bytes → (bytes ≡ process) ⊎ MayReadBack may_be k bytes
     unkept bytes same failure failed r = elim (found_unkept failure failed r.folder r.possible) [
-      | inl new ↦ inl (only_process k.head bytes process (sym (r.is_found ∙ behind bytes same) ∙ new))
-      | inr old ↦ inr (record { folder = old.0; possible = old.1; is_found = sym old.2 ∙ r.is_found ∙ behind bytes same })
+      | inl new ↦ inl (read_new bytes same r new)
+      | inr old ↦ inr (record { folder = old.0; possible = old.1; file = r.file; is_found = sym old.2 ∙ r.is_found; check = r.check; is_read = subst (λ (h : Head). IsReadAs r.file h bytes r.check) same r.is_read })
     ]
 
     -- with sync, over a loss of power

@@ -2,6 +2,8 @@
 use Rattle.std.specs.Prelude.{◌≡◌, ◌↔◌, ◌==◌, ℕ, Bool, true, false, List, [], ◌∷◌, ◌++◌, Option, None, Some, if◌then◌else◌, codes, slice_index, ⊤}
 use mathlib.Core.Logic.{inl}
 use mathlib.Core.Path.{refl, subst, sym}
+use Rattle.oram_state.specs.StateBytes.{with_table}
+use Rattle.oram_client.specs.KeptFile.{with_checksum}
 use Rattle.oram_client.specs.Replacement.{FileDeed, Writes, SetsAside, Renames, SyncsFolder, Clears, found}
 use Rattle.oram_client.specs.PowerLoss.{FolderHistory, FoldersAfter, DoesToFolder, LeavesFolder, after_deed, names_now}
 
@@ -34,13 +36,13 @@ deed_of kind sync file =
 
 -- What is noted with these numbers and bytes. The first number says what it is: the number of a deed, or 6 for a file that was
 -- found, or 7 if none was. The other numbers are 1 if the deed was done, 1 if the file was synced, and the sealer's byte.
--- `file` is the file that was found, or what was written after the head.
-abbrev pub noted_of : List ℕ → List ℕ → List ℕ → List ℕ → PlaceNote
-noted_of numbers salt key_check file =
-    if slice_index numbers 0 == 6 then Found (Some file)
+-- `front` is the file that was found; or it is what stands before the table in the text that was written after the head.
+abbrev pub noted_of : List ℕ → List ℕ → List ℕ → List ℕ → List ℕ → List ℕ → PlaceNote
+noted_of numbers salt key_check front table after =
+    if slice_index numbers 0 == 6 then Found (Some front)
     else (if slice_index numbers 0 == 7 then Found None
     else Tried (record {
-      deed = deed_of (slice_index numbers 0) (slice_index numbers 2 == 1) (codes "VIDLAQE5" ++ (salt ++ (key_check ++ slice_index numbers 3 ∷ file)));
+      deed = deed_of (slice_index numbers 0) (slice_index numbers 2 == 1) (codes "VIDLAQE6" ++ (salt ++ (key_check ++ slice_index numbers 3 ∷ with_checksum (with_table front table after))));
       is_done = slice_index numbers 1 == 1;
     }))
 

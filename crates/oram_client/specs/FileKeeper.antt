@@ -1,6 +1,6 @@
 -- A keeper that writes what is kept of a process to a file.
 use Rattle.std.specs.Prelude.{◌≡◌, ◌⊎◌, ℕ, Bool, false, List, Option, None, Some, IsSomeAnd, MatchBool, MatchOption}
-use Rattle.oram_client.specs.KeptFile.{kept_file}
+use Rattle.oram_client.specs.KeptFile.{IsReadAs, kept_file}
 use Rattle.oram_client.specs.Replacement.{FileDeed, DoesAll, IsBrokenOff, Names, deeds_of, found}
 use Rattle.oram_client.specs.PowerLoss.{FolderHistory, IsLeftByLoss, IsSure, names_now}
 use Rattle.oram_client.specs.declared.kept_file.Head.{Head}
@@ -29,11 +29,14 @@ module _ {P : Type 0} (does : P → FileDeed → Bool → P → Type 0) where
 
 -- for places whose folder may be one of these
 module _ {P : Type 0} (may_be : P → FolderHistory → Type 0) where
-  -- A reader may find the file with this process.
+  -- A reader may find the file with this process, in the format that the keeper writes or in the fifth, which was there before.
   pub record MayReadBack (k : FileKeeperState P) (process : List ℕ) : Type 0 where
     pub folder : FolderHistory
     pub possible : may_be k.place folder
-    pub is_found : found (names_now folder) ≡ Some (kept_file k.head process)
+    pub file : List ℕ
+    pub is_found : found (names_now folder) ≡ Some file
+    pub check : Option ℕ
+    pub is_read : IsReadAs file k.head process check
 
   -- Whatever a loss of power leaves, the file with this process is found.
   abbrev pub IsLasting : FileKeeperState P → List ℕ → Type 0

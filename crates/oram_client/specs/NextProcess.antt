@@ -1,12 +1,12 @@
 -- What the next process reads of the file that it finds.
-use Rattle.std.specs.Prelude.{◌≡◌, ◌⊎◌, ℕ, Bool, true, false, List, [], ◌∷◌, None, Some, codes, replicate}
+use Rattle.std.specs.Prelude.{◌≡◌, ◌⊎◌, ℕ, Bool, true, false, List, [], ◌∷◌, Option, None, Some, codes, replicate}
 use Rattle.oram_geometry.specs.declared.Sizes.{Sizes}
 use Rattle.oram_host.specs.Host.{Host}
 use Rattle.oram_semantics.specs.Scheme.{Scheme}
 use Rattle.oram_semantics.specs.State.{State}
 use Rattle.oram_link_laws.specs.Examples.{new_core, new_host, one_block}
 use Rattle.oram_rounds.specs.Examples.{zero_array}
-use Rattle.oram_rounds.specs.Files.{IsFile, IsFileOf, IsFileWith}
+use Rattle.oram_rounds.specs.Files.{IsFile, IsFileOf, IsFileWith, checksum}
 use Rattle.oram_rounds.specs.Process.{IsKept, IsSafe, begun}
 use Rattle.oram_cli.specs.declared.file_faults.FileReason.TheVariants as reason
 use Rattle.oram_client.specs.declared.file_step.FileStep.TheVariants as step
@@ -15,7 +15,7 @@ use Rattle.oram_client.specs.declared.kept_file.SealerKind.TheVariants.{Plain}
 use Rattle.oram_client.specs.DeedHistory.{Found, Tried}
 use Rattle.oram_client.specs.FileKeeper.{FileKeeperState, IsLasting, KeepsFile, MayReadBack}
 use Rattle.oram_client.specs.FilePlace.{FilePlaceState, NotesDeed, NotesFound, PlaceMayBe}
-use Rattle.oram_client.specs.KeptFile.{IsHead, IsOlder, kept_file}
+use Rattle.oram_client.specs.KeptFile.{IsHead, IsOlder, IsReadAs, fifth_file, kept_file}
 use Rattle.oram_client.specs.PowerLoss.{FolderHistory, IsLeftByLoss, names_now}
 use Rattle.oram_client.specs.Replacement.{FileDeed, Writes, Renames, SyncsFolder, Clears, Names, found}
 
@@ -80,13 +80,13 @@ first_keeper place head sync = record { place = place; head = head; sync = sync;
 
 -- What is read back is what the place has found, and nothing else.
 abbrev pub FoundIsReadBack : Type 0
-FoundIsReadBack = (p q : FilePlaceState) (head : Head) (sync : Bool) (bytes : List ℕ) → NotesFound p (Some (kept_file head bytes)) q
+FoundIsReadBack = (p q : FilePlaceState) (head : Head) (sync : Bool) (file bytes : List ℕ) (check : Option ℕ) → IsReadAs file head bytes check → NotesFound p (Some file) q
     → MayReadBack PlaceMayBe (first_keeper q head sync) bytes
     × ((other : List ℕ) → MayReadBack PlaceMayBe (first_keeper q head sync) other → other ≡ bytes)
 
 -- So the process begins as the laws about processes require, and is as safe as the one before.
 abbrev pub FoundBegins : Type 0 → Type 0
-FoundBegins B = (p q : FilePlaceState) (head : Head) (sync : Bool) (bytes : List ℕ) → NotesFound p (Some (kept_file head bytes)) q
+FoundBegins B = (p q : FilePlaceState) (head : Head) (sync : Bool) (file bytes : List ℕ) (check : Option ℕ) → IsReadAs file head bytes check → NotesFound p (Some file) q
     → (v : Scheme) (stores : List (List ℕ)) (core : State) (inner : B) → IsFile v bytes stores core
     → ((other : List ℕ) → MayReadBack PlaceMayBe (first_keeper q head sync) other → IsFile v other stores core)
     × ((may_lie : Bool) (host : Host) (before array : ℕ → List ℕ) (k : IsKept may_lie v [] bytes host before array) → k.stores ≡ stores → k.core ≡ core
@@ -96,7 +96,7 @@ FoundBegins B = (p q : FilePlaceState) (head : Head) (sync : Bool) (bytes : List
 -- Nothing is known yet of what a loss of power leaves: the file may be only in the system's cache, so a loss may leave none.
 -- More is known once a keeper has kept a process with sync (KeptOutlastsLoss).
 abbrev pub FoundMayBeLost : Type 0
-FoundMayBeLost = (p q : FilePlaceState) (head : Head) (sync : Bool) (bytes : List ℕ) → NotesFound p (Some (kept_file head bytes)) q
+FoundMayBeLost = (p q : FilePlaceState) (head : Head) (sync : Bool) (file bytes : List ℕ) → NotesFound p (Some file) q
     → ¬ IsLasting PlaceMayBe (first_keeper q head sync) bytes
 
 -- An example: the disk of a device of one block, kept for the first time in a place without a file.
@@ -128,9 +128,9 @@ having_failed bytes others = record {
   failure = Some (record { step = step.Create; reason = reason.DiskFull });
 }
 
--- the place of the next process, which has read the file
-abbrev pub next_place : List ℕ → FilePlaceState
-next_place bytes = record { name = codes "disk"; notes = Found (Some (kept_file some_head bytes)) ∷ [] }
+-- the place of the next process, which has read this file
+abbrev pub having_read : List ℕ → FilePlaceState
+having_read file = record { name = codes "disk"; notes = Found (Some file) ∷ [] }
 
 -- With the bytes that `encode_kept` makes of this disk, all of these premises hold.
 abbrev pub NextProcessExample : Type 0
@@ -139,5 +139,8 @@ NextProcessExample = (bytes note : List ℕ) → IsFileWith one_block bytes [] n
     × KeepsFile NotesDeed (first_keeper empty_place some_head true) bytes true (having_kept bytes)
     × IsLasting PlaceMayBe (having_kept bytes) bytes
     × ((others : List ℕ) → KeepsFile NotesDeed (having_kept bytes) others false (having_failed bytes others))
-    × NotesFound (record { name = codes "disk"; notes = [] }) (Some (kept_file some_head bytes)) (next_place bytes)
+    × NotesFound (record { name = codes "disk"; notes = [] }) (Some (kept_file some_head bytes)) (having_read (kept_file some_head bytes))
+    × IsReadAs (kept_file some_head bytes) some_head bytes None
+    × NotesFound (record { name = codes "disk"; notes = [] }) (Some (fifth_file some_head bytes)) (having_read (fifth_file some_head bytes))
+    × IsReadAs (fifth_file some_head bytes) some_head bytes (Some (checksum bytes))
     × ((may_lie : Bool) → IsKept may_lie one_block [] bytes new_host zero_array zero_array)

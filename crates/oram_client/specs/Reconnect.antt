@@ -173,7 +173,7 @@ module _ {D L : Type 0} (kind : DialerKind D L) where
     pub passed : Passes l bodies outcome exchanges m
     pub reconnect_timeout : m.reconnect_timeout ≡ l.reconnect_timeout
 
--- the link learns that its process was kept, in a file with this checksum
+-- the link learns that its process was kept, and has this check
 abbrev pub LinkLearns : {D L : Type 0} → (D → ℕ → D → Type 0) → ReconnectState D L → ℕ → ReconnectState D L → Type 0
 LinkLearns learns l check m = learns l.dialer check m.dialer × (m ≡ record l { dialer = m.dialer })
 

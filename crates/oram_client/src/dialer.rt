@@ -185,7 +185,7 @@ pub trait Dial {
     ghost notes: { Self → List ℕ };
 
     /// Whether the first value may become the second one when the dialer learns that the process was kept, with the dialer's note,
-    /// in a file with this checksum.
+    /// and has this check.
     ghost learns: { Self → ℕ → Self → Type 0 };
 
     /// Tries once to open a connection.
@@ -222,7 +222,7 @@ pub trait Dial {
     fn note(&self, alloc: Global) -> Result<Vec<u8>, AllocError>
         ensures { IfOk result (λ note. note.items ≡ notes self.now) };
 
-    /// Tells the dialer that the process was kept, with the dialer's note, in a file with the checksum `check`. Sends nothing.
+    /// Tells the dialer that the process was kept, with the dialer's note, and that its check is `check`. Sends nothing.
     fn learn_kept(&mut self, check: u64)
         ensures { learns self.old check self.new };
 

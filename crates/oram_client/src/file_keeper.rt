@@ -4,7 +4,7 @@ ghost use Rattle.std.specs.Prelude.{◌≡◌, ◌⊎◌, ℕ, List, None, OnErr
 use crate::file_step::FileFailure;
 use crate::kept_file::Head;
 use crate::place::{Place, put_file};
-use oram_rounds::{KeepError, Keeper};
+use oram_rounds::{KeepError, Keeper, KeptParts};
 use std::marker::Model;
 
 /// Keeps a process in a file, after the disk's head. It writes a new file beside the old one, and renames it into place
@@ -51,10 +51,11 @@ impl<P> FileKeeper<P> {
 
 impl<P: Place> FileKeeper<P> {
     ghost use Rattle.oram_client.specs.FileKeeper.{KeepsFile};
+    ghost use Rattle.oram_rounds.specs.KeptParts.{text_of};
 
     /// Puts the file with this process, unless an earlier one could not be put.
-    fn put(&mut self, process: &[u8]) -> Result<(), KeepError>
-        ensures { KeepsFile P.does self.old process.now (is_ok result) self.new }
+    fn put(&mut self, process: &KeptParts<'_>) -> Result<(), KeepError>
+        ensures { KeepsFile P.does self.old (text_of process.now) (is_ok result) self.new }
     {
         if self.failure.is_some() {
             return Err(KeepError);
@@ -70,6 +71,7 @@ impl<P: Place> FileKeeper<P> {
 }
 
 impl<P: Place> Keeper for FileKeeper<P> {
+    ghost use Rattle.oram_rounds.specs.KeptParts.{text_of};
     ghost use Rattle.oram_client.specs.FileKeeper.{IsEitherLasting, IsLasting, KeepsFile, MayReadBack};
 
     ghost reads_back = { MayReadBack P.may_be };
@@ -78,14 +80,14 @@ impl<P: Place> Keeper for FileKeeper<P> {
     ///
     /// With `sync`, what is kept also outlives a loss of power (`lasts`). If it can't be kept and the one before would
     /// have outlived it, a loss of power leaves one of the two (`either_lasts`).
-    fn keep(&mut self, file: &[u8]) -> Result<(), KeepError>
-        ensures there { OnOk result (MayReadBack P.may_be self.new file.now) }
-        ensures only { OnOk result ((bytes : List ℕ) → MayReadBack P.may_be self.new bytes → bytes ≡ file.now) }
-        ensures failed { OnErr result ((bytes : List ℕ) → MayReadBack P.may_be self.new bytes → (bytes ≡ file.now) ⊎ MayReadBack P.may_be self.old bytes) }
-        ensures lasts { OnOk result (self.old.sync ≡ true → IsLasting P.may_be self.new file.now) }
-        ensures either_lasts { OnErr result (self.old.sync ≡ true → (before : List ℕ) → IsLasting P.may_be self.old before → IsEitherLasting P.may_be self.new before file.now) }
-        ensures deeds { KeepsFile P.does self.old file.now (is_ok result) self.new }
+    fn keep(&mut self, text: &KeptParts<'_>) -> Result<(), KeepError>
+        ensures there { OnOk result (MayReadBack P.may_be self.new (text_of text.now)) }
+        ensures only { OnOk result ((bytes : List ℕ) → MayReadBack P.may_be self.new bytes → bytes ≡ text_of text.now) }
+        ensures failed { OnErr result ((bytes : List ℕ) → MayReadBack P.may_be self.new bytes → (bytes ≡ text_of text.now) ⊎ MayReadBack P.may_be self.old bytes) }
+        ensures lasts { OnOk result (self.old.sync ≡ true → IsLasting P.may_be self.new (text_of text.now)) }
+        ensures either_lasts { OnErr result (self.old.sync ≡ true → (before : List ℕ) → IsLasting P.may_be self.old before → IsEitherLasting P.may_be self.new before (text_of text.now)) }
+        ensures deeds { KeepsFile P.does self.old (text_of text.now) (is_ok result) self.new }
     {
-        self.put(file)
+        self.put(text)
     }
 }

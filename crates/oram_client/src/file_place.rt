@@ -7,6 +7,7 @@
 ghost use Rattle.std.specs.Prelude.{◌≡◌, [], None, Some, IfErr, IfOk, MatchOption, OnErr};
 ghost use Rattle.oram_client.specs.FilePlace.{IsItsName, IsNotLookedUp, IsNotRead, NotesFound};
 ghost use Rattle.oram_client.specs.KeptFile.{kept_file};
+ghost use Rattle.oram_rounds.specs.KeptParts.{text_of};
 ghost use Rattle.oram_client.specs.Replacement.{IsStepOf, Writes};
 
 use crate::deed_history::DeedHistory;
@@ -16,6 +17,7 @@ use crate::named_files::{SystemFiles, aside_name, kept_bytes_in, kept_name_in};
 use crate::new_file::{SystemFile, make_file};
 use crate::place::Place;
 use oram_cli::{FileFault, folder_of, new_name, sync_folder};
+use oram_rounds::KeptParts;
 use std::alloc::{AllocError, Global};
 use std::io::ErrorKind;
 use std::marker::Model;
@@ -105,8 +107,8 @@ impl<R: Files + AllocGlobal> FilePlace<R> {
 
 impl<R: Files> FilePlace<R> {
     /// Creates the new file and writes it, and syncs it if `sync` is set, as [`make_file`] does.
-    fn write_new(&self, head: &Head, process: &[u8], sync: bool) -> Result<(), FileFailure>
-        ensures { IfErr result (λ why. IsStepOf (Writes sync (kept_file head.now process.now)) why.step) }
+    fn write_new(&self, head: &Head, process: &KeptParts<'_>, sync: bool) -> Result<(), FileFailure>
+        ensures { IfErr result (λ why. IsStepOf (Writes sync (kept_file head.now (text_of process.now))) why.step) }
     {
         let mut file = SystemFile {
             rt: &self.rt,
@@ -133,7 +135,12 @@ impl<R: Files> Place for FilePlace<R> {
 
     ghost folders_after = { λ p deed done q does. possible_after p.notes deed done q.notes does.noted };
 
-    fn write(&mut self, head: &Head, process: &[u8], sync: bool) -> Result<(), FileFailure> {
+    fn write(
+        &mut self,
+        head: &Head,
+        process: &KeptParts<'_>,
+        sync: bool,
+    ) -> Result<(), FileFailure> {
         let result = self.write_new(head, process, sync);
         self.history.note_write(head, process, sync, result.is_ok());
         result

@@ -35,6 +35,7 @@ mod reconnect_link;
 mod refusals;
 mod stream_batches;
 mod tcp_dialer;
+mod text_writer;
 mod timed_link;
 mod trouble_reporter;
 

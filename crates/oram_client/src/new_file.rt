@@ -3,12 +3,14 @@ ghost use Rattle.std.specs.IoError.{error_kind};
 ghost use Rattle.std.specs.Prelude.{◌≡◌, ℕ, List, Option, None, Some, IfErr, OnOk};
 ghost use Rattle.oram_cli.specs.FileFaults as fault;
 ghost use Rattle.oram_client.specs.KeptFile.{kept_file};
+ghost use Rattle.oram_rounds.specs.KeptParts.{text_of};
 ghost use Rattle.oram_client.specs.NewFile.{AnswersAll, FailsAt, calls_of};
 ghost use Rattle.oram_client.specs.Replacement.{IsStepOf, Writes};
 
 use crate::file_step::{FileFailure, FileStep, step_result};
 use crate::kept_file::{Head, put_kept_file};
 use oram_cli::create_for_owner;
+use oram_rounds::KeptParts;
 use std::fs::OpenFile;
 use std::io;
 use std::io::ErrorKind;
@@ -29,9 +31,9 @@ pub(crate) trait NewFile {
         ensures err { IfErr result (λ error. answers self.old Creates (Some (fault.reason_of (error_kind error))) self.new) };
 
     /// Writes the kept file with this head and process into the file that was created.
-    fn write(&mut self, head: &Head, process: &[u8]) -> io::Result<()>
-        ensures ok { OnOk result (answers self.old (WritesAll (kept_file head.now process.now)) None self.new) }
-        ensures err { IfErr result (λ error. answers self.old (WritesAll (kept_file head.now process.now)) (Some (fault.reason_of (error_kind error))) self.new) };
+    fn write(&mut self, head: &Head, process: &KeptParts<'_>) -> io::Result<()>
+        ensures ok { OnOk result (answers self.old (WritesAll (kept_file head.now (text_of process.now))) None self.new) }
+        ensures err { IfErr result (λ error. answers self.old (WritesAll (kept_file head.now (text_of process.now))) (Some (fault.reason_of (error_kind error))) self.new) };
 
     /// Syncs what was written.
     fn sync(&mut self) -> io::Result<()>
@@ -44,12 +46,12 @@ pub(crate) trait NewFile {
 pub(crate) fn make_file<F: NewFile>(
     file: &mut F,
     head: &Head,
-    process: &[u8],
+    process: &KeptParts<'_>,
     sync: bool,
 ) -> Result<(), FileFailure>
-    ensures ok { OnOk result (AnswersAll F.answers file.old (calls_of sync (kept_file head.now process.now)) file.new) }
-    ensures err { IfErr result (λ why. FailsAt F.answers file.old (calls_of sync (kept_file head.now process.now)) why file.new) }
-    ensures step { IfErr result (λ why. IsStepOf (Writes sync (kept_file head.now process.now)) why.step) }
+    ensures ok { OnOk result (AnswersAll F.answers file.old (calls_of sync (kept_file head.now (text_of process.now))) file.new) }
+    ensures err { IfErr result (λ why. FailsAt F.answers file.old (calls_of sync (kept_file head.now (text_of process.now))) why file.new) }
+    ensures step { IfErr result (λ why. IsStepOf (Writes sync (kept_file head.now (text_of process.now))) why.step) }
 {
     step_result(FileStep::Create, file.create())?;
     step_result(FileStep::Write, file.write(head, process))?;
@@ -87,7 +89,7 @@ impl<'a, R: Files> NewFile for SystemFile<'a, R> {
         Ok(())
     }
 
-    fn write(&mut self, head: &Head, process: &[u8]) -> io::Result<()> {
+    fn write(&mut self, head: &Head, process: &KeptParts<'_>) -> io::Result<()> {
         put_kept_file(self.created()?, head, process)
     }
 

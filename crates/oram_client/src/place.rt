@@ -2,16 +2,19 @@
 ghost use Rattle.std.specs.Prelude.{true, false, OnOk, IfErr};
 ghost use Rattle.oram_client.specs.FolderExample.{FolderExample};
 ghost use Rattle.oram_client.specs.KeptFile.{kept_file};
+ghost use Rattle.oram_rounds.specs.KeptParts.{text_of};
 ghost use Rattle.oram_client.specs.Replacement.{DoesAll, FilesAreKept, FilesOutlastFailures, FilesStayWhole, IsBrokenOff, deeds_of};
 ghost use Rattle.oram_client.specs.PowerLoss.{SyncedFilesLast, SyncsAreNeeded};
 
 use crate::file_step::FileFailure;
 use crate::kept_file::Head;
+use oram_rounds::KeptParts;
 
 /// A file, with a name beside it for a new file and another for an old file that is set aside.
 pub trait Place {
     ghost use Rattle.std.specs.Prelude.{◌↔◌, Bool, true, false, OnOk, IfErr};
     ghost use Rattle.oram_client.specs.KeptFile.{kept_file};
+    ghost use Rattle.oram_rounds.specs.KeptParts.{text_of};
     ghost use Rattle.oram_client.specs.Replacement.{FileDeed, IsStepOf, Writes, SetsAside, Renames, SyncsFolder, Clears};
     ghost use Rattle.oram_client.specs.PowerLoss.{FolderHistory, FoldersAfter};
 
@@ -23,9 +26,9 @@ pub trait Place {
     ghost may_be: { Self → FolderHistory → Type 0 };
 
     /// Writes the new file with this head and process, and syncs it if `sync` is set.
-    fn write(&mut self, head: &Head, process: &[u8], sync: bool) -> Result<(), FileFailure>
-        ensures ok { OnOk result (does self.old (Writes sync (kept_file head.now process.now)) true self.new) }
-        ensures err { IfErr result (λ why. does self.old (Writes sync (kept_file head.now process.now)) false self.new × IsStepOf (Writes sync (kept_file head.now process.now)) why.step) };
+    fn write(&mut self, head: &Head, process: &KeptParts<'_>, sync: bool) -> Result<(), FileFailure>
+        ensures ok { OnOk result (does self.old (Writes sync (kept_file head.now (text_of process.now))) true self.new) }
+        ensures err { IfErr result (λ why. does self.old (Writes sync (kept_file head.now (text_of process.now))) false self.new × IsStepOf (Writes sync (kept_file head.now (text_of process.now))) why.step) };
 
     /// Sets the file aside, if there is one.
     fn set_aside(&mut self) -> Result<(), FileFailure>
@@ -56,9 +59,13 @@ pub trait Place {
 }
 
 /// Replaces the old file with the new one in a single rename. The new one is on the disk afterwards.
-fn put_synced<P: Place>(place: &mut P, head: &Head, process: &[u8]) -> Result<(), FileFailure>
-    ensures ok { OnOk result (DoesAll P.does place.old (deeds_of true (kept_file head.now process.now)) place.new) }
-    ensures err { IfErr result (λ why. IsBrokenOff P.does place.old (deeds_of true (kept_file head.now process.now)) why.step place.new) }
+fn put_synced<P: Place>(
+    place: &mut P,
+    head: &Head,
+    process: &KeptParts<'_>,
+) -> Result<(), FileFailure>
+    ensures ok { OnOk result (DoesAll P.does place.old (deeds_of true (kept_file head.now (text_of process.now))) place.new) }
+    ensures err { IfErr result (λ why. IsBrokenOff P.does place.old (deeds_of true (kept_file head.now (text_of process.now))) why.step place.new) }
 {
     place.write(head, process, true)?;
     place.rename_into_place()?;
@@ -68,9 +75,13 @@ fn put_synced<P: Place>(place: &mut P, head: &Head, process: &[u8]) -> Result<()
 
 /// Sets the old file aside before it renames the new one. If the new one were renamed over the old one, some file systems would
 /// write it to the disk at once, and each save would wait for that.
-fn put_unsynced<P: Place>(place: &mut P, head: &Head, process: &[u8]) -> Result<(), FileFailure>
-    ensures ok { OnOk result (DoesAll P.does place.old (deeds_of false (kept_file head.now process.now)) place.new) }
-    ensures err { IfErr result (λ why. IsBrokenOff P.does place.old (deeds_of false (kept_file head.now process.now)) why.step place.new) }
+fn put_unsynced<P: Place>(
+    place: &mut P,
+    head: &Head,
+    process: &KeptParts<'_>,
+) -> Result<(), FileFailure>
+    ensures ok { OnOk result (DoesAll P.does place.old (deeds_of false (kept_file head.now (text_of process.now))) place.new) }
+    ensures err { IfErr result (λ why. IsBrokenOff P.does place.old (deeds_of false (kept_file head.now (text_of process.now))) why.step place.new) }
 {
     place.write(head, process, false)?;
     place.set_aside()?;
@@ -84,11 +95,11 @@ fn put_unsynced<P: Place>(place: &mut P, head: &Head, process: &[u8]) -> Result<
 pub fn put_file<P: Place>(
     place: &mut P,
     head: &Head,
-    process: &[u8],
+    process: &KeptParts<'_>,
     sync: bool,
 ) -> Result<(), FileFailure>
-    ensures ok { OnOk result (DoesAll P.does place.old (deeds_of sync (kept_file head.now process.now)) place.new) }
-    ensures err { IfErr result (λ why. IsBrokenOff P.does place.old (deeds_of sync (kept_file head.now process.now)) why.step place.new) }
+    ensures ok { OnOk result (DoesAll P.does place.old (deeds_of sync (kept_file head.now (text_of process.now))) place.new) }
+    ensures err { IfErr result (λ why. IsBrokenOff P.does place.old (deeds_of sync (kept_file head.now (text_of process.now))) why.step place.new) }
 {
     if sync {
         put_synced(place, head, process)

@@ -55,3 +55,8 @@ right_if d overhead s view (Err e) h rising same = tt
 pub again_if : {A E : Type 0} (d : Sizes) (overhead : ℕ) (s : State) (view : A → Parts) (r : Result A E) → IsSound d overhead s → IfOk r (λ a. view a ≡ parts_of d s) → IfOk r (λ a. state_of (view a) ≡ s)
 again_if d overhead s view (Ok a) h same = ap state_of same ∙ state_again d overhead s h
 again_if d overhead s view (Err e) h same = tt
+
+-- the same of parts that lack only the table
+pub whole_if : {A E : Type 0} (d : Sizes) (s : State) (view : A → Parts) (r : Result A E) → IfOk r (λ a. view a ≡ record (parts_of d s) { table = [] }) → IfOk r (λ a. record (view a) { table = s.table } ≡ parts_of d s)
+whole_if d s view (Ok a) same = ap (λ (p : Parts). record p { table = s.table }) {y = record (parts_of d s) { table = [] }} same
+whole_if d s view (Err e) same = tt

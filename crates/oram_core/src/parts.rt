@@ -1,5 +1,5 @@
 //! The parts of a core that a client keeps in its state file.
-ghost use Rattle.std.specs.Prelude.{◌≡◌, map, All, IfOk};
+ghost use Rattle.std.specs.Prelude.{◌≡◌, [], map, All, IfOk};
 ghost use Rattle.oram_bucket.specs.Cell.{IsRising};
 ghost use Rattle.oram_tree.specs.Parts.{parts_of as tree_parts};
 ghost use Rattle.oram_core.specs.Parts.{AreParts, parts_of, pending_of, state_of};
@@ -123,6 +123,13 @@ impl<S: Sealer> Core<S> {
         self.sealer.overhead()
     }
 
+    /// Returns, for each block of the last tree, 0 or the leaf that the block is mapped to plus one.
+    pub fn table(&self) -> &[u32]
+        ensures { result.now ≡ self.now.state.table }
+    {
+        &self.table
+    }
+
     /// Returns copies of the parts that a client keeps. `from_parts` makes the same core from them. Fails only if
     /// memory runs out.
     pub fn parts(&self, alloc: Global) -> Result<Parts, AllocError>
@@ -130,20 +137,32 @@ impl<S: Sealer> Core<S> {
         ensures right { IfOk result (λ p. AreParts (S.cipher self.now.sealer).overhead p) }
         ensures again { IfOk result (λ p. state_of p ≡ self.now.state) }
     {
+        let mut parts = self.parts_without_table(alloc)?;
+        parts.table = table_copy(alloc, &self.table)?;
+        Ok(parts)
+    }
+
+    /// Returns copies of the parts that a client keeps, but of the table none: its place is empty. So the copies don't grow with
+    /// the table, which [`Core::table`] lends. Fails only if memory runs out.
+    pub fn parts_without_table(&self, alloc: Global) -> Result<Parts, AllocError>
+        ensures same { IfOk result (λ p. p ≡ record (parts_of self.now.device self.now.state) { table = [] }) }
+        ensures right { IfOk result (λ p. AreParts (S.cipher self.now.sealer).overhead (record p { table = self.now.state.table })) }
+        ensures again { IfOk result (λ p. state_of (record p { table = self.now.state.table }) ≡ self.now.state) }
+    {
         let trees = trees_parts(alloc, &self.trees)?;
         self.parts_beside(alloc, trees)
     }
 
-    /// Returns the core's parts, with these parts of its trees.
+    /// Returns the core's parts without its table, with these parts of its trees.
     fn parts_beside(&self, alloc: Global, trees: Vec<TreeParts>) -> Result<Parts, AllocError>
         requires { trees.items ≡ map tree_parts self.now.state.trees }
-        ensures { IfOk result (λ p. p ≡ parts_of self.now.device self.now.state) }
+        ensures { IfOk result (λ p. p ≡ record (parts_of self.now.device self.now.state) { table = [] }) }
     {
         Ok(Parts {
             device: self.device.copy(),
             tickets: self.next,
             nonce: self.nonce,
-            table: table_copy(alloc, &self.table)?,
+            table: Vec::new(alloc),
             trees,
             failure: self.failure,
             waiting: pendings(alloc, &self.queue)?,

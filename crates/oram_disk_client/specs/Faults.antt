@@ -6,7 +6,7 @@ use Rattle.oram_cli.specs.declared.file_faults.FileFault.{FileFault}
 use Rattle.oram_cli.specs.declared.file_faults.FileFault.TheVariants as file
 use Rattle.oram_cli.specs.declared.file_faults.FileReason.TheVariants as reason
 use Rattle.oram_client.specs.NamedFiles.{IsFailedForOne, IsKeptName}
-use Rattle.oram_client.specs.KeptFile.{IsHead, IsOlder, kept_file}
+use Rattle.oram_client.specs.KeptFile.{HasHead, IsHead, IsOlder, IsTorn}
 use Rattle.oram_client.specs.declared.kept_file.Head.{Head}
 use Rattle.oram_disk_host.specs.Faults.{file_fault}
 use Rattle.oram_disk_host.specs.declared.faults.Fault.{Fault}
@@ -43,14 +43,15 @@ IsUnreadFor there unseen why state fault =
     ⊎ (IsMissing why × (found : Result (Option (String Global)) FileFault)
     × IfOk found (IsKeptName there unseen state) × IfErr found (IsFailedForOne unseen state) × IsFaultFound why found state fault)
 
--- The fault for bytes of the file `name` that are no kept file: they have an older format, or are of no disk at all.
+-- The fault for bytes of the file `name` that are no kept file: they have an older format, or are torn, or are of no disk at all.
 abbrev pub IsNotKeptFor : List ℕ → List ℕ → Fault → Type 0
 IsNotKeptFor file name fault =
     (IsOlder file × IsAbout kind.OlderState name fault)
-    ⊎ ((¬ IsOlder file) × ((head : Head) (process : List ℕ) → IsHead head → file ≢ kept_file head process) × IsAbout kind.NotADisk name fault)
+    ⊎ ((IsTorn file × IsAbout kind.DamagedState name fault)
+    ⊎ ((¬ IsOlder file) × ((head : Head) (rest : List ℕ) → IsHead head → ¬ HasHead file head rest) × IsAbout kind.NotADisk name fault))
 
--- The fault for bytes that are no process, in the file `name`: they aren't whole, or they hold no core that can be read with the
--- disk's sealer.
+-- The fault for bytes that are no process, in the file `name`: they don't begin with STOREs and a note, or they hold no core that can
+-- be read with the disk's sealer.
 abbrev pub IsNoProcessFor : List ℕ → List ℕ → Fault → Type 0
 IsNoProcessFor process name fault =
     ((¬ IsWhole process) × IsAbout kind.DamagedState name fault)

@@ -1,15 +1,15 @@
 //! The files of a disk at its client.
 
-ghost use Rattle.std.specs.Prelude.{◌≡◌, ◌≢◌, ◌↔◌, ◌⊎◌, ◌++◌, codes, string_bytes, ℕ, List, Ok, Err, None, Some, IfErr, IfOk, IsTrue, OnOk};
+ghost use Rattle.std.specs.Prelude.{◌≡◌, ◌≢◌, ◌↔◌, ◌⊎◌, ◌++◌, codes, string_bytes, ℕ, List, Ok, Err, None, Some, IfErr, IfOk, IsTrue, OnOk, unwrap_or};
 ghost use Rattle.oram_cli.specs.declared.file_faults.FileFault.{FileFault};
-ghost use Rattle.oram_client.specs.KeptFile.{kept_file};
+ghost use Rattle.oram_client.specs.KeptFile.{IsReadAs};
 ghost use Rattle.oram_client.specs.Keys as derived;
 ghost use Rattle.oram_core.specs.Core.{scheme_of};
 ghost use Rattle.oram_disk_client.specs.Faults.{IsAbout, IsFaultFound, IsMissing, IsNoProcessFor, IsNotKeptFor, IsOfKind, IsUnreadFor, was_text};
 ghost use Rattle.oram_disk_client.specs.Sealers as spec;
 ghost use Rattle.oram_geometry.specs.declared.Sizes.{Sizes};
 ghost use Rattle.oram_rounds.specs.Batches.{texts};
-ghost use Rattle.oram_rounds.specs.Files.{HasChecksum, IsFileOf, IsFileWith};
+ghost use Rattle.oram_rounds.specs.Files.{IsFileOf, IsFileWith, check_of};
 ghost use Rattle.oram_semantics.specs.State.{State};
 ghost use Rattle.oram_settings.specs.Differences.{AgreeAt, IsFirstDifference, fixed_keys};
 ghost use Rattle.oram_settings.specs.Differences as formatted;
@@ -136,7 +136,8 @@ pub fn named(alloc: Global, kind: FaultKind, name: &str) -> Fault
 }
 
 /// Decodes the core and the STOREs that wait in `process`, which the file `name` holds. Fails with
-/// [`FaultKind::DamagedState`] if `process` isn't whole, and with [`FaultKind::NotADisk`] if it holds no core with this sealer.
+/// [`FaultKind::DamagedState`] if `process` doesn't begin with STOREs and a note, and with [`FaultKind::NotADisk`] if it holds no core
+/// with this sealer.
 fn process_in<S: Sealer>(
     alloc: Global,
     sealer: S,
@@ -145,7 +146,7 @@ fn process_in<S: Sealer>(
 ) -> Result<KeptCore<S>, Fault>
     ensures sealer { IfOk result (λ kept. kept.core.sealer ≡ sealer) }
     ensures ok { IfOk result (λ kept. IsFileWith (scheme_of S.cipher kept.core) process.now (texts kept.stores.items) kept.note.items kept.core.state) }
-    ensures check { IfOk result (λ kept. HasChecksum process.now kept.check) }
+    ensures check { IfOk result (λ kept. kept.check ≡ check_of (scheme_of S.cipher kept.core) (texts kept.stores.items) kept.note.items kept.core.state) }
     // It returns the process that was kept, unless memory runs out.
     ensures same { (d : Sizes) (stores : List (List ℕ)) (core : State) → (it : IsFileOf (S.cipher sealer).overhead d process.now stores core)
         → IfOk result (λ kept. (texts kept.stores.items ≡ stores) × (kept.core.device ≡ d) × (kept.core.state ≡ core) × (kept.note.items ≡ it.note)) }
@@ -161,15 +162,16 @@ fn process_in<S: Sealer>(
     }
 }
 
-/// Reads the bytes of the kept file `name`. Fails with [`FaultKind::OlderState`] if they have an older format, and with
-/// [`FaultKind::NotADisk`] if they are no kept file at all.
+/// Reads the bytes of the kept file `name`. Fails with [`FaultKind::OlderState`] if they have an older format, with
+/// [`FaultKind::DamagedState`] if they are torn, and with [`FaultKind::NotADisk`] if they are no kept file at all.
 pub fn kept_in<'a>(alloc: Global, file: &'a [u8], name: &str) -> Result<KeptFile<'a>, Fault>
-    ensures ok { IfOk result (λ kept. file.now ≡ kept_file kept.head kept.process.now) }
+    ensures ok { IfOk result (λ kept. IsReadAs file.now kept.head kept.process.now kept.fifth_check) }
     ensures fault { IfErr result (λ fault. IsNotKeptFor file.now name.now fault) }
 {
     match read_kept_file(file) {
         Ok(kept) => Ok(kept),
         Err(KeptFault::Older) => Err(named(alloc, FaultKind::OlderState, name)),
+        Err(KeptFault::Torn) => Err(named(alloc, FaultKind::DamagedState, name)),
         Err(KeptFault::NotOurs) => Err(named(alloc, FaultKind::NotADisk, name)),
     }
 }
@@ -282,7 +284,9 @@ pub fn process_for<S: Sealer>(
 ) -> Result<KeptCore<S>, Fault>
     ensures sealer { IfOk result (λ process. process.core.sealer ≡ sealer) }
     ensures ok { IfOk result (λ process. IsFileWith (scheme_of S.cipher process.core) kept.now.process.now (texts process.stores.items) process.note.items process.core.state) }
-    ensures check { IfOk result (λ process. HasChecksum kept.now.process.now process.check) }
+    // A file of the fifth format has the check of its process.
+    ensures check { IfOk result (λ process. process.check
+        ≡ unwrap_or kept.now.fifth_check (check_of (scheme_of S.cipher process.core) (texts process.stores.items) process.note.items process.core.state)) }
     ensures agrees { IfOk result (λ process. IsFirstDifference (AgreeAt settings.now process.core.device (spec.sealing_of kept.now.head.sealer)) fixed_keys None) }
     // Only the settings of a process can have changed. The fault names the first key at which they differ, and what it was.
     ensures fault { IfErr result (λ fault. IsNoProcessFor kept.now.process.now (string_bytes settings.now.state) fault
@@ -298,9 +302,10 @@ pub fn process_for<S: Sealer>(
         × IsAbout (FaultKind.Changed key) (was_text name.now (formatted.value_text d (spec.sealing_of kept.now.head.sealer) key)) fault
         × IsFirstDifference (AgreeAt settings.now d (spec.sealing_of kept.now.head.sealer)) fixed_keys (Some key))) }
 {
-    let process = process_in(alloc, sealer, kept.process, settings.state.as_str())?;
+    let mut process = process_in(alloc, sealer, kept.process, settings.state.as_str())?;
     let sealing = sealing_of(kept.head.sealer);
     check_settings(alloc, settings, process.core.device(), sealing, name)?;
+    process.check = kept.fifth_check.unwrap_or(process.check);
     Ok(process)
 }
 

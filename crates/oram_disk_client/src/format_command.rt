@@ -115,9 +115,12 @@ fn format_with<S: Sealer>(
     let alloc = rt.alloc();
     let core = formatted(rt, device, sealer, keys, settings)?;
     let note = encode_note(alloc, &Known::fresh(alloc)?)?;
-    let file = encode_kept(alloc, &[], &note, &core)?;
+    let text = encode_kept(alloc, &[], &note, &core)?;
     let state = settings.state.as_str();
-    match (keeper.keep(file.bytes.as_slice()), keeper.failure()) {
+    match (
+        keeper.keep(&text.with_table(core.table())),
+        keeper.failure(),
+    ) {
         (Ok(()), _) => Ok(()),
         (Err(_), Some(failure)) => Err(unkept(alloc, FaultKind::StateNotMade, state, failure)),
         (Err(_), None) => Err(named(alloc, FaultKind::StateNotMade, state)),

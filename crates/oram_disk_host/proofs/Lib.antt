@@ -1,4 +1,5 @@
+mod Groups
 mod Hosts
 mod Lines
 mod Rows
-mod Served
+mod Tallies

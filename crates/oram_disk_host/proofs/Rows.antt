@@ -4,8 +4,10 @@ use Rattle.toml.specs.Data.{member, no_members, string}
 use Rattle.toml.specs.Parse.{parse_document}
 use Rattle.toml.proofs.OnLiterals.{toml_on_literals}
 use Rattle.oram_host.specs.declared.serve_fault.ServeFault.TheVariants.{Frame}
+use Rattle.oram_wire.specs.declared.host_messages.HostAnswer.TheVariants.{Done, Refused}
 use Rattle.oram_disk_host.specs.Faults.{line_of}
-use Rattle.oram_disk_host.specs.Tallies.{frame_len}
+use Rattle.oram_disk_host.specs.Serving.{answers_text, frames, messages_of}
+use Rattle.oram_disk_host.specs.Tallies.{frame_len, frames_len}
 use Rattle.oram_disk_host.specs.ConnectionLine.{ending}
 use Rattle.oram_disk_host.specs.declared.faults.Fault.TheVariants.{OutOfMemory}
 use Rattle.oram_disk_host.specs.declared.connection.EarlyEnd.TheVariants.{Displaced, Fault}
@@ -26,3 +28,15 @@ displaced = refl
 
 a_frame : frame_len (1 ∷ 2 ∷ []) ≡ 6
 a_frame = refl
+
+two_frames : frames_len ((1 ∷ 2 ∷ []) ∷ (3 ∷ []) ∷ []) ≡ 11
+two_frames = refl
+
+-- two messages that are done together, and one that is refused
+some_messages : frames (messages_of (record { bodies = (1 ∷ 2 ∷ []) ∷ (3 ∷ []) ∷ []; answer = Done } ∷ record { bodies = (4 ∷ []) ∷ []; answer = Refused 2 } ∷ []))
+    ≡ 0 ∷ 0 ∷ 0 ∷ 2 ∷ 1 ∷ 2 ∷ 0 ∷ 0 ∷ 0 ∷ 1 ∷ 3 ∷ 0 ∷ 0 ∷ 0 ∷ 1 ∷ 4 ∷ []
+some_messages = refl
+
+their_answers : answers_text (record { bodies = (1 ∷ 2 ∷ []) ∷ (3 ∷ []) ∷ []; answer = Done } ∷ record { bodies = (4 ∷ []) ∷ []; answer = Refused 2 } ∷ [])
+    ≡ 0 ∷ 0 ∷ 0 ∷ 1 ∷ 128 ∷ 0 ∷ 0 ∷ 0 ∷ 1 ∷ 128 ∷ 0 ∷ 0 ∷ 0 ∷ 2 ∷ 129 ∷ 2 ∷ []
+their_answers = refl

@@ -4,4 +4,5 @@ pub mod Kinds
 pub mod Faults
 pub mod Hosts
 pub mod Tallies
+pub mod Serving
 pub mod ConnectionLine

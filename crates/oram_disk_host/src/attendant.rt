@@ -46,9 +46,9 @@ impl HostAttendant {
     }
 
     /// Returns why the connection ended before its input did, if that is so.
-    pub(crate) fn early_end(&self, served: Result<u64, ServeFault>) -> Option<EarlyEnd> {
+    pub(crate) fn early_end(&self, served: Result<(), ServeFault>) -> Option<EarlyEnd> {
         match served {
-            Ok(_) => None,
+            Ok(()) => None,
             Err(fault) => Some(self.ended.get().unwrap_or(EarlyEnd::Fault(fault))),
         }
     }

@@ -7,15 +7,16 @@ use crate::connection::{ConnectionReport, EarlyEnd, line};
 use crate::disk_watch::{AnswerWriter, DiskPrinter, DiskWatch};
 use crate::faults::{Fault, store_fault};
 use crate::kinds::FaultKind;
+use crate::serving::answer_messages;
 use crate::settings_file::{HostSettings, read_host_settings, settings_text};
 use crate::tallied_store::TalliedStore;
 use jiff::Timestamp;
 use oram_cli::{InputFault, SocketFault, call_fault, listen};
-use oram_host::{ServeFault, host_serve};
+use oram_host::ServeFault;
 use oram_redo::FilePair;
 use oram_settings::{host_complaint, hosting_text, place_beside, relative_to};
 use oram_sockets::{
-    Connection, Listener, MarkedReader, MarkedWriter, Peer, UNIX, listen_at_path, watch,
+    Arrived, Connection, Listener, MarkedReader, MarkedWriter, Peer, UNIX, listen_at_path, watch,
 };
 use oram_store::{FileStore, StoreFault, open_store};
 use std::alloc::{AllocError, Global};
@@ -28,6 +29,9 @@ use std::{fs, thread};
 
 /// How many seconds a host waits before it tries again to open a file whose disk has failed.
 const RETRY_AFTER: u64 = 1;
+
+/// The most bytes that a connection takes from its socket at once. So this limits the memory of the messages that are answered together.
+const READ_ROOM: usize = 1 << 22;
 
 /// Reads the settings in the file `name`. In the result, the paths of the file of buckets and of a socket are as seen from the
 /// working directory, not from the folder of `name`.
@@ -89,15 +93,15 @@ struct Accepted<'a> {
 }
 
 /// Answers the messages of a connection to its end. Whenever it has been quiet for a while, the log is emptied.
-fn serve_on<R: Read, W: Write, F: FilePair, D: DiskWatch>(
+fn serve_on<R: Read + Arrived, W: Write, F: FilePair, D: DiskWatch>(
     alloc: Global,
     reader: &mut R,
     writer: &mut W,
     attendant: &HostAttendant,
     hosted: &mut TalliedStore<'_, F, D>,
-) -> Result<u64, ServeFault> {
+) -> Result<(), ServeFault> {
     for _ in 0..u64::MAX {
-        let served = host_serve(alloc, reader, writer, hosted);
+        let served = answer_messages(alloc, reader, writer, hosted);
         if !attendant.ends_quiet() {
             return served;
         }
@@ -123,7 +127,14 @@ fn serve<R: Net + Clock + Eprint + AllocGlobal, F: FilePair>(
     hosted.begin();
     let attendant = HostAttendant::new();
     let listener = accepted.listener.as_raw_fd();
-    let (reader, writer) = match watch(rt, alloc, accepted.stream, listener, &attendant) {
+    let (reader, writer) = match watch(
+        rt,
+        alloc,
+        accepted.stream,
+        listener,
+        &attendant,
+        READ_ROOM,
+    ) {
         Ok(halves) => halves,
         Err(error) if error.kind() == ErrorKind::OutOfMemory => {
             return Some(EarlyEnd::Fault(ServeFault::OutOfMemory));

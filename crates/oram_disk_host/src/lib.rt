@@ -1,8 +1,8 @@
 //! The host's side of a disk's program: it keeps buckets in a file for others. It also has the faults that end the
 //! program, those of the client's side included.
 //!
-//! [`host`] serves a file of buckets; [`read_host_settings`] reads its settings. [`TalliedStore`] is a store that is served,
-//! with the [`Tally`] of a connection, which tells a [`DiskWatch`] how the disk is, and [`line`] is the line that is printed for a [`ConnectionReport`]. A [`Fault`] says
+//! [`host`] serves a file of buckets; [`read_host_settings`] reads its settings. [`answer_messages`] answers the messages of a
+//! connection from a [`TalliedStore`]: a store that is served, with the [`Tally`] of a connection, which tells a [`DiskWatch`] how the disk is, and [`line`] is the line that is printed for a [`ConnectionReport`]. A [`Fault`] says
 //! why the program ends: mostly by a [`FaultKind`] and the name of what it is about. [`report_fault`] writes its line, and
 //! returns its exit status.
 #![tactic(auto)]
@@ -13,6 +13,7 @@ mod disk_watch;
 mod faults;
 mod host_loop;
 mod kinds;
+mod serving;
 mod settings_file;
 mod tallied_store;
 mod tally;
@@ -22,6 +23,7 @@ pub use disk_watch::{DiskNews, DiskWatch};
 pub use faults::{Fault, report_fault, store_fault};
 pub use host_loop::{host, listen_at, not_accepted, time};
 pub use kinds::FaultKind;
+pub use serving::answer_messages;
 pub use settings_file::{FIRST_SETTINGS, HostSettings, read_host_settings, settings_text};
 pub use tallied_store::TalliedStore;
 pub use tally::Tally;

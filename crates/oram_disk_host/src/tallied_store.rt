@@ -1,17 +1,20 @@
 //! A store that is served, and the tally of a connection to it.
 
-ghost use Rattle.std.specs.Prelude.{◌≡◌, ◌≢◌, ◌⊎◌, [], false, IsSome};
+ghost use Rattle.std.specs.Prelude.{◌≡◌, ◌≢◌, ◌≤◌, ◌<◌, ◌⊎◌, [], false, length, take, IfOk, IsSome, OnErr};
 ghost use Rattle.oram_layout.specs.Records.{AreKept};
 ghost use Rattle.oram_store.specs.Crashes.{CommitsPutsWhole};
 ghost use Rattle.oram_store.specs.KeptRecords.{IsSound, records_of};
+ghost use Rattle.oram_wire.specs.FrameStream.{IsBody};
+ghost use Rattle.oram_wire.specs.HostBodies.{IsAnswer};
 ghost use Rattle.oram_wire.specs.HostMessages.{answer_body};
+ghost use Rattle.oram_wire.specs.ListOfBodies.{bodies_in};
 ghost use Rattle.oram_wire.specs.declared.host_messages.HostAnswer.{HostAnswer};
 ghost use Rattle.oram_disk_host.specs.Hosts.{Serves, is_lost};
 ghost use Rattle.oram_disk_host.specs.Tallies.{none};
 
 use crate::disk_watch::{DiskNews, DiskWatch, disk_news};
 use crate::tally::Tally;
-use oram_host::{BucketServer, HostRefusal};
+use oram_host::HostRefusal;
 use oram_redo::FilePair;
 use oram_store::{FileStore, StoreFault};
 use oram_wire::{REFUSED, is_done};
@@ -133,21 +136,34 @@ fn tell<W: DiskWatch>(disk: &W, answer: &[u8], failure: Option<StoreFault>) {
     }
 }
 
-impl<'a, F: FilePair, W: DiskWatch> BucketServer for TalliedStore<'a, F, W> {
-    ghost serves = { λ before body answer after. Serves F.model before body answer after };
-
-    // Once the disk has failed, it answers nothing more, so that the connection ends and the file is opened again. Its last answer
-    // isn't written any more (`AnswerWriter`).
-    fn respond(&mut self, alloc: Global, body: &[u8]) -> Result<Vec<u8>, AllocError> {
+impl<'a, F: FilePair, W: DiskWatch> TalliedStore<'a, F, W> {
+    /// Answers the first message of a list, with the STOREs behind it that are committed with it. Returns how many messages were
+    /// answered, and the bytes of the answer, which each of them gets. If there is no memory to answer, it serves none of them.
+    ///
+    /// Once the disk has failed, it answers nothing more, so that the connection ends and the file is opened again. Its last answer
+    /// isn't written any more (`AnswerWriter`).
+    pub fn respond(
+        &mut self,
+        alloc: Global,
+        bodies: &[Vec<u8>],
+    ) -> Result<(usize, Vec<u8>), AllocError>
+        requires { 0 < length bodies.now }
+        ensures count { IfOk result (λ r. (0 < r.0) × (r.0 ≤ length bodies.now)) }
+        ensures ok { IfOk result (λ r. (answer : HostAnswer) × IsAnswer answer × (r.1.items ≡ answer_body answer)
+            × Serves F.model self.old (take r.0 (bodies_in bodies.now)) answer self.new) }
+        // The answer fits in a frame.
+        ensures fits { IfOk result (λ r. IsBody r.1.items) }
+        ensures err { OnErr result (self.new ≡ self.old) }
+    {
         if self.has_failed() {
             return Err(AllocError);
         }
-        let answer = self.store.answer(alloc, body)?;
+        let (count, answer) = self.store.answer_group(alloc, bodies)?;
         let failure = self.failure(&answer);
-        self.tally = self.tally.with(body, &answer);
+        self.tally = self.tally.with_each(&bodies[..count], &answer);
         self.tally.failure = failure;
         tell(self.disk, &answer, failure);
         self.is_changed |= is_done(&answer);
-        Ok(answer)
+        Ok((count, answer))
     }
 }

@@ -1,6 +1,6 @@
 //! What was answered over a connection.
 
-ghost use Rattle.std.specs.Prelude.{◌≡◌};
+ghost use Rattle.std.specs.Prelude.{◌≡◌, ◌∷◌, []};
 
 use oram_store::StoreFault;
 
@@ -19,6 +19,7 @@ pub struct Tally {
 
 impl Tally {
     ghost use Rattle.oram_disk_host.specs.Tallies.{Counts, frame_len, none};
+    ghost use Rattle.oram_wire.specs.ListOfBodies.{bodies_in};
 
     /// Returns the tally before the first message.
     pub fn new() -> Tally
@@ -41,7 +42,8 @@ impl Tally {
 
     /// Returns the tally with one more message and its answer.
     pub fn with(&self, body: &[u8], answer: &[u8]) -> Tally
-        ensures { Counts self.now body.now answer.now result }
+        ensures counts { Counts self.now (body.now ∷ []) answer.now result }
+        ensures failure { result.failure ≡ self.now.failure }
     {
         Tally {
             messages: self.messages.saturating_add(1),
@@ -49,5 +51,17 @@ impl Tally {
             sent: self.sent.saturating_add(Tally::frame_len(answer)),
             failure: self.failure,
         }
+    }
+
+    /// Returns the tally with more messages, each with the same answer.
+    pub(crate) fn with_each(&self, bodies: &[Vec<u8>], answer: &[u8]) -> Tally
+        ensures counts { Counts self.now (bodies_in bodies.now) answer.now result }
+        ensures failure { result.failure ≡ self.now.failure }
+    {
+        let mut tally = *self;
+        for body in bodies {
+            tally = tally.with(body, answer);
+        }
+        tally
     }
 }

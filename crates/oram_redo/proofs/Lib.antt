@@ -20,4 +20,5 @@ pub mod Blanks
 pub mod BlankLaw
 pub mod SystemReads
 pub mod SystemWrites
+pub mod Renewals
 pub mod Rows

@@ -11,4 +11,7 @@ pub mod Calls
 pub mod Blank
 pub mod Opened
 pub mod System
+pub mod Length
+pub mod NamedLog
+pub mod Renewal
 pub mod Laws

@@ -58,7 +58,8 @@ pub trait FilePair {
         ensures errors { IfErr result (λ e. e ≡ RedoError.Failed) };
 
     /// Writes bytes into the front of a file, and syncs the file. Its front is a range of places that the other methods are never
-    /// called for, so what it holds is no part of `seen`, and no contract says it. If there is no room for the bytes, any part of them
+    /// called for, so what it holds is no part of `seen`, and no contract says it. A pair may write into the front of the records too, from
+    /// `LENGTH_AT` on. If there is no room for the bytes, any part of them
     /// may be written, and the call may be made again.
     fn write_front(&mut self, file: FileKind, at: u64, bytes: &[u8]) -> Result<(), RedoError>
         ensures seen { Same (model.seen self.new) (model.seen self.old) }

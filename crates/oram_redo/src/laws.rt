@@ -6,6 +6,7 @@ ghost use Rattle.oram_redo.specs.FilePair.{Contents};
 ghost use Rattle.oram_redo.specs.Laws.{BlanksAreZeros, BlanksExample, FilesStandForOne, LogsAreOne, ReplayHeals};
 ghost use Rattle.oram_redo.specs.Log.{Fits, Keeps, StandsFor, put_all};
 ghost use Rattle.oram_redo.specs.Redo.{IsCrashConsistent, bounds_of};
+ghost use Rattle.oram_redo.specs.Renewal.{BothSyncsAreNeeded, RenewalExample, RenewedFilesStand};
 
 use crate::{Bounds, FileKind, FilePair, Patch, Redo, RedoError, SHUT, recover};
 use std::alloc::Global;
@@ -25,6 +26,17 @@ pub fn replay_heals()
 pub fn blanks_are_zeros()
     ensures law { BlanksAreZeros }
     ensures example { BlanksExample }
+{}
+
+/// A log that was renewed has the entries that it had, so files stand for the same records with it.
+pub fn renewed_logs_stand()
+    ensures { RenewedFilesStand }
+{}
+
+/// While a log is renewed, a loss of power leaves the log or its copy, and afterwards the copy. Without one of the two syncs it wouldn't.
+pub fn renewals_need_both_syncs()
+    ensures example { RenewalExample }
+    ensures needed { BothSyncsAreNeeded }
 {}
 
 /// Between two calls, whatever a crash leaves stands for the records that are read, except in loose places.

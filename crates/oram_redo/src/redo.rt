@@ -3,7 +3,7 @@
 //! A batch goes into the log in two writes, each with a sync: everything but its first gate, and then that gate. So a crash
 //! leaves an open gate with the whole batch, or a shut gate. Then the batch is written to its places, without a sync: whatever
 //! a crash does to them, replaying the log heals it.
-ghost use Rattle.std.specs.Prelude.{◌≡◌, ◌⊎◌, ◌<◌, ◌≤◌, ◌+◌, ◌^◌, ◌++◌, ◌∷◌, [], ◌↔◌, All, IsTrue, length, IfNone, IfOk, IfSome, IfErr, IsErrOf, OnErr, OnOk};
+ghost use Rattle.std.specs.Prelude.{◌≡◌, ◌⊎◌, ◌<◌, ◌≤◌, ◌+◌, ◌-◌, ◌^◌, ◌++◌, ◌∷◌, [], ◌↔◌, All, IsTrue, length, IfNone, IfOk, IfSome, IfErr, IsErrOf, OnErr, OnOk};
 ghost use Rattle.oram_redo.specs.Batch.{patches_of};
 ghost use Rattle.oram_redo.specs.Content.{Content, Agrees, bytes_at, put};
 ghost use Rattle.oram_redo.specs.FilePair.{ComesAfter, HasFailed, LeavesOnly, ReadOnto, Rises, Torn, WritesNothing};
@@ -63,6 +63,13 @@ impl Redo {
         ensures { IsTrue result ↔ (end_of self.now ≡ (bounds_of self.now).log_start) }
     {
         self.end == self.bounds.log_start
+    }
+
+    /// Returns how many bytes the log's entries take.
+    pub fn log_len(&self) -> u64
+        ensures { result ≡ end_of self.now - (bounds_of self.now).log_start }
+    {
+        self.end.saturating_sub(self.bounds.log_start)
     }
 
     /// Reads `len` bytes of the records.

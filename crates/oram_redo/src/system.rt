@@ -10,6 +10,7 @@ ghost use Rattle.oram_redo.specs.Opened.{Opened, contents_in};
 ghost use Rattle.oram_redo.specs.System.{IsHonestHistory, LeftSince, MayLeaveAfter, only_after, seen_after};
 
 use crate::growth::{grow, reach};
+use crate::length::say_length;
 use crate::origin::Origin;
 use crate::system_calls::{read_behind, write_all, write_front};
 use crate::system_files::SystemFiles;
@@ -90,6 +91,19 @@ fn take_put(put: &mut u64, synced: FileKind) -> u64 {
     }
 }
 
+/// Writes into the front of a file, and into that of the records also how long their file is. If there is no room for that alone, the next
+/// write into the front says it.
+fn write_with_length(files: &SystemFiles, file: FileKind, at: u64, bytes: &[u8]) -> io::Result<()> {
+    write_front(files, file, at, bytes)?;
+    match file {
+        FileKind::Records => match say_length(files) {
+            Err(error) if write_fault(&error) == RedoError::NoRoom => Ok(()),
+            said => said,
+        },
+        FileKind::Log => Ok(()),
+    }
+}
+
 impl FilePair for SystemPair {
     // Nothing is known about what makes a call fail.
     ghost model = { record {
@@ -160,7 +174,7 @@ impl FilePair for SystemPair {
         if self.has_failed {
             return Err(RedoError::Failed);
         }
-        if let Err(error) = write_front(&self.files, file, at, bytes) {
+        if let Err(error) = write_with_length(&self.files, file, at, bytes) {
             self.errno = error.raw_os_error();
             return Err(write_fault(&error));
         }

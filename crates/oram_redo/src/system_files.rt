@@ -5,7 +5,8 @@
 //! the call that it notes: for that, read this file. Everything that is built on these calls is proved.
 //!
 //! Three calls aren't noted, since they change nothing that a read of the pair returns and nothing that a crash may leave: zeros
-//! that make the log longer, cutting them off again, and a write into the front of a file. Each requires what makes that true.
+//! that make the log longer, cutting them off again, and a write into the front of a file. Each requires what makes that true. Nor is the
+//! question for the length of the records' file, since nothing that is proved rests on the answer.
 ghost use Rattle.std.specs.Prelude.{◌≡◌, ◌<◌, ◌≤◌, ◌+◌, [], ◌∷◌, true, false, length, take, IfErr, IfOk, OnErr, OnOk};
 ghost use Rattle.oram_redo.specs.Blank.{IsBlankFrom};
 ghost use Rattle.oram_redo.specs.Calls.{calls_of};
@@ -115,6 +116,11 @@ impl SystemFiles {
         let len = self.file(file).metadata()?.len();
         self.note(LENGTH, file, len, true, &[]);
         Ok(len)
+    }
+
+    /// Returns the length of the records' file.
+    pub(crate) fn records_len(&self) -> io::Result<u64> {
+        Ok(self.records.metadata()?.len())
     }
 
     /// Writes zeros into the log behind its end, and returns how many the system took.

@@ -1,14 +1,17 @@
--- A file has one list of STOREs, and one note and one core after them.
-use Rattle.std.proofs.Common.{◌≡◌, ◌≢◌, ℕ, ◌+◌, ◌-◌, ◌<◌, ◌≤◌, ◌^◌, arith, List, [], ◌∷◌, ◌++◌, length, drop, take, refl, sym, ap, ◌∙◌, subst, append_assoc, length-append}
+-- The text of a process has one list of STOREs, and one note and one core after them.
+use Rattle.std.proofs.Common.{◌≡◌, ◌≢◌, ℕ, ◌+◌, ◌<◌, ◌≤◌, ◌^◌, arith, List, [], ◌∷◌, ◌++◌, length, drop, take, refl, sym, ap, ◌∙◌, subst, append_assoc, length-append}
 use Rattle.std.specs.Int.{w64, from_be_bytes, to_be_bytes}
-use Rattle.std.specs.List.{AllByRecursion, flat_map}
-use Rattle.std.proofs.lemmas.List.{take-append-drop}
+use Rattle.std.specs.Hash.DefaultHasher as sip
+use Rattle.std.specs.List.{AllByRecursion, flat_map, fold}
+use Rattle.std.proofs.lemmas.Grind.{fold-append}
+use Rattle.std.proofs.lemmas.List.{take-append-drop, take_at}
 use Rattle.std.proofs.lemmas.Nat.{be_bytes_8, from_be_bytes-to_be_bytes_8}
 use Rattle.oram_trace.proofs.Leftover.{append_parts}
 use Rattle.oram_state.specs.DecodedCore.{AreSavedFields}
+use Rattle.oram_state.specs.StateBytes.{table_text, with_table}
 use Rattle.oram_state.proofs.Sized.{one_core_bare}
-use Rattle.oram_state.proofs.Tools.{IsBytes, IsBytes-drop, IsBytes-take}
-use Rattle.oram_rounds.specs.Files.{AreCounted, FilesTellOfOneProcess, IsShort, checksum, kept_text, sized_text, stores_text, with_checksum}
+use Rattle.oram_state.proofs.Tools.{IsBytes, IsBytes-take}
+use Rattle.oram_rounds.specs.Files.{AreCounted, FilesTellOfOneProcess, IsShort, checksum, kept_text, sized_text, stores_text}
 
 -- the first eight bytes are those of the number that they are read as
 pub number_front : (bytes number rest : List ℕ) (n : ℕ) → IsBytes bytes → number ≡ take 8 bytes → rest ≡ drop 8 bytes → length rest + 8 ≡ length bytes → n ≡ from_be_bytes w64 number
@@ -18,37 +21,6 @@ number_front bytes number rest n fit front back len is =
     let eight : length number ≡ 8 = omega (arith, ap length whole, length-append number rest, len) in
     let fits : IsBytes number = subst IsBytes (sym front) (IsBytes-take 8 bytes fit) in
     whole ∙ ap (λ (b : List ℕ). b ++ rest) (sym (be_bytes_8 number n eight fits is))
-
--- the last eight bytes are those of the number that they are read as
-pub number_end : (bytes rest number : List ℕ) (n : ℕ) → IsBytes bytes → rest ≡ take (length bytes - 8) bytes → number ≡ drop (length bytes - 8) bytes → length rest + 8 ≡ length bytes → n ≡ from_be_bytes w64 number
-    → bytes ≡ rest ++ to_be_bytes w64 n
-number_end bytes rest number n fit front back len is =
-    let at : ℕ = length bytes - 8 in
-    let whole : bytes ≡ rest ++ number = sym (ap (λ (b : List ℕ). b ++ number) front ∙ ap (λ (b : List ℕ). take at bytes ++ b) back ∙ take-append-drop at bytes) in
-    let eight : length number ≡ 8 = omega (arith, ap length whole, length-append rest number, len) in
-    let fits : IsBytes number = subst IsBytes (sym back) (IsBytes-drop at bytes fit) in
-    whole ∙ ap (λ (b : List ℕ). rest ++ b) (sym (be_bytes_8 number n eight fits is))
-
--- two texts with numbers after them
-ends_same : (a b : List ℕ) (m n : ℕ) → a ++ to_be_bytes w64 m ≡ b ++ to_be_bytes w64 n → (a ≡ b) × (to_be_bytes w64 m ≡ to_be_bytes w64 n)
-ends_same a b m n e =
-    let eight : (k : ℕ) → length (to_be_bytes w64 k) ≡ 8 = λ k. refl in
-    let long : length a ≡ length b = omega (arith, ap length e, length-append a (to_be_bytes w64 m), length-append b (to_be_bytes w64 n), eight m, eight n) in
-    append_parts a (to_be_bytes w64 m) b (to_be_bytes w64 n) long e
-
--- a text has one checksum
-pub sums_same : (text other : List ℕ) → with_checksum text ≡ with_checksum other → text ≡ other
-sums_same text other e = (ends_same text other (checksum text) (checksum other) e).0
-
--- a text with another number after it is no text with its checksum
-pub other_sum : (file text : List ℕ) (number check : ℕ) → file ≡ text ++ to_be_bytes w64 number → check ≡ checksum text → number < 2 ^ 64 → check < 2 ^ 64 → number ≢ check
-    → (other : List ℕ) → file ≢ with_checksum other
-other_sum file text number check is sum low low_check apart other e =
-    let ends = ends_same text other number (checksum other) (sym is ∙ e) in
-    let same : checksum other ≡ check = ap checksum (sym ends.0) ∙ sym sum in
-    apart (
-    sym (from_be_bytes-to_be_bytes_8 number low) ∙ ap (from_be_bytes w64) (ends.1 ∙ ap (to_be_bytes w64) same) ∙ from_be_bytes-to_be_bytes_8 check low_check
-    )
 
 abbrev pub AreShort : List (List ℕ) → Type 0
 AreShort stores = AllByRecursion (λ store. length store < 2 ^ 64) stores
@@ -135,40 +107,48 @@ pub short_more : (front : List (List ℕ)) (b : List ℕ) → AreShort front →
 short_more [] b short low = (low, tt)
 short_more (x ∷ front) b short low = (short.0, short_more front b short.1 low)
 
--- what a file is written from
-pub summed_by : (stores : List (List ℕ)) (note start text noted summed fields : List ℕ) → start ≡ [] → text ≡ start ++ stores_text stores → noted ≡ text ++ sized_text note → summed ≡ noted ++ fields
-    → summed ≡ stores_text stores ++ (sized_text note ++ fields)
-summed_by stores note start text noted summed fields none pushed notes adds =
-    let same : text ≡ stores_text stores = pushed ∙ ap (λ (b : List ℕ). b ++ stores_text stores) none in
-    adds ∙ ap (λ (b : List ℕ). b ++ fields) (notes ∙ ap (λ (b : List ℕ). b ++ sized_text note) same) ∙ append_assoc (stores_text stores) (sized_text note) fields
-
-pub checked_by : (text summed number file : List ℕ) (check : ℕ) → summed ≡ text → check ≡ checksum summed → number ≡ to_be_bytes w64 check → file ≡ summed ++ number
-    → (file ≡ with_checksum text) × (check ≡ checksum text)
-checked_by text summed number file check same sum is all =
-    (all ∙ ap (λ (b : List ℕ). summed ++ b) (is ∙ ap (to_be_bytes w64) sum) ∙ ap with_checksum same, sum ∙ ap checksum same)
-
 -- two files that are equal
 pub kept_same : (xs ys : List (List ℕ)) (a b fields other : List ℕ) → AreCounted xs → AreCounted ys → IsShort a → IsShort b → kept_text xs a fields ≡ kept_text ys b other
     → (xs ≡ ys) × (a ≡ b) × (fields ≡ other)
 kept_same xs ys a b fields other counted_x counted_y short_a short_b e =
-    let first = texts_same xs ys (sized_text a ++ fields) (sized_text b ++ other) counted_x counted_y
-    (sums_same (stores_text xs ++ (sized_text a ++ fields)) (stores_text ys ++ (sized_text b ++ other)) e) in
+    let first = texts_same xs ys (sized_text a ++ fields) (sized_text b ++ other) counted_x counted_y e in
     let second = sized_same a b fields other short_a short_b first.1 in
     (first.0, second.0, second.1)
 
--- where no note follows the STOREs, the file is that of no process
-pub no_note : (file text rest : List ℕ) (read : List (List ℕ)) → file ≡ with_checksum text → text ≡ stores_text read ++ rest → AreCounted read
+-- where no note follows the STOREs, the text is that of no process
+pub no_note : (text rest : List ℕ) (read : List (List ℕ)) → text ≡ stores_text read ++ rest → AreCounted read
     → ((sized behind : List ℕ) → IsShort sized → rest ≢ sized_text sized ++ behind)
-    → (stores : List (List ℕ)) (note fields : List ℕ) → AreCounted stores → IsShort note → file ≢ kept_text stores note fields
-no_note file text rest read whole is counted none stores note fields counted_too short e =
-    let same = texts_same read stores rest (sized_text note ++ fields) counted counted_too
-    (sym is ∙ sums_same text (stores_text stores ++ (sized_text note ++ fields)) (sym whole ∙ e)) in
+    → (stores : List (List ℕ)) (note fields : List ℕ) → AreCounted stores → IsShort note → text ≢ kept_text stores note fields
+no_note text rest read is counted none stores note fields counted_too short e =
+    let same = texts_same read stores rest (sized_text note ++ fields) counted counted_too (sym is ∙ e) in
     none note fields short same.1
 
-pub longer : (text : List ℕ) (n : ℕ) → 8 ≤ length (text ++ to_be_bytes w64 n)
-longer text n =
-    let eight : length (to_be_bytes w64 n) ≡ 8 = refl in
-    omega (arith, length-append text (to_be_bytes w64 n), eight)
+-- what stands before the fields
+pub front_by : (stores : List (List ℕ)) (note start text noted : List ℕ) → start ≡ [] → text ≡ start ++ stores_text stores → noted ≡ text ++ sized_text note → noted ≡ stores_text stores ++ sized_text note
+front_by stores note start text noted none pushed notes = notes ∙ ap (λ (b : List ℕ). b ++ sized_text note) (pushed ∙ ap (λ (b : List ℕ). b ++ stores_text stores) none)
+
+-- a text is written part by part, and its fields are written around a table
+pub written_by : (stores : List (List ℕ)) (note start text noted all fields table after : List ℕ) → start ≡ [] → text ≡ start ++ stores_text stores → noted ≡ text ++ sized_text note → all ≡ noted ++ fields
+    → with_table all table after ≡ kept_text stores note (with_table fields table after)
+written_by stores note start text noted all fields table after none pushed notes adds =
+    ap (λ (b : List ℕ). with_table b table after) (adds ∙ ap (λ (b : List ℕ). b ++ fields) (front_by stores note start text noted none pushed notes))
+    ∙ in_five (stores_text stores) (sized_text note) fields (table_text table) after
+  where
+    in_five : (a b c d e : List ℕ) → ((a ++ b) ++ c) ++ (d ++ e) ≡ a ++ (b ++ (c ++ (d ++ e)))
+    in_five a b c d e = simp append_assoc
+
+-- the check of what stands before the fields, and of the fields before and after the table
+pub check_by : (stores : List (List ℕ)) (note front before after : List ℕ) → front ≡ stores_text stores ++ sized_text note → checksum (front ++ (before ++ after)) ≡ checksum (kept_text stores note (before ++ after))
+check_by stores note front before after is = ap checksum (ap (λ (b : List ℕ). b ++ (before ++ after)) is ∙ append_assoc (stores_text stores) (sized_text note) (before ++ after))
+
+-- three writes are one
+pub written_thrice : (a b c : List ℕ) → sip.write (sip.write (sip.write sip.initial a) b) c ≡ sip.write sip.initial (a ++ (b ++ c))
+unfolding sip.write
+written_thrice a b c = sym (fold-append sip.write_byte sip.initial a (b ++ c) ∙ fold-append sip.write_byte (fold sip.write_byte sip.initial a) b c)
+
+-- the front of a text, by the length of its end
+pub front_of : (text a b : List ℕ) (n : ℕ) → text ≡ a ++ b → n + length b ≡ length text → take n text ≡ a
+front_of text a b n is count = ap (take n) is ∙ take_at a b n (omega (arith, ap length is, length-append a b, count))
 
 pub one_process : FilesTellOfOneProcess
 one_process overhead d d' bytes stores stores' core core' f g =

@@ -8,7 +8,7 @@ use Rattle.oram_semantics.specs.declared.events.Reply.{Reply}
 use Rattle.oram_link_laws.specs.Runs.{Exchange}
 use Rattle.oram_link_laws.proofs.Exchanged.{folds_join}
 use Rattle.oram_rounds.specs.Batches.{BatchOutcome}
-use Rattle.oram_rounds.specs.Files.{IsFile, IsFileWith}
+use Rattle.oram_rounds.specs.Files.{IsFile, IsFileWith, check_of}
 use Rattle.oram_rounds.specs.Keeping.{DoesAllNoted, IsKeptWithNote, IsNoted, MayBeKeptWithNote}
 use Rattle.oram_rounds.specs.Law.{LearningSendsNothing}
 use Rattle.oram_rounds.specs.Process.{Act, Does, DoesAll, HasTalked, Process, TalksAll, replies_of}
@@ -38,7 +38,7 @@ module _ {B K : Type 0} (batches : B → List (List ℕ) → BatchOutcome → Li
       λ bytes back. subst (λ (b : List ℕ). IsFile v b (waiting p.link) p.core) (sym (kept.only bytes back)) kept.is.0,
       core,
       link,
-      quiet p.link.inner q.link.inner kept.check kept.learned,
+      quiet p.link.inner q.link.inner (check_of v (waiting p.link) (notes p.link.inner) p.core) kept.learned,
     ),
     kept,
   )

@@ -1,4 +1,4 @@
--- What is kept of a process: the STOREs that wait, the note of its link, the core, and a checksum.
+-- What is kept of a process: the STOREs that wait, the note of its link, and the core.
 use Rattle.std.specs.Prelude.{◌≡◌, ℕ, ◌<◌, ◌^◌, List, ◌++◌, length}
 use Rattle.std.specs.Hash.DefaultHasher as sip
 use Rattle.std.specs.Int.{w64, to_be_bytes}
@@ -6,6 +6,7 @@ use Rattle.std.specs.List.{AllByRecursion, flat_map}
 use Rattle.oram_geometry.specs.declared.Sizes.{Sizes}
 use Rattle.oram_semantics.specs.Scheme.{Scheme}
 use Rattle.oram_semantics.specs.State.{State}
+use Rattle.oram_state.specs.AroundTable.{after_table, before_table}
 use Rattle.oram_state.specs.DecodedCore.{AreSavedFields}
 
 -- a STORE, or a note, after its length in eight bytes
@@ -16,21 +17,18 @@ sized_text bytes = to_be_bytes w64 (length bytes) ++ bytes
 abbrev pub stores_text : List (List ℕ) → List ℕ
 stores_text stores = to_be_bytes w64 (length stores) ++ flat_map sized_text stores
 
--- SipHash-1-3 with keys of zeros. It detects a text that was torn or cut short.
+-- SipHash-1-3 with keys of zeros
 unfoldable pub checksum : List ℕ → ℕ
 checksum text = sip.finish (sip.write sip.initial text)
 
--- a text, and its checksum in eight bytes
-abbrev pub with_checksum : List ℕ → List ℕ
-with_checksum text = text ++ to_be_bytes w64 (checksum text)
-
--- the bytes end with the checksum of all bytes before it, and it is this number
-abbrev pub HasChecksum : List ℕ → ℕ → Type 0
-HasChecksum bytes check = (text : List ℕ) × (bytes ≡ with_checksum text) × (check ≡ checksum text)
-
--- the STOREs, the note and the core's fields, and their checksum
+-- the STOREs, the note and the core's fields
 abbrev pub kept_text : List (List ℕ) → List ℕ → List ℕ → List ℕ
-kept_text stores note fields = with_checksum (stores_text stores ++ (sized_text note ++ fields))
+kept_text stores note fields = stores_text stores ++ (sized_text note ++ fields)
+
+-- The check of a process, by which its keepings are told apart: the checksum of its text without the core's table, so of what stands
+-- before the table and what stands after it. To compute it takes no longer if the table is larger.
+abbrev pub check_of : Scheme → List (List ℕ) → List ℕ → State → ℕ
+check_of v stores note core = checksum (kept_text stores note (before_table v.cipher.overhead v.device core ++ after_table v.device core))
 
 -- the number of STOREs and their lengths fit into eight bytes
 abbrev pub AreCounted : List (List ℕ) → Type 0
@@ -40,7 +38,7 @@ AreCounted stores = (length stores < 2 ^ 64) × AllByRecursion (λ store. length
 abbrev pub IsShort : List ℕ → Type 0
 IsShort note = length note < 2 ^ 64
 
--- the bytes are some STOREs, a note and some fields, with their checksum; whether the fields are a core's isn't said
+-- the bytes are some STOREs, a note and some fields; whether the fields are a core's isn't said
 pub record IsWhole (bytes : List ℕ) : Type 0 where
   pub stores : List (List ℕ)
   pub note : List ℕ

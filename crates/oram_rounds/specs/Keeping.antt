@@ -4,23 +4,21 @@ use Rattle.std.specs.List.{FoldsTo}
 use Rattle.oram_semantics.specs.Scheme.{Scheme}
 use Rattle.oram_link_laws.specs.Runs.{Exchange}
 use Rattle.oram_rounds.specs.Batches.{BatchOutcome}
-use Rattle.oram_rounds.specs.Files.{HasChecksum, IsFileWith}
+use Rattle.oram_rounds.specs.Files.{IsFileWith, check_of}
 use Rattle.oram_rounds.specs.Process.{Act, Does, Process}
 use Rattle.oram_rounds.specs.Process.Act.{Calls, GoesAhead, Hears, Keeps, Misses}
 use Rattle.oram_rounds.specs.Rounds.{waiting}
 
 -- for a device, links with these notes that learn of a keeping by `learns`, and a keeper that says which bytes may be read back
 module _ (v : Scheme) {B K : Type 0} (notes : B → List ℕ) (learns : B → ℕ → B → Type 0) (reads_back : K → List ℕ → Type 0) where
-  -- One file is read back from then on: the process's file, with the note of the link below. That link learns just this file's
-  -- checksum.
+  -- One file is read back from then on: the process's file, with the note of the link below. That link learns the check of just this
+  -- process.
   pub record IsKeptWithNote (p q : Process B K) : Type 0 where
     pub file : List ℕ
     pub is : IsFileWith v file (waiting p.link) (notes p.link.inner) p.core
     pub there : reads_back q.keeper file
     pub only : (bytes : List ℕ) → reads_back q.keeper bytes → bytes ≡ file
-    pub check : ℕ
-    pub checked : HasChecksum file check
-    pub learned : learns p.link.inner check q.link.inner
+    pub learned : learns p.link.inner (check_of v (waiting p.link) (notes p.link.inner) p.core) q.link.inner
 
   -- If the keeper fails, that file is read back, or what was read back before.
   abbrev pub MayBeKeptWithNote : Process B K → Process B K → Type 0

@@ -18,7 +18,7 @@ use Rattle.oram_rounds.specs.Rounds.{Round, RoundCall, WentAhead, waiting}
 abbrev pub AreBatches : {B : Type 0} → (B → List (List ℕ) → BatchOutcome → List Exchange → B → Type 0) → Type 0
 AreBatches {B} batches = (l m : B) (bodies : List (List ℕ)) (o : BatchOutcome) (exchanges : List Exchange) → batches l bodies o exchanges m → IsBatch bodies o exchanges
 
--- a link sends nothing when it learns that its process was kept, in a file with some checksum
+-- a link sends nothing when it learns that its process was kept, with some check
 abbrev pub LearningSendsNothing : {B : Type 0} → (B → List (List ℕ) → BatchOutcome → List Exchange → B → Type 0) → (B → ℕ → B → Type 0) → Type 0
 LearningSendsNothing {B} batches learns = (l m : B) (check : ℕ) → learns l check m → SendsNothing batches l m
 

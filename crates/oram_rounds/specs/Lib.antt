@@ -13,3 +13,4 @@ pub mod AheadInTurn
 pub mod Start
 pub mod ProcessSteps
 pub mod ReadingExample
+pub mod KeptParts

@@ -10,7 +10,7 @@ use std::alloc::{AllocError, Global};
 /// A link to a host that sends several messages before it reads their answers.
 ///
 /// Such a link may have something to remember beyond the end of its process: its note. Whoever keeps the process writes the
-/// note into the same file, and then tells the link the file's checksum.
+/// note into the same text, and then tells the link the check of the process.
 pub trait BatchLink {
     /// Whether a batch of these bodies, from the first value, may have this outcome and these exchanges with the host, and
     /// lead to the second value.
@@ -19,8 +19,8 @@ pub trait BatchLink {
     /// The bytes that the link wants to have kept with its process.
     ghost notes: { Self → List ℕ };
 
-    /// Whether the first value may become the second one when the link learns that the process was kept, with the link's note,
-    /// in a file with this checksum.
+    /// Whether the first value may become the second one when the link learns that the process was kept, with the link's note, and
+    /// has this check.
     ghost learns: { Self → ℕ → Self → Type 0 };
 
     /// Sends the bodies of `first` and then those of `last` to the host, in this order, and returns their answers in the same
@@ -38,7 +38,7 @@ pub trait BatchLink {
     fn note(&self, alloc: Global) -> Result<Vec<u8>, AllocError>
         ensures { IfOk result (λ note. note.items ≡ notes self.now) };
 
-    /// Tells the link that the process was kept, with the link's note, in a file with the checksum `check`. Sends nothing.
+    /// Tells the link that the process was kept, with the link's note, and that its check is `check`. Sends nothing.
     fn learn_kept(&mut self, check: u64)
         ensures { learns self.old check self.new };
 

@@ -1,5 +1,6 @@
 //! Where a process keeps what has to outlive it.
 ghost use Rattle.std.specs.Prelude.{◌≡◌, ◌⊎◌, ℕ, List, OnOk, OnErr};
+ghost use Rattle.oram_rounds.specs.KeptParts.{text_of};
 
 use std::fmt;
 
@@ -13,14 +14,25 @@ impl fmt::Display for KeepError {
     }
 }
 
-/// A place for the newest file of one core.
+/// The text that is kept of a process, in three parts, so that nobody has to copy the table.
+#[derive(Clone, Copy)]
+pub struct KeptParts<'a> {
+    /// What stands before the core's table.
+    pub before: &'a [u8],
+    /// The core's table. The text has each of its entries in four bytes, big-endian.
+    pub table: &'a [u32],
+    /// What stands after the table.
+    pub after: &'a [u8],
+}
+
+/// A place for the newest text of one process.
 pub trait Keeper {
     /// Whether these bytes may be read back now.
     ghost reads_back: { Self → List ℕ → Type 0 };
 
-    /// Keeps these bytes in place of those before. Once it returns `Ok`, they are read back, and nothing else is.
-    fn keep(&mut self, file: &[u8]) -> Result<(), KeepError>
-        ensures there { OnOk result (reads_back self.new file.now) }
-        ensures only { OnOk result ((bytes : List ℕ) → reads_back self.new bytes → bytes ≡ file.now) }
-        ensures failed { OnErr result ((bytes : List ℕ) → reads_back self.new bytes → (bytes ≡ file.now) ⊎ reads_back self.old bytes) };
+    /// Keeps this text in place of the one before. Once it returns `Ok`, it is read back, and nothing else is.
+    fn keep(&mut self, text: &KeptParts<'_>) -> Result<(), KeepError>
+        ensures there { OnOk result (reads_back self.new (text_of text.now)) }
+        ensures only { OnOk result ((bytes : List ℕ) → reads_back self.new bytes → bytes ≡ text_of text.now) }
+        ensures failed { OnErr result ((bytes : List ℕ) → reads_back self.new bytes → (bytes ≡ text_of text.now) ⊎ reads_back self.old bytes) };
 }

@@ -1,23 +1,26 @@
 //! What is kept of a process, as bytes.
 //!
-//! A file has the STOREs that wait, the oldest first, the note of the link ([`BatchLink`](crate::BatchLink)), and the core: the
-//! number of STOREs in eight bytes, each STORE after its length in eight bytes, the note after its length in eight bytes, the
-//! fields of the core's state file, and a checksum of all this in eight bytes. All numbers are big-endian.
+//! The text has the STOREs that wait, the oldest first, the note of the link ([`BatchLink`](crate::BatchLink)), and the core: the
+//! number of STOREs in eight bytes, each STORE after its length in eight bytes, the note after its length in eight bytes, and the
+//! fields of the core's state file. All numbers are big-endian.
 //!
-//! The checksum only tells whether the file is whole. It need not withstand an attacker: paths in the file are checked against
-//! root digests anyway, and the file is at the client.
+//! Nothing in the text tells whether it is the one that was written: whoever keeps it adds what detects a torn file. The text is
+//! handed to a [`Keeper`](crate::Keeper) in three parts, with the core's table in the middle, and the check of a process, by which its
+//! keepings are told apart, leaves the table out. So writing takes no longer here if the table is larger.
 ghost use Rattle.std.specs.Prelude.{◌≡◌, ◌≢◌, ◌⊎◌, ◌++◌, ◌<◌, ◌^◌, ℕ, List, None, length, IfErr, IfOk, IfSome, IsErrOf, OnOk};
 ghost use Rattle.std.specs.Int.{w64, to_be_bytes};
 ghost use Rattle.oram_geometry.specs.declared.Sizes.{Sizes};
 ghost use Rattle.oram_semantics.specs.State.{State};
 ghost use Rattle.oram_core.specs.Core.{scheme_of};
 ghost use Rattle.oram_rounds.specs.Batches.{texts};
-ghost use Rattle.oram_rounds.specs.Files.{AreCounted, HasChecksum, IsFileOf, IsFileWith, IsShort, IsWhole, checksum, kept_text, sized_text, stores_text, with_checksum};
+ghost use Rattle.oram_rounds.specs.Files.{AreCounted, IsFileOf, IsFileWith, IsShort, IsWhole, check_of, checksum, kept_text, sized_text, stores_text};
+ghost use Rattle.oram_state.specs.StateBytes.{with_table};
 
+use crate::keeper::KeptParts;
 use crate::lists::push;
 use oram_bucket::Sealer;
 use oram_core::Core;
-use oram_state::{StateFault, decode_fields, encode_fields};
+use oram_state::{StateFault, decode_fields, encode_around_table, split_around_table};
 use std::alloc::{AllocError, Global};
 use std::fmt;
 use std::hash::{DefaultHasher, Hasher};
@@ -25,7 +28,7 @@ use std::hash::{DefaultHasher, Hasher};
 /// The number of bytes of a number in a file.
 const NUMBER_LEN: usize = 8;
 
-/// The parts of a process's file.
+/// What is kept of a process.
 #[derive(Drop)]
 pub struct KeptCore<S: Sealer> {
     /// The STOREs that the host may not have yet, the oldest first.
@@ -33,23 +36,41 @@ pub struct KeptCore<S: Sealer> {
     /// What the link wanted to have kept.
     pub note: Vec<u8>,
     pub core: Core<S>,
-    /// The file's checksum.
+    /// The check of the process.
     pub check: u64,
 }
 
-/// A process's file, and its checksum.
+/// The text of a process around its core's table, and the check of the process.
 #[derive(Drop)]
-pub struct ProcessFile {
-    pub bytes: Vec<u8>,
+pub struct ProcessText {
+    /// What stands before the table.
+    pub before: Vec<u8>,
+    /// What stands after the table.
+    pub after: Vec<u8>,
     pub check: u64,
 }
 
-/// Why bytes can't be read as a process's file.
+impl ProcessText {
+    /// Returns the text with the table.
+    pub fn with_table<'a>(&'a self, table: &'a [u32]) -> KeptParts<'a>
+        ensures before { result.before.now ≡ self.now.before.items }
+        ensures table { result.table.now ≡ table.now }
+        ensures after { result.after.now ≡ self.now.after.items }
+    {
+        KeptParts {
+            before: &self.before,
+            table,
+            after: &self.after,
+        }
+    }
+}
+
+/// Why bytes can't be read as a process's text.
 #[derive(Clone, Copy, Debug, PartialEq, Eq)]
 pub enum KeptCoreFault {
-    /// The file was cut short, or isn't the one that was written.
+    /// The bytes don't begin with STOREs and a note.
     Torn,
-    /// The file is whole, but it doesn't hold a core with this sealer.
+    /// The bytes have STOREs and a note, but what follows isn't a core with this sealer.
     Core(StateFault),
     /// Memory ran out.
     OutOfMemory,
@@ -89,42 +110,44 @@ impl From<StateFault> for KeptCoreFault {
     }
 }
 
-/// Computes the checksum of a text.
-#[tactic(auto, unfolding(crate::specs::Files::checksum))]
-fn checksum(text: &[u8]) -> u64
-    ensures value { result ≡ checksum text.now }
-    ensures small { result < 2 ^ 64 }
+/// Computes the check of a process: `front` are the STOREs and the note of its text, and `before` and `after` the core's fields before
+/// and after the table.
+#[tactic(auto, unfolding(crate::specs::Files::checksum), using(crate::proofs::KeptText::written_thrice))]
+fn check_of(front: &[u8], before: &[u8], after: &[u8]) -> u64
+    ensures { result ≡ checksum (front.now ++ (before.now ++ after.now)) }
 {
     let mut hasher = DefaultHasher::new();
-    hasher.write(text);
+    hasher.write(front);
+    hasher.write(before);
+    hasher.write(after);
     hasher.finish()
 }
 
-/// Adds a STORE, or a note, to a file after its length.
-fn push_sized(file: &mut Vec<u8>, bytes: &[u8]) -> Result<(), AllocError>
-    ensures written { OnOk result (file.new.items ≡ file.old.items ++ sized_text bytes.now) }
+/// Adds a STORE, or a note, to a text after its length.
+fn push_sized(text: &mut Vec<u8>, bytes: &[u8]) -> Result<(), AllocError>
+    ensures written { OnOk result (text.new.items ≡ text.old.items ++ sized_text bytes.now) }
     ensures short { IsShort bytes.now }
 {
-    file.extend_from_slice(&(bytes.len() as u64).to_be_bytes())?;
-    file.extend_from_slice(bytes)?;
+    text.extend_from_slice(&(bytes.len() as u64).to_be_bytes())?;
+    text.extend_from_slice(bytes)?;
     Ok(())
 }
 
-/// Adds the number of STOREs to a file, and the STOREs.
-fn push_stores(file: &mut Vec<u8>, stores: &[Vec<u8>]) -> Result<(), AllocError>
-    ensures written { OnOk result (file.new.items ≡ file.old.items ++ stores_text (texts stores.now)) }
+/// Adds the number of STOREs to a text, and the STOREs.
+fn push_stores(text: &mut Vec<u8>, stores: &[Vec<u8>]) -> Result<(), AllocError>
+    ensures written { OnOk result (text.new.items ≡ text.old.items ++ stores_text (texts stores.now)) }
     ensures counted { OnOk result (AreCounted (texts stores.now)) }
 {
-    file.extend_from_slice(&(stores.len() as u64).to_be_bytes())?;
+    text.extend_from_slice(&(stores.len() as u64).to_be_bytes())?;
     for store in stores {
-        push_sized(file, store)?;
+        push_sized(text, store)?;
     }
     Ok(())
 }
 
-/// Returns how many bytes the file of these STOREs, this note and these fields has.
-fn file_len(stores: &[Vec<u8>], note: &[u8], fields: &[u8]) -> usize {
-    let mut len = (3 * NUMBER_LEN)
+/// Returns how many bytes these STOREs, this note and these fields have.
+fn before_len(stores: &[Vec<u8>], note: &[u8], fields: &[u8]) -> usize {
+    let mut len = (2 * NUMBER_LEN)
         .saturating_add(note.len())
         .saturating_add(fields.len());
     for store in stores {
@@ -133,25 +156,29 @@ fn file_len(stores: &[Vec<u8>], note: &[u8], fields: &[u8]) -> usize {
     len
 }
 
-/// Returns the file of the STOREs that wait, of the core that sent them, and of the note of their link. Fails only if memory
-/// runs out.
+/// Returns the text of the STOREs that wait, of the note of their link, and of the core that sent them, around the core's table, and
+/// the check of this process. Fails only if memory runs out.
 pub fn encode_kept<S: Sealer>(
     alloc: Global,
     stores: &[Vec<u8>],
     note: &[u8],
     core: &Core<S>,
-) -> Result<ProcessFile, AllocError>
-    ensures file { let v = scheme_of S.cipher core.now in IfOk result (λ file. IsFileWith v file.bytes.items (texts stores.now) note.now core.now.state) }
-    ensures check { IfOk result (λ file. HasChecksum file.bytes.items file.check) }
+) -> Result<ProcessText, AllocError>
+    ensures file { let v = scheme_of S.cipher core.now in IfOk result (λ text.
+        IsFileWith v (with_table text.before.items core.now.state.table text.after.items) (texts stores.now) note.now core.now.state) }
+    ensures check { let v = scheme_of S.cipher core.now in IfOk result (λ text. text.check ≡ check_of v (texts stores.now) note.now core.now.state) }
 {
-    let fields = encode_fields(alloc, core)?;
-    let mut bytes = Vec::with_capacity(alloc, file_len(stores, note, &fields))?;
-    push_stores(&mut bytes, stores)?;
-    push_sized(&mut bytes, note)?;
-    bytes.extend_from_slice(&fields)?;
-    let check = checksum(&bytes);
-    bytes.extend_from_slice(&check.to_be_bytes())?;
-    Ok(ProcessFile { bytes, check })
+    let fields = encode_around_table(alloc, core)?;
+    let mut before = Vec::with_capacity(alloc, before_len(stores, note, &fields.before))?;
+    push_stores(&mut before, stores)?;
+    push_sized(&mut before, note)?;
+    let check = check_of(&before, &fields.before, &fields.after);
+    before.extend_from_slice(&fields.before)?;
+    Ok(ProcessText {
+        before,
+        after: fields.after,
+        check,
+    })
 }
 
 /// Reads the number at the front of some bytes, and returns the bytes after it.
@@ -177,7 +204,7 @@ fn next_sized(bytes: &[u8]) -> Option<(&[u8], &[u8])>
     Some(rest.split_at(len as usize))
 }
 
-/// Reads the STOREs at the front of a file, and returns the bytes after them.
+/// Reads the STOREs at the front of a text, and returns the bytes after them.
 fn read_stores(alloc: Global, bytes: &[u8]) -> Result<(Vec<Vec<u8>>, &[u8]), KeptCoreFault>
     ensures counted { IfOk result (λ x. AreCounted (texts x.0.items)) }
     ensures ok { IfOk result (λ x. bytes.now ≡ stores_text (texts x.0.items) ++ x.1.now) }
@@ -198,93 +225,73 @@ fn read_stores(alloc: Global, bytes: &[u8]) -> Result<(Vec<Vec<u8>>, &[u8]), Kep
     Ok((stores, rest))
 }
 
-/// Reads the number at the end of some bytes, and returns the bytes before it.
-fn last_number(bytes: &[u8]) -> Option<(&[u8], u64)>
-    ensures some { IfSome result (λ x. bytes.now ≡ x.0.now ++ to_be_bytes w64 x.1) }
-    ensures small { IfSome result (λ x. x.1 < 2 ^ 64) }
-    ensures none { result ≡ None → length bytes.now < 8 }
-{
-    let (rest, number) = bytes.split_last_chunk::<NUMBER_LEN>()?;
-    Some((rest, u64::from_be_bytes(*number)))
-}
-
-/// Returns what comes before the checksum in a file that is whole, and the checksum.
-fn checked(file: &[u8]) -> Option<(&[u8], u64)>
-    ensures some { IfSome result (λ x. file.now ≡ with_checksum x.0.now) }
-    ensures check { IfSome result (λ x. x.1 ≡ checksum x.0.now) }
-    ensures none { result ≡ None → (text : List ℕ) → file.now ≢ with_checksum text }
-{
-    let (text, number) = last_number(file)?;
-    let check = checksum(text);
-    if number != check {
-        return None;
-    }
-    Some((text, check))
-}
-
-/// The parts of a file that is whole.
+/// The parts of a process's text.
 #[derive(Drop)]
 struct Parts<'a> {
     stores: Vec<Vec<u8>>,
     note: &'a [u8],
+    /// What stands before the core's fields.
+    front: &'a [u8],
     /// The core's fields, unread.
     fields: &'a [u8],
-    check: u64,
 }
 
-/// Takes a file apart.
-fn split_kept(alloc: Global, file: &[u8]) -> Result<Parts<'_>, KeptCoreFault>
+/// Takes a text apart.
+fn split_kept(alloc: Global, text: &[u8]) -> Result<Parts<'_>, KeptCoreFault>
     ensures counted { IfOk result (λ parts. AreCounted (texts parts.stores.items)) }
     ensures short { IfOk result (λ parts. IsShort parts.note.now) }
-    ensures ok { IfOk result (λ parts. file.now ≡ kept_text (texts parts.stores.items) parts.note.now parts.fields.now) }
-    ensures check { IfOk result (λ parts. HasChecksum file.now parts.check) }
-    ensures torn { IsErrOf result KeptCoreFault.Torn → (stores : List (List ℕ)) (note fields : List ℕ) → AreCounted stores → IsShort note → file.now ≢ kept_text stores note fields }
+    ensures front { IfOk result (λ parts. parts.front.now ≡ stores_text (texts parts.stores.items) ++ sized_text parts.note.now) }
+    ensures ok { IfOk result (λ parts. text.now ≡ kept_text (texts parts.stores.items) parts.note.now parts.fields.now) }
+    ensures torn { IsErrOf result KeptCoreFault.Torn → (stores : List (List ℕ)) (note fields : List ℕ) → AreCounted stores → IsShort note → text.now ≢ kept_text stores note fields }
     ensures fault { IfErr result (λ e. (e ≡ KeptCoreFault.Torn) ⊎ (e ≡ KeptCoreFault.OutOfMemory)) }
 {
-    let Some((text, check)) = checked(file) else {
-        return Err(KeptCoreFault::Torn);
-    };
     let (stores, rest) = read_stores(alloc, text)?;
     let Some((note, fields)) = next_sized(rest) else {
         return Err(KeptCoreFault::Torn);
     };
+    let (front, _) = text.split_at(text.len() - fields.len());
     Ok(Parts {
         stores,
         note,
+        front,
         fields,
-        check,
     })
 }
 
-/// Reads the file of a process whose core has this sealer.
+/// Reads the text of a process whose core has this sealer.
 ///
-/// Fails with `Torn` if the file isn't whole, with `Core` if it doesn't hold a core with this sealer, and with `OutOfMemory` if
-/// memory runs out.
+/// Fails with `Torn` if the text doesn't begin with STOREs and a note, with `Core` if no core with this sealer follows, and with
+/// `OutOfMemory` if memory runs out.
 pub fn decode_kept<S: Sealer>(
     alloc: Global,
     sealer: S,
-    file: &[u8],
+    text: &[u8],
 ) -> Result<KeptCore<S>, KeptCoreFault>
     ensures sealer { IfOk result (λ kept. kept.core.sealer ≡ sealer) }
-    ensures ok { IfOk result (λ kept. IsFileWith (scheme_of S.cipher kept.core) file.now (texts kept.stores.items) kept.note.items kept.core.state) }
-    ensures check { IfOk result (λ kept. HasChecksum file.now kept.check) }
+    ensures ok { IfOk result (λ kept. IsFileWith (scheme_of S.cipher kept.core) text.now (texts kept.stores.items) kept.note.items kept.core.state) }
+    // A text is that of only one process, so the check is the one that `encode_kept` gave.
+    ensures check { IfOk result (λ kept. kept.check ≡ check_of (scheme_of S.cipher kept.core) (texts kept.stores.items) kept.note.items kept.core.state) }
     // It returns the process that was kept, unless memory runs out.
-    ensures same { (d : Sizes) (stores : List (List ℕ)) (core : State) → (it : IsFileOf (S.cipher sealer).overhead d file.now stores core)
+    ensures same { (d : Sizes) (stores : List (List ℕ)) (core : State) → (it : IsFileOf (S.cipher sealer).overhead d text.now stores core)
         → IfOk result (λ kept. (texts kept.stores.items ≡ stores) × (kept.core.device ≡ d) × (kept.core.state ≡ core) × (kept.note.items ≡ it.note)) }
-    ensures only { (d : Sizes) (stores : List (List ℕ)) (core : State) → IsFileOf (S.cipher sealer).overhead d file.now stores core
+    ensures only { (d : Sizes) (stores : List (List ℕ)) (core : State) → IsFileOf (S.cipher sealer).overhead d text.now stores core
         → IfErr result (λ fault. fault ≡ KeptCoreFault.OutOfMemory) }
-    ensures torn { IsErrOf result KeptCoreFault.Torn → ¬ IsWhole file.now }
-    ensures core { (fault : StateFault) → IsErrOf result (KeptCoreFault.Core fault) → IsWhole file.now × (fault ≡ StateFault.Content) }
+    ensures torn { IsErrOf result KeptCoreFault.Torn → ¬ IsWhole text.now }
+    ensures core { (fault : StateFault) → IsErrOf result (KeptCoreFault.Core fault) → IsWhole text.now × (fault ≡ StateFault.Content) }
 {
-    let parts = split_kept(alloc, file)?;
+    let parts = split_kept(alloc, text)?;
     let note = parts.note.to_vec(alloc)?;
     match decode_fields(alloc, sealer, parts.fields) {
-        Ok(core) => Ok(KeptCore {
-            stores: parts.stores,
-            note,
-            core,
-            check: parts.check,
-        }),
+        Ok(core) => {
+            let (before, after) = split_around_table(parts.fields, &core);
+            let check = check_of(parts.front, before, after);
+            Ok(KeptCore {
+                stores: parts.stores,
+                note,
+                core,
+                check,
+            })
+        }
         Err(fault) => Err(KeptCoreFault::from(fault)),
     }
 }

@@ -31,8 +31,8 @@ mod submissions;
 
 pub use batch::BatchLink;
 pub use exchanges::carry_out_all;
-pub use keeper::{KeepError, Keeper};
-pub use kept_file::{KeptCore, KeptCoreFault, ProcessFile, decode_kept, encode_kept};
+pub use keeper::{KeepError, Keeper, KeptParts};
+pub use kept_file::{KeptCore, KeptCoreFault, ProcessText, decode_kept, encode_kept};
 pub use law::{
     acts_are_safe, ahead_is_not_sent, ahead_is_of_the_host, ahead_stays_in_turn, begun_is_safe,
     calls_are_of_the_host_later, ends_are_safe, files_tell_of_one_process, held_is_safe,

@@ -281,7 +281,7 @@ impl<B: BatchLink> RoundLink<B> {
         self.inner.note(alloc)
     }
 
-    /// Notes that all STOREs that wait are kept, in a file with the checksum `check`, so they leave with the next FETCH. Forgets
+    /// Notes that all STOREs that wait are kept, in a process with this check, so they leave with the next FETCH. Forgets
     /// what went ahead, and tells the link below.
     pub fn keep(&mut self, alloc: Global, check: u64)
         ensures kept { self.new ≡ record self.old { inner = self.new.inner; kept = self.old.kept ++ self.old.held; held = []; ahead = [] } }

@@ -26,7 +26,7 @@ use oram_session::{has_no_work, reopen};
 use std::alloc::Global;
 
 /// Keeps the core, the STOREs that wait, and the note of the link below. The STOREs may leave from then on, and the link below
-/// learns the checksum of the file that was kept.
+/// learns the check of what was kept.
 pub fn keep<S: Sealer, B: BatchLink, K: Keeper>(
     alloc: Global,
     core: &Core<S>,
@@ -45,9 +45,9 @@ pub fn keep<S: Sealer, B: BatchLink, K: Keeper>(
     ensures fault { IfErr result (λ e. (e ≡ RoundFault.NotKept) ⊎ (e ≡ RoundFault.OutOfMemory)) }
 {
     let note = link.note(alloc)?;
-    let file = encode_kept(alloc, link.waiting(), &note, core)?;
-    keeper.keep(&file.bytes)?;
-    link.keep(alloc, file.check);
+    let text = encode_kept(alloc, link.waiting(), &note, core)?;
+    keeper.keep(&text.with_table(core.table()))?;
+    link.keep(alloc, text.check);
     Ok(())
 }
 

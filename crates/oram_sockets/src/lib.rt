@@ -15,5 +15,5 @@ mod watched;
 pub use connection::{Connection, UNIX, connect_to};
 pub use listener::{Listener, Peer, listen_at_path};
 pub use look::{Look, Seen};
-pub use marked::{MarkedReader, MarkedWriter, Marks};
+pub use marked::{Arrived, MarkedReader, MarkedWriter, Marks};
 pub use watched::{Attendant, Direction, Halves, Watched, watch};

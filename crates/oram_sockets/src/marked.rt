@@ -1,7 +1,7 @@
 //! Marks whether a connection is in the middle of a message: some of it was read, and its answer isn't flushed yet.
 
 use std::io;
-use std::io::{Read, Write};
+use std::io::{BufReader, Read, Write};
 
 /// Is notified when a message of a connection begins, and when its answer is sent.
 pub trait Marks {
@@ -12,8 +12,8 @@ pub trait Marks {
     fn answered(&self);
 }
 
-/// Reads messages, and marks that one has begun. It has no buffer itself, but reads from one, so nobody asks it for a
-/// byte of the next message before the answer to the last one is flushed.
+/// Reads messages, and marks that one has begun. It has no buffer itself, but reads from one. So nobody asks it for a byte that has
+/// yet to arrive before the answers to all whole messages that it gave are flushed.
 #[derive(Drop)]
 pub struct MarkedReader<'a, R, M> {
     reader: R,
@@ -23,6 +23,25 @@ pub struct MarkedReader<'a, R, M> {
 impl<'a, R: Drop, M> MarkedReader<'a, R, M> {
     pub fn new(reader: R, marks: &'a M) -> MarkedReader<'a, R, M> {
         MarkedReader { reader, marks }
+    }
+}
+
+/// A reader that shows which bytes it has received and not handed out yet. These only decide which messages are answered together.
+pub trait Arrived {
+    /// Returns bytes that were received and weren't read yet, in their order. There may be more than these.
+    fn arrived(&self) -> &[u8];
+}
+
+/// What a buffered reader has in its buffer.
+impl<R: Read> Arrived for BufReader<R> {
+    fn arrived(&self) -> &[u8] {
+        self.buffer()
+    }
+}
+
+impl<'a, R: Arrived, M> Arrived for MarkedReader<'a, R, M> {
+    fn arrived(&self) -> &[u8] {
+        self.reader.arrived()
     }
 }
 

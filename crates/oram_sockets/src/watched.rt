@@ -17,9 +17,6 @@ pub(crate) const CONNECTION: Token = Token(0);
 
 pub(crate) const LISTENER: Token = Token(1);
 
-/// The most bytes that a reader takes from its socket at once. 64 requests that write 4 KiB each fit into them.
-const READ_ROOM: usize = 1 << 19;
-
 /// What a connection waits for.
 #[derive(Clone, Copy, Debug, PartialEq, Eq)]
 pub enum Direction {
@@ -170,13 +167,14 @@ pub type Halves<'a, R, S, A> = (
     BufWriter<Watched<'a, R, S, A>>,
 );
 
-/// Returns both directions of a connection that came from this listener.
+/// Returns both directions of a connection that came from this listener. The reader takes up to `room` bytes from its socket at once.
 pub fn watch<'a, R: Net + Clock, S: Read + Write + OpenStream + AsRawFd + Drop, A: Attendant>(
     rt: &'a R,
     alloc: Global,
     stream: S,
     listener: RawFd,
     attendant: &'a A,
+    room: usize,
 ) -> io::Result<Halves<'a, R, S, A>> {
     stream.set_nodelay(true)?;
     stream.set_nonblocking(true)?;
@@ -184,7 +182,7 @@ pub fn watch<'a, R: Net + Clock, S: Read + Write + OpenStream + AsRawFd + Drop, 
     let reader = Watched::new(rt, alloc, stream, Direction::Reading, listener, attendant)?;
     let writer = Watched::new(rt, alloc, writer, Direction::Writing, listener, attendant)?;
     Ok((
-        BufReader::with_capacity(alloc, READ_ROOM, reader)?,
+        BufReader::with_capacity(alloc, room, reader)?,
         BufWriter::new(alloc, writer)?,
     ))
 }

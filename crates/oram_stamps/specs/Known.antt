@@ -8,7 +8,7 @@ use Rattle.oram_stamps.specs.declared.stamp.Stamp.{Stamp}
 
 -- The keepings whose messages may have reached the host, oldest first. Each stands for all of its batches: its number is the least one that
 -- a batch of it may have at the host. In this list stand the keeping that the host is known to have begun, and the one that it is known to
--- have done. `current` has the checksum of the last keeping, and the greatest number that a batch is known to have had.
+-- have done. `current` has the check of the last keeping, and the greatest number that a batch is known to have had.
 pub record Stamps : Type 0 where
   pub may : List Stamp
   pub begun : ℕ
@@ -27,7 +27,7 @@ settled stamp = record { may = stamp ∷ []; begun = 0; done = 0; current = stam
 abbrev pub next_number : ℕ → ℕ
 next_number number = min (number + 1) (2 ^ 64 - 1)
 
--- the second stamp is of a batch of the same keeping, and not of an earlier batch: it has the same checksum, and no smaller number
+-- the second stamp is of a batch of the same keeping, and not of an earlier batch: it has the same check, and no smaller number
 abbrev pub Covers : Stamp → Stamp → Type 0
 Covers first stamp = (stamp.check ≡ first.check) × (first.number ≤ stamp.number)
 
@@ -78,7 +78,7 @@ pub record IsTakenOver (k : Stamps) (shown : Shown) (k' : Stamps) : Type 0 where
   pub first : (b d : ℕ) → MayShow k shown b d → (begun ≤ b) × (done ≤ d)
   pub after : k' ≡ record k { begun = begun; done = done; current = seen k.current shown }
 
--- the process was kept in a file with this checksum
+-- the process was kept, and has this check
 abbrev pub kept : Stamps → ℕ → Stamps
 kept k check = record k { current = record { number = k.current.number; check = check } }
 

@@ -44,7 +44,7 @@ carried_out stamp = record { shown = record { begun = stamp; done = stamp }; sto
 
 -- what can happen
 pub data Event : Type 0 where
-  Keeps : ℕ → Event  -- the process is kept, in a file with this checksum
+  Keeps : ℕ → Event  -- the process is kept, and has this check
   Sends : Event  -- a batch of the last keeping is sent, perhaps again
   Arrives : Event  -- the next message arrives and is carried out
   Refuses : Event  -- the next message is the STOREs of a batch, and the host has no room for one of them
@@ -65,7 +65,7 @@ Happens w Answers x = (w.way ≡ []) × (w.host ≡ carried_out w.live.current) 
 Happens w Shows x = (live : Stamps) × (w.way ≡ []) × IsTakenOver w.live w.host.shown live × (x ≡ record w { live = live; connected = true })
 Happens w Restarts x = x ≡ record w { live = w.file; connected = false }
 
--- a disk that was formatted and kept in a file with this checksum
+-- a disk that was formatted and kept, with this check
 abbrev pub new_life : ℕ → Life
 new_life check =
     let first = restarted (settled first_stamp) check in
@@ -117,7 +117,7 @@ abbrev pub again_stamp : Stamp
 again_stamp = record { number = 3; check = 6 }
 
 -- After the refusal the host shows the same stamp at both places, although it has carried out no STORE. After the second time it may not show
--- this any more: the stamp of the second time has the same checksum and a greater number.
+-- this any more: the stamp of the second time has the same check and a greater number.
 abbrev pub RefusalExample : Type 0
 RefusalExample = (w : Life) × (x : Life) × (y : Life) × FoldsTo Happens (new_life 6) refused_events w × FoldsTo Happens w again_events x × Happens x Answers y
     × (w.host ≡ record { shown = (carried_out refused_stamp).shown; stored = first_stamp }) × (y.host ≡ carried_out again_stamp)

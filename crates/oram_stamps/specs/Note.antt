@@ -15,7 +15,7 @@ text_of number begun stamps = to_be_bytes w64 number ++ (to_be_bytes w64 begun +
 abbrev pub note_text : Stamps → List ℕ
 note_text k = text_of (next_number k.current.number) (k.begun - k.done) (drop k.done k.may)
 
--- what a process knows that is read from a file with this checksum: the host may have the stamp of that file too
+-- what a process knows that is read from a file, and has this check: the host may have the stamp of that keeping too
 abbrev pub known_from : ℕ → ℕ → List Stamp → ℕ → Stamps
 known_from number begun stamps check =
     let current : Stamp = record { number = number; check = check } in

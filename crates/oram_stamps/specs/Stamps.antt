@@ -7,16 +7,16 @@ use Rattle.oram_stamps.specs.declared.stamp.Place.TheVariants.{Begun, Done}
 use Rattle.oram_stamps.specs.declared.stamp.Shown.{Shown}
 use Rattle.oram_stamps.specs.declared.stamp.Stamp.{Stamp}
 
--- the number and the checksum fit into eight bytes each
+-- the number and the check fit into eight bytes each
 pub record AreNumbers (stamp : Stamp) : Type 0 where
   pub number : stamp.number < 2 ^ 64
   pub check : stamp.check < 2 ^ 64
 
--- a stamp's 16 bytes: the number of the keeping, and the masked checksum of the file that was kept
+-- a stamp's 16 bytes: the number of the keeping, and the masked check of the process that was kept
 unfoldable pub stamp_text : Stamp → List ℕ
 stamp_text stamp = to_be_bytes w64 stamp.number ++ to_be_bytes w64 stamp.check
 
--- A checksum, masked by the stamps' key: the number that stands at the front of a digest, which is made as a tag is, with another byte in
+-- A check, masked by the stamps' key: the number that stands at the front of a digest, which is made as a tag is, with another byte in
 -- the place's stead.
 unfoldable pub mask : List ℕ → ℕ → ℕ
 mask key check = from_be_bytes w64 (take 8 (sha256 (to_be_bytes w32 1 ++ key ++ (2 ∷ []) ++ to_be_bytes w64 check)))

@@ -30,7 +30,7 @@ pub struct Known {
     begun: usize,
     /// Where the keeping stands that the host is known to have done.
     done: usize,
-    /// The checksum of the last keeping, and the greatest number that a batch is known to have had.
+    /// The check of the last keeping, and the greatest number that a batch is known to have had.
     current: Stamp,
 }
 
@@ -90,7 +90,7 @@ impl Known {
         })
     }
 
-    /// Notes that the process was kept in a file with this checksum.
+    /// Notes that the process was kept, and has this check.
     pub fn keep(&mut self, check: u64)
         ensures { self.new ≡ kept self.old check }
     {

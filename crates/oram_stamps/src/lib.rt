@@ -1,7 +1,7 @@
 //! Stamps: how a client of a disk notices that its state, or its host's file, is older than the other one.
 //!
 //! Each batch of messages that a client sends after it has kept its state has a [`Stamp`]: a number, which is greater with each batch, and
-//! the checksum of the file that was kept, masked by a key of the disk. So a stamp names one batch of one keeping of one process. If two
+//! the check of the process that was kept, masked by a key of the disk. So a stamp names one batch of one keeping of one process. If two
 //! processes go on from copies of one state and keep theirs, their stamps differ, even where the numbers are equal.
 //!
 //! The host keeps two stamps of its disk, each with a tag that only the disk's client can make: the stamp of the batch that it began to

@@ -88,7 +88,7 @@ fn read_stamps(alloc: Global, bytes: &[u8]) -> Result<Vec<Stamp>, NoteFault>
     Ok(stamps)
 }
 
-/// Reads the note of a process that was kept in a file with this checksum, and returns what the process knows that starts from
+/// Reads the note of a process that was kept and has this check, and returns what the process knows that starts from
 /// that file.
 pub fn decode_note(alloc: Global, note: &[u8], check: u64) -> Result<Known, NoteFault>
     ensures ok { IfOk result (λ known. (number begun : ℕ) × (stamps : List Stamp) × (note.now ≡ text_of number begun stamps) × (known ≡ known_from number begun stamps check)) }

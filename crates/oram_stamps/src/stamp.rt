@@ -18,7 +18,7 @@ pub const RECORD_LEN: usize = 48;
 pub struct Stamp {
     /// Greater than that of each batch before.
     pub number: u64,
-    /// The checksum of the file that was kept, masked by [`masked`].
+    /// The check of the process that was kept, masked by [`masked`].
     pub check: u64,
 }
 
@@ -109,7 +109,7 @@ pub(crate) fn next_number(bytes: &[u8]) -> Option<(u64, &[u8])>
     Some((u64::from_be_bytes(*number), rest))
 }
 
-/// Masks the checksum of a kept file by the key of the disk's stamps. The host sees the masked one. By the checksum itself it could
+/// Masks the check of a kept process by the key of the disk's stamps. The host sees the masked one. By the check itself it could
 /// find out by trying what the file holds, and so which blocks were accessed.
 #[tactic(auto, unfolding(crate::specs::Stamps::mask))]
 pub fn masked(key: &StampKey, check: u64) -> u64

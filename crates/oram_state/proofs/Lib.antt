@@ -11,3 +11,4 @@ pub mod Counted
 pub mod Sized
 pub mod Rows
 pub mod Refusals
+pub mod FieldsInThree

@@ -11,7 +11,7 @@ use Rattle.oram_semantics.specs.declared.events.Reason.TheVariants.{Malformed, T
 use Rattle.oram_core.specs.Parts.{Parts}
 use Rattle.oram_state.specs.declared.fault.StateFault.TheVariants.{Magic, Length, Content}
 use Rattle.oram_state.specs.declared.mode.Mode.TheVariants.{Idle, Failed, Stalled}
-use Rattle.oram_state.specs.StateBytes.{half, short, long, body, device_text, command_text, fields_text, mode_of, reason_text, state_file}
+use Rattle.oram_state.specs.StateBytes.{half, short, long, after_text, before_text, body, device_text, command_text, fields_text, mode_of, reason_text, state_file, table_text, with_table}
 use Rattle.oram_state.specs.WellSized.{held_len, table_len, tree_count}
 use Rattle.oram_state.specs.Parser.{fields_in, next_device, next_number, reason_in}
 
@@ -140,6 +140,23 @@ failed_text : body 1 (fields_text 0 failed) ≡ 0x50 ∷ 0x41 ∷ 0x54 ∷ 0x48 
     ∷ 0 ∷ 0 ∷ 0 ∷ 0 ∷ 0 ∷ 0 ∷ 0 ∷ 1 ∷ 0 ∷ 0 ∷ 0 ∷ 0 ∷ 0 ∷ 0 ∷ 0 ∷ 0xf ∷ 3 ∷ 0 ∷ 0 ∷ 6 ∷ []
 unfolding half short long
 failed_text = refl
+
+-- the fields around a table: 45 bytes before it, or 49 of a core that failed
+before_len_row : length (before_text 0 idle) ≡ 45
+unfolding half short long
+before_len_row = refl
+
+failed_len_row : length (before_text 0 failed) ≡ 49
+unfolding half short long
+failed_len_row = refl
+
+entry_row : table_text (0x01020304 ∷ 5 ∷ []) ≡ 1 ∷ 2 ∷ 3 ∷ 4 ∷ 0 ∷ 0 ∷ 0 ∷ 5 ∷ []
+unfolding short
+entry_row = refl
+
+around_row : with_table (before_text 0 idle) (replicate 8 0) (after_text idle) ≡ fields_text 0 idle
+unfolding half short long
+around_row = refl
 
 write_row : command_text (Write 2 (0xff ∷ 0xfe ∷ [])) ≡ 0x12 ∷ 0 ∷ 0 ∷ 0 ∷ 2 ∷ 0xff ∷ 0xfe ∷ []
 unfolding short

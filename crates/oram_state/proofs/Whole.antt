@@ -75,7 +75,7 @@ fields_of : (version : ℕ) (h : Head) (failure : Option Reason) (table : List �
     → (let s = saved_of h failure table trees w in Took text (fields_text s.overhead s.parts) rest × MayTell version s)
 fields_of version h failure table trees w head f work len entries count sized p q r s t =
     let mode = mode_made h.device h.mode failure w f work in (
-      rw mode (took_both p (took_both (took_both (took_both q r) s) t)),
+      rw mode (took_both p (took_both (took_both q r) (took_both s t))),
       (
         rw mode head.mode,
         head.overhead,
@@ -136,7 +136,7 @@ saved_again version s rest may =
     (goes _ _ _ _ (work_in_again p.device mode w rest h.device (work_is p.device p.failure p.waiting w p.stalled refl h.work))
     (ap (λ (b : Bool). Ok (record { overhead = s.overhead; parts = record p { stalled = b } }, rest)) stalled)))))
   where
-    regroup : (a b c e : List ℕ) → (((a ++ b) ++ c) ++ e) ++ rest ≡ a ++ (b ++ (c ++ (e ++ rest)))
+    regroup : (a b c e : List ℕ) → ((a ++ b) ++ (c ++ e)) ++ rest ≡ a ++ (b ++ (c ++ (e ++ rest)))
     regroup a b c e = simp append_assoc
 
 -- ---- all of a text

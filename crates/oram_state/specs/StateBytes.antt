@@ -105,12 +105,28 @@ mode_number Stalled = 3
 abbrev pub head_text : ℕ → Parts → List ℕ
 head_text overhead p = device_text p.device ++ short overhead ++ mode_number (mode_of p) ∷ (long p.tickets ++ long p.nonce)
 
+-- the entries of a table
+abbrev pub table_text : List ℕ → List ℕ
+table_text table = flat_map short table
+
+-- one text, then a table, and then another text
+abbrev pub with_table : List ℕ → List ℕ → List ℕ → List ℕ
+with_table before table after = before ++ (table_text table ++ after)
+
+-- the trees and the work, which stand after the table
+abbrev pub after_text : Parts → List ℕ
+after_text p = flat_map tree_text p.trees ++ work_text (work_of p)
+
 -- why the core failed; or its table, its trees and its work
 abbrev pub rest_text : Parts → List ℕ
-rest_text p = failure_text p.failure ++ flat_map short p.table ++ flat_map tree_text p.trees ++ work_text (work_of p)
+rest_text p = failure_text p.failure ++ table_text p.table ++ after_text p
 
 abbrev pub fields_text : ℕ → Parts → List ℕ
 fields_text overhead p = head_text overhead p ++ rest_text p
+
+-- the fields before the table
+abbrev pub before_text : ℕ → Parts → List ℕ
+before_text overhead p = head_text overhead p ++ failure_text p.failure
 
 -- the eight letters, the version, the length of the whole file, and the fields
 abbrev pub body : ℕ → List ℕ → List ℕ

@@ -34,8 +34,9 @@ pub fn decode_state<S: Sealer>(alloc: Global, sealer: S, file: &[u8]) -> Result<
     Ok(Core::from_parts(alloc, sealer, parts)?)
 }
 
-/// Makes the core whose fields these are, as [`encode_fields`](crate::encode_fields) returns them, under the sealer that it
-/// was saved with. A device may have any leaf load.
+/// Makes the core whose fields these are, with the table between those that
+/// [`encode_around_table`](crate::encode_around_table) returns, under the sealer that it was saved with. A device may have any
+/// leaf load.
 ///
 /// Fails with `Content` if the fields have another overhead than the sealer, or parts that can't be a core's, and with
 /// `OutOfMemory` if memory runs out.

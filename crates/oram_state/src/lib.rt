@@ -2,17 +2,19 @@
 //!
 //! A file begins with eight letters, a version and its own length, and ends with the SHA-256 digest (FIPS 180-4) of all
 //! bytes before the digest. All numbers are big-endian. The fields between the length and the digest can also be written and
-//! read alone, for a file that has a checksum of its own.
+//! read alone, for a file that has a checksum of its own; they are written without the core's table, which may be large.
 #![tactic(auto)]
 
 ghost use Rattle.std.specs.Prelude.{◌≡◌, ◌↔◌, ◌<◌, ◌^◌, ℕ, List, All, Ok, length};
 ghost use Rattle.oram_geometry.specs.declared.Sizes.{Sizes};
 ghost use Rattle.oram_semantics.specs.State.{State};
 ghost use Rattle.oram_core.specs.Parts.{Parts};
+ghost use Rattle.oram_state.specs.AroundTable.{FieldsAreAroundTable};
 ghost use Rattle.oram_state.specs.DecodedCore.{AreSavedFields, IsSaved};
 ghost use Rattle.oram_state.specs.Parser.{state_in};
 ghost use Rattle.oram_state.specs.WellSized.{IsFileOf};
 
+mod around_table;
 mod decoder;
 mod encoder;
 mod fault;
@@ -25,8 +27,9 @@ mod saved;
 mod work;
 mod writer;
 
+pub use around_table::{AroundTable, encode_around_table, split_around_table};
 pub use decoder::{decode_fields, decode_state};
-pub use encoder::{encode_fields, encode_state};
+pub use encoder::encode_state;
 pub use fault::StateFault;
 
 /// A law: reading a text of bytes gives a core's parts and a sealer's overhead exactly if the text is their file, in one
@@ -47,4 +50,9 @@ pub fn files_tell_of_one_core()
 pub fn fields_tell_of_one_core()
     ensures { (text : List ℕ) (overhead : ℕ) (d d' : Sizes) (s s' : State) → AreSavedFields text overhead d s
         → AreSavedFields text overhead d' s' → (d ≡ d') × (s ≡ s') }
+{}
+
+/// A law: the fields of a core are those before its table, the table, and those after it.
+pub fn fields_are_around_table()
+    ensures { FieldsAreAroundTable }
 {}

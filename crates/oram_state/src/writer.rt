@@ -3,7 +3,7 @@
 ghost use Rattle.std.specs.Prelude.{◌≡◌, ◌≤◌, ◌<◌, ◌^◌, ◌++◌, length, take, drop, All, IfOk, OnOk};
 ghost use Rattle.std.specs.List.{flat_map};
 ghost use Rattle.oram_state.specs.declared.frame.TheConstants.{LENGTH_END};
-ghost use Rattle.oram_state.specs.StateBytes.{block_text, body, command_text, device_text, fields_text, half, head_text, long, pending_text, reason_text, rest_text, short, state_file, tree_text, work_fields, work_of};
+ghost use Rattle.oram_state.specs.StateBytes.{after_text, before_text, block_text, body, command_text, device_text, failure_text, fields_text, half, head_text, long, pending_text, reason_text, rest_text, short, state_file, tree_text, work_fields, work_of};
 ghost use Rattle.oram_state.specs.WellSized.{CommandFits, FitsFields, HasCounts, IsLong};
 
 use crate::frame::{FRAME_LEN, LENGTH_END, MAGIC, VERSION_END};
@@ -21,7 +21,10 @@ use std::alloc::{AllocError, Global};
 pub(crate) const VERSION: u32 = 2;
 
 /// The number of bytes of the fields that don't depend on the mode: a device, an overhead, a mode, tickets and a nonce.
-const HEAD_LEN: usize = 24 + 4 + 1 + 8 + 8;
+pub(crate) const HEAD_LEN: usize = 24 + 4 + 1 + 8 + 8;
+
+/// The number of bytes that say why a core failed.
+pub(crate) const REASON_LEN: usize = 4;
 
 /// Returns the file of a core with these parts, whose sealer has this overhead. Allocates once.
 pub(crate) fn write_state(
@@ -39,19 +42,30 @@ pub(crate) fn write_state(
     Ok(file)
 }
 
-/// Returns the fields of a core with these parts, whose sealer has this overhead. Allocates once.
-pub(crate) fn write_fields(
+/// Returns the fields before the table of a core with these parts, whose sealer has this overhead. Allocates once.
+pub(crate) fn write_before_table(
     alloc: Global,
     overhead: u32,
     parts: &Parts,
 ) -> Result<Vec<u8>, AllocError>
-    requires { HasCounts parts.now }
-    ensures spelled { IfOk result (λ fields. fields.items ≡ fields_text overhead parts.now) }
-    ensures fit { IfOk result (λ fields. FitsFields parts.now) }
+    ensures spelled { IfOk result (λ fields. fields.items ≡ before_text overhead parts.now) }
+    ensures fit { IfOk result (λ fields. IsLong parts.now.nonce) }
 {
-    let mut fields = Vec::with_capacity(alloc, room(parts))?;
+    let mut fields = Vec::with_capacity(alloc, HEAD_LEN + REASON_LEN)?;
     push_head(&mut fields, overhead, parts)?;
-    push_rest(&mut fields, parts)?;
+    push_failure(&mut fields, parts.failure)?;
+    Ok(fields)
+}
+
+/// Returns the fields after the table of a core with these parts. Allocates once.
+pub(crate) fn write_after_table(alloc: Global, parts: &Parts) -> Result<Vec<u8>, AllocError>
+    requires { HasCounts parts.now }
+    ensures spelled { IfOk result (λ fields. fields.items ≡ after_text parts.now) }
+    ensures roots { IfOk result (λ fields. All (λ t. length t.root ≡ 32) parts.now.trees) }
+    ensures waiting { IfOk result (λ fields. All CommandFits parts.now.waiting) }
+{
+    let mut fields = Vec::with_capacity(alloc, room_after_table(parts))?;
+    push_after_table(&mut fields, parts)?;
     Ok(fields)
 }
 
@@ -82,8 +96,15 @@ fn set_length(file: &mut [u8], len: u64)
 
 /// Returns a number of bytes that is enough for the file of these parts.
 fn room(parts: &Parts) -> usize {
+    (FRAME_LEN + HEAD_LEN + REASON_LEN)
+        .saturating_add(parts.table.len().saturating_mul(4))
+        .saturating_add(room_after_table(parts))
+}
+
+/// Returns a number of bytes that is enough for the fields of these parts after the table.
+fn room_after_table(parts: &Parts) -> usize {
     let block_bytes = parts.device.block_bytes();
-    let mut room = (FRAME_LEN + HEAD_LEN + 4).saturating_add(parts.table.len().saturating_mul(4));
+    let mut room = 0usize;
     for tree in &parts.trees {
         let blocks = tree.stash.len().saturating_mul(8 + block_bytes);
         room = room.saturating_add(DIGEST_LEN + 4).saturating_add(blocks);
@@ -147,10 +168,26 @@ fn push_rest(out: &mut Vec<u8>, parts: &Parts) -> Result<(), AllocError>
     ensures roots { OnOk result (All (λ t. length t.root ≡ 32) parts.now.trees) }
     ensures waiting { OnOk result (All CommandFits parts.now.waiting) }
 {
-    if let Some(why) = parts.failure {
-        push_reason(out, why)?;
-    }
+    push_failure(out, parts.failure)?;
     push_shorts(out, &parts.table)?;
+    push_after_table(out, parts)
+}
+
+fn push_failure(out: &mut Vec<u8>, failure: Option<Reason>) -> Result<(), AllocError>
+    ensures { OnOk result (out.new.items ≡ out.old.items ++ failure_text failure) }
+{
+    match failure {
+        Some(why) => push_reason(out, why),
+        None => Ok(()),
+    }
+}
+
+fn push_after_table(out: &mut Vec<u8>, parts: &Parts) -> Result<(), AllocError>
+    requires { HasCounts parts.now }
+    ensures spelled { OnOk result (out.new.items ≡ out.old.items ++ after_text parts.now) }
+    ensures roots { OnOk result (All (λ t. length t.root ≡ 32) parts.now.trees) }
+    ensures waiting { OnOk result (All CommandFits parts.now.waiting) }
+{
     push_trees(out, &parts.trees)?;
     if !parts.waiting.is_empty() {
         push_work(out, parts)?;

@@ -70,11 +70,3 @@ marks_fit (cell ∷ cells) all =
 
 pub one_fits : (p : Patch) → p.0 + length p.1 ≤ 2 ^ 62 → length p.1 ≤ 2 ^ 21 → All (Fits bounds) (p ∷ [])
 one_fits p within short = all_cons (Fits bounds) p [] (record { within = within; place_fits = omega arith; length_fits = omega arith }) (λ k d h. absurd (omega arith))
-
--- a path has room in an empty log
-pub path_short : (tree : Tree) (leaf : ℕ) (bytes : List ℕ) → length bytes ≡ (tree.shape.depth + 1) * tree.shape.record_len
-    → bounds.log_start + length (entries (path_patches tree leaf bytes 0 (tree.shape.depth + 1))) < bounds.log_end
-path_short tree leaf bytes whole =
-    let long = length-path tree leaf bytes whole (tree.shape.depth + 1) 0 (omega arith) in
-    let spread : (tree.shape.depth + 1) * (tree.shape.record_len + 22) ≡ (tree.shape.depth + 1) * tree.shape.record_len + (tree.shape.depth + 1) * 22 = omega arith in
-    omega (arith, long, spread, tree.shape.fits, tree.shape.deep)

@@ -1,5 +1,6 @@
 pub mod Recovery
 pub mod Lives
+mod NewFiles
 pub mod Close
 pub mod Crashes
 pub mod Outcomes
@@ -9,8 +10,11 @@ pub mod Identity
 mod Levels
 mod CellReads
 pub mod BatchBytes
+pub mod GroupBytes
 pub mod CommittedPuts
+pub mod ServedBy
 pub mod Served
+pub mod Together
 pub mod AddedRecords
 pub mod Puts
 pub mod AddedTrees

@@ -1,7 +1,6 @@
 -- Requests that are served: after the pending PUTs are committed, and by each kind of call.
-use Rattle.std.proofs.Common.{◌≡◌, ◌⊎◌, inl, inr, ⊎_elim, ℕ, ◌≤◌, true, true≢false, List, [], Option, Some, None, refl, sym, ◌∙◌, ap, subst, Result, Ok, Err, arith}
-use Rattle.std.specs.Prelude.{All, IfOk, IsErr, MatchOption, MatchResult, OnErr}
-use Rattle.std.proofs.lemmas.Bool.{cases_Bool}
+use Rattle.std.proofs.Common.{◌≡◌, ◌⊎◌, inl, ℕ, ◌≤◌, true, List, [], Option, Some, None, refl, sym, ◌∙◌, ap, subst, Result, Ok, Err, arith}
+use Rattle.std.specs.Prelude.{All, IfOk, IsErr, MatchOption, MatchResult}
 use Rattle.oram_layout.specs.BucketFile.{IsBucketFile}
 use Rattle.oram_layout.specs.Changes.{IsCell, marks}
 use Rattle.oram_layout.specs.Limits.{TreeShape}
@@ -10,24 +9,25 @@ use Rattle.oram_host.specs.Refusals.{code_of}
 use Rattle.oram_host.specs.declared.refusals.HostRefusal.{HostRefusal}
 use Rattle.oram_host.specs.declared.refusals.HostRefusal.TheVariants.{OutOfMemory}
 use Rattle.oram_layout.specs.Records.{AreKept, IsPathOf, LacksOn, Records as RecordsOf, record_in, records_in}
-use Rattle.oram_layout.specs.Trees.{Trees, shape_at, sizes_of, tree_at}
+use Rattle.oram_layout.specs.Trees.{Trees, sizes_of, tree_at}
 use Rattle.oram_layout.specs.declared.trees.Tree.{Tree}
 use Rattle.oram_redo.specs.Content.{Content}
-use Rattle.oram_redo.specs.FilePair.{Contents, FileModel, LeavesOnly}
+use Rattle.oram_redo.specs.FilePair.{Contents, FileModel}
 use Rattle.oram_redo.specs.Log.{put_all}
 use Rattle.oram_redo.specs.declared.file_pair.FileKind.TheVariants.{Records}
 use Rattle.oram_store.specs.Answers.{Answers, answer_by}
-use Rattle.oram_store.specs.Crashes.{IsCarriedOut, MayBeFound, MayHold, Serves, ServesWhole, CommitsPuts}
-use Rattle.oram_store.specs.KeptRecords.{Changes, Holds, IsSound, IsSoundFile, LeavesRecords, StoreValue, Stores, content_of, records_of, sure_records}
+use Rattle.oram_store.specs.Crashes.{IsCarriedOut, MayBeFound, MayHold, Serves, CommitsPuts}
+use Rattle.oram_store.specs.KeptRecords.{Changes, Holds, IsSound, IsSoundFile, LeavesRecords, StoreValue, content_of, records_of, sure_records}
 use Rattle.oram_store.specs.Batches.{records_of_tree}
-use Rattle.oram_store.specs.RecordFile.{FileValue, Finds, OnlyIf, ReadsOnly}
+use Rattle.oram_store.specs.RecordFile.{OnlyIf, ReadsOnly}
 use Rattle.oram_store.specs.declared.faults.StoreFault.{StoreFault}
 use Rattle.oram_wire.specs.declared.host_messages.HostAnswer.{HostAnswer}
 use Rattle.oram_wire.specs.declared.host_messages.HostAnswer.TheVariants as answer
 use Rattle.oram_wire.specs.declared.host_messages.HostRequest.{HostRequest}
 use Rattle.oram_wire.specs.declared.host_messages.HostRequest.TheVariants as request
-use Rattle.oram_store.proofs.Crashes.{found_leads, found_then, same_front}
+use Rattle.oram_store.proofs.Crashes.{found_leads}
 use Rattle.oram_store.proofs.CommittedPuts.{commits_puts_none}
+use Rattle.oram_store.proofs.ServedBy.{ServesBy, by_after, by_change, by_committed, by_failure, by_no_change}
 use Rattle.oram_store.proofs.Sound.{holds_then, puts_keep, reads_leave, stores_keep}
 
 path_keep : (one two : RecordsOf) (tree : ℕ) (s : TreeShape) (leaf : ℕ) (bytes : List ℕ) → AreKept one two → IsPathOf two tree s leaf bytes → IsPathOf one tree s leaf bytes
@@ -36,11 +36,11 @@ path_keep one two tree s leaf bytes same path = record { whole = path.whole; eac
 lacks_keep : (one two : RecordsOf) (tree : ℕ) (s : TreeShape) (leaf : ℕ) → AreKept one two → LacksOn two tree s leaf → LacksOn one tree s leaf
 lacks_keep one two tree s leaf same lacks = (lacks.0, lacks.1, sym (same tree _) ∙ lacks.2)
 
-kept_then : (one two three : RecordsOf) → AreKept one two → AreKept two three → AreKept one three
+pub kept_then : (one two three : RecordsOf) → AreKept one two → AreKept two three → AreKept one three
 kept_then one two three first second tree node = second tree node ∙ first tree node
 
 -- an answer stays right if the records before it are the same
-answers_keep : (trees : Trees) (one two three : RecordsOf) (message : HostRequest) (given : HostAnswer) → AreKept one two → Answers trees two message given three → Answers trees one message given three
+pub answers_keep : (trees : Trees) (one two three : RecordsOf) (message : HostRequest) (given : HostAnswer) → AreKept one two → Answers trees two message given three → Answers trees one message given three
 answers_keep trees one two three (request.Fetch tree leaf) (answer.Payload bytes) same said = (said.0, said.1, path_keep one two tree said.0 leaf bytes same said.2, kept_then one two three same said.3)
 answers_keep trees one two three (request.Fetch tree leaf) answer.Done same said = said
 answers_keep trees one two three (request.Fetch tree leaf) (answer.Refused code) same said = (λ missing. let lacks = said.0 missing in (lacks.0, lacks.1, lacks_keep one two tree lacks.0 leaf same lacks.2), kept_then one two three same said.1)
@@ -68,99 +68,53 @@ refused_kept trees old new (request.Put tree node bytes) code unlike kept = kept
 refused_kept trees old new (request.Shape tree depth record_len) code unlike kept = kept
 
 module _ {F : Type 0} (model : FileModel F) where
+  -- a request that is served, as what is served in general
+  abbrev pub ServesRequest : HostRequest → HostAnswer → StoreValue F → StoreValue F → Type 0
+  ServesRequest message given = ServesBy model (λ trees one two. Answers trees one message given two) (λ trees one c. IsCarriedOut trees one message c) (MayBeFound given)
+
+  request_served : (message : HostRequest) (given : HostAnswer) (old new : StoreValue F) → ServesRequest message given old new → Serves model message given old new
+  request_served message given old new serves = record { sound = serves.sound; records = serves.records; any_moment = serves.any_moment }
+
+  as_request : (message : HostRequest) (given : HostAnswer) (old new : StoreValue F) → Serves model message given old new → ServesRequest message given old new
+  as_request message given old new serves = record { sound = serves.sound; records = serves.records; any_moment = serves.any_moment }
+
   -- PUTs were committed, or should have been, and then the request was refused
   pub serves_committed : (message : HostRequest) (code : ℕ) (old new : StoreValue F) → (code ≡ 6 → ⊥) → CommitsPuts model old new
       → Serves model message (answer.Refused code) old new
-  serves_committed message code old new unlike commits_puts = record {
-    sound = commits_puts.sound;
-    records = λ running. refused_kept old.trees (records_of model old) (records_of model new) message code unlike (commits_puts.records running);
-    any_moment = found_leads model old.file.files new.file.files (MayHold old.trees (sure_records model old) (records_of model old))
-        (λ c. MayHold old.trees (sure_records model old) (records_of model old) c ⊎ OnlyIf (new.file.has_stopped ≡ true) (IsCarriedOut old.trees (records_of model old) message c)) commits_puts.any_moment (λ r holds. inl holds);
-  }
+  serves_committed message code old new unlike commits_puts =
+      request_served message (answer.Refused code) old new (by_committed model (λ trees one two. Answers trees one message (answer.Refused code) two) (λ trees one c. IsCarriedOut trees one message c) (MayBeFound (answer.Refused code)) old new
+      (λ one two kept. refused_kept old.trees one two message code unlike kept) commits_puts)
 
   -- a request that is served after the pending PUTs are committed
   pub serves_after : (message : HostRequest) (given : HostAnswer) (old mid new : StoreValue F) → CommitsPuts model old mid → mid.pending ≡ [] → mid.trees ≡ old.trees
       → (IsSound model mid → Serves model message given mid new) → (mid.file.has_stopped ≡ true → new.file ≡ mid.file)
       → ((t : ℕ) (c : Contents) → t ≤ model.moment mid.file.files → model.may_leave mid.file.files c → model.left_since mid.file.files t c) → model.may_leave mid.file.files (model.seen mid.file.files)
       → Serves model message given old new
-  serves_after message given old mid new first none same then stays counts_now whole = elim (cases_Bool mid.file.has_stopped) [
-    | inl stopped ↦ (
-        let still : new.file.has_stopped ≡ true = ap (λ (v : FileValue F). v.has_stopped) (stays stopped) ∙ stopped in
-        record {
-          sound = λ running. absurd (true≢false (sym still ∙ running));
-          records = λ running. absurd (true≢false (sym still ∙ running));
-          any_moment = subst (λ (v : FileValue F). LeavesOnly model old.file.files v.files (Finds (model.seen old.file.files) Ends)) (sym (stays stopped)) began;
-        })
-    | inr running ↦ (
-        let now = then (first.sound running) in
-        let kept = first.records running in
-        let sure : AreKept (records_of model old) (sure_records model mid) = λ tree node. ap (λ (l : List ℕ). records_in mid.trees (put_all (marks l) (model.seen mid.file.files Records)) tree node) (sym none) ∙ kept tree node in
-        record {
-          sound = now.sound;
-          records = λ still. subst (λ (t : Trees). Answers t (records_of model old) message given (records_of model new)) same (answers_keep mid.trees (records_of model old) (records_of model mid) (records_of model new) message given kept (now.records still));
-          any_moment = found_then model old.file.files mid.file.files new.file.files Ends
-              (λ c. MayHold mid.trees (sure_records model mid) (records_of model mid) c ⊎ OnlyIf (MayBeFound given new.file.has_stopped) (IsCarriedOut mid.trees (records_of model mid) message c)) Ends
-              (same_front model old.file.files mid.file.files Ends began counts_now whole) began now.any_moment (λ r ends. ends)
-              (λ r either. subst (λ (t : Trees). MayHold t (sure_records model old) (records_of model old) r ⊎ OnlyIf (MayBeFound given new.file.has_stopped) (IsCarriedOut t (records_of model old) message r)) same (⊎_elim
-              (λ may. inl (inr (⊎_elim (λ holds. holds_then mid.trees (records_of model old) (sure_records model mid) r sure holds) (λ holds. holds_then mid.trees (records_of model old) (records_of model mid) r kept holds) may)))
-              (λ out. inr (record { allowed = out.allowed; holds = carried_keep mid.trees (records_of model old) (records_of model mid) message r kept out.holds })) either));
-        })
-  ]
-    where
-      Ends : Content → Type 0
-      Ends c = MayHold old.trees (sure_records model old) (records_of model old) c ⊎ OnlyIf (MayBeFound given new.file.has_stopped) (IsCarriedOut old.trees (records_of model old) message c)
-
-      began : LeavesOnly model old.file.files mid.file.files (Finds (model.seen old.file.files) Ends)
-      began = found_leads model old.file.files mid.file.files (MayHold old.trees (sure_records model old) (records_of model old)) Ends first.any_moment (λ r holds. inl holds)
+  serves_after message given old mid new first none same then stays counts_now whole =
+      request_served message given old new (by_after model (λ trees one two. Answers trees one message given two) (λ trees one c. IsCarriedOut trees one message c) (MayBeFound given) old mid new
+      (λ trees one two three kept said. answers_keep trees one two three message given kept said) (λ trees one two c kept out. carried_keep trees one two message c kept out)
+      first none same (λ sound. as_request message given mid new (then sound)) stays counts_now whole)
 
   -- the reason why there is no room doesn't matter for what is served
   pub serves_failure : (message : HostRequest) (given : HostAnswer) (old new : StoreValue F) (failure : Option StoreFault) → Serves model message given old new
       → Serves model message given old (record { file = new.file; trees = new.trees; pending = new.pending; failure = failure })
-  serves_failure message given old new failure serves = record {
-    sound = λ running. let sound = serves.sound running in record { file = sound.file; cells = sound.cells };
-    records = serves.records;
-    any_moment = serves.any_moment;
-  }
+  serves_failure message given old new failure serves =
+      let new' : StoreValue F = record { file = new.file; trees = new.trees; pending = new.pending; failure = failure } in
+      request_served message given old new' (by_failure model (λ trees one two. Answers trees one message given two) (λ trees one c. IsCarriedOut trees one message c) (MayBeFound given) old new failure (as_request message given old new serves))
 
   -- records that are changed, where nothing is pending
   module _ (message : HostRequest) (change : RecordsOf → RecordsOf → Type 0) (old new : StoreValue F) (none : old.pending ≡ []) (same : new.trees ≡ old.trees) (still : new.pending ≡ [])
       (granted : (one two : RecordsOf) → change one two → Answers old.trees one message answer.Done two)
       (carried : (c : Content) → IsBucketFile old.trees c → change (records_of model old) (records_in old.trees c) → IsCarriedOut old.trees (records_of model old) message c) where
-    before : sure_records model old ≡ records_of model old
-    before = ap (λ (l : List ℕ). λ tree node. records_in old.trees (put_all (marks l) (model.seen old.file.files Records)) tree node) (sym none)
-
-    after : records_in old.trees (model.seen new.file.files Records) ≡ records_of model new
-    after = ap (λ (l : List ℕ). λ tree node. records_in old.trees (put_all (marks l) (model.seen new.file.files Records)) tree node) (sym still) ∙ ap (λ (t : Trees). λ tree node. records_in t (content_of model new) tree node) (sym same)
-
-    sound : IsSoundFile model old.trees new.file → IsSound model new
-    sound file = record {
-      file = subst (λ (t : Trees). IsSoundFile model t new.file) (sym same) file;
-      cells = subst (λ (l : List ℕ). All (IsCell new.trees) l) (sym still) (λ k d h. absurd (omega arith));
-    }
-
-    whole : (r : Result Unit StoreFault) (given : HostAnswer) → (OnErr r (new.file.has_stopped ≡ true) → MayBeFound given new.file.has_stopped)
-        → Changes model old.trees change r old.file new.file → ServesWhole model message given old new
-    whole r given allows changes = found_leads model old.file.files new.file.files
-        (λ c. Holds old.trees (sure_records model old) c ⊎ OnlyIf (OnErr r (new.file.has_stopped ≡ true)) (IsBucketFile old.trees c × change (sure_records model old) (records_in old.trees c)))
-        (λ c. MayHold old.trees (sure_records model old) (records_of model old) c ⊎ OnlyIf (MayBeFound given new.file.has_stopped) (IsCarriedOut old.trees (records_of model old) message c)) changes.moments
-        (λ c either. ⊎_elim (λ holds. inl (inl holds))
-        (λ made. inr (record { allowed = allows made.allowed; holds = carried c made.holds.0 (subst (λ (r : RecordsOf). change r (records_in old.trees c)) before made.holds.1) })) either)
-
     pub serves_change : (x : Unit {0}) → Changes model old.trees change (Ok x) old.file new.file → Serves model message answer.Done old new
-    serves_change x changes = record {
-      sound = λ running. sound (changes.sound running);
-      records = λ running. granted (records_of model old) (records_of model new)
-          (subst (λ (r : RecordsOf). change r (records_of model new)) before (subst (λ (r : RecordsOf). change (sure_records model old) r) after (changes.done running)));
-      any_moment = whole (Ok x) answer.Done (λ done. tt) changes;
-    }
+    serves_change x changes =
+        request_served message answer.Done old new (by_change model (λ trees one two. Answers trees one message answer.Done two) (λ trees one c. IsCarriedOut trees one message c) (MayBeFound answer.Done) change old new none same still carried
+        x tt granted changes)
 
     pub serves_no_change : (e : StoreFault) → Changes model old.trees change (Err e) old.file new.file → Serves model message (answer.Refused 8) old new
-    serves_no_change e changes = record {
-      sound = λ running. sound (changes.sound running);
-      records = λ running. refused_kept old.trees (records_of model old) (records_of model new) message 8 (λ six. absurd (omega arith))
-          (subst (λ (r : RecordsOf). AreKept r (records_of model new)) before (subst (λ (r : RecordsOf). AreKept (sure_records model old) r) after (changes.undone running)));
-      any_moment = whole (Err e) (answer.Refused 8) (λ stopped. stopped) changes;
-    }
+    serves_no_change e changes =
+        request_served message (answer.Refused 8) old new (by_no_change model (λ trees one two. Answers trees one message (answer.Refused 8) two) (λ trees one c. IsCarriedOut trees one message c) (MayBeFound (answer.Refused 8)) change old new none same still carried
+        e (λ stopped. stopped) (λ one two kept. refused_kept old.trees one two message 8 (λ six. absurd (omega arith)) kept) changes)
 
   -- records that are read, where nothing is pending
   module _ (message : HostRequest) (old new : StoreValue F) (none : old.pending ≡ []) (same : new.trees ≡ old.trees) (still : new.pending ≡ [])
@@ -207,15 +161,6 @@ module _ {F : Type 0} (model : FileModel F) where
   serves_made message change old mid new (Err e) commits_puts none same trees_same still granted carried makes stays counts_now whole =
       serves_after message (answer.Refused 8) old mid new commits_puts none same
       (λ sound. serves_no_change message change mid new none trees_same (still ∙ none) granted carried e (makes sound)) stays counts_now whole
-
-  pub serves_stored : (number leaf : ℕ) (records : List ℕ) (s : TreeShape) (old mid new : StoreValue F) (result : Result Unit StoreFault)
-      → CommitsPuts model old mid → mid.pending ≡ [] → mid.trees ≡ old.trees → new.trees ≡ mid.trees → new.pending ≡ mid.pending → shape_at mid.trees number ≡ Some s
-      → (IsSound model mid → Changes model mid.trees (Stores number s leaf records) result mid.file new.file) → (mid.file.has_stopped ≡ true → new.file ≡ mid.file)
-      → ((t : ℕ) (c : Contents) → t ≤ model.moment mid.file.files → model.may_leave mid.file.files c → model.left_since mid.file.files t c) → model.may_leave mid.file.files (model.seen mid.file.files)
-      → Serves model (request.Store number leaf records) (answer_by result) old new
-  serves_stored number leaf records s old mid new result commits_puts none same trees_same still shaped makes stays counts_now whole =
-      serves_made (request.Store number leaf records) (Stores number s leaf records) old mid new result commits_puts none same trees_same still
-      (λ one two stores. (s, shaped, stores)) (λ c file stores. (file, s, shaped, stores)) makes stays counts_now whole
 
   -- a path that is fetched after the pending PUTs are committed
   pub serves_fetched : (message : HostRequest) (given : HostAnswer) (old mid new : StoreValue F)

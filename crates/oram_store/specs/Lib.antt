@@ -1,6 +1,7 @@
 pub mod OpenOutcomes
 pub mod Close
 pub mod Laws
+pub mod NewFiles
 pub mod Faults
 pub mod Reasons
 pub mod RecordFile
@@ -10,7 +11,9 @@ pub mod Answers
 pub mod PendingCells
 pub mod KeptRecords
 pub mod Crashes
+pub mod Groups
 pub mod AnswerBytes
 pub mod Matching
 pub mod Rows
 pub mod RecordsAnswers
+pub mod FirstAnswers

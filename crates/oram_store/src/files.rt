@@ -2,7 +2,7 @@
 //!
 //! This looks at what is at a path before it writes anything there.
 ghost use Rattle.std.specs.Path.{path_parent};
-ghost use Rattle.std.specs.Prelude.{◌≡◌, ◌≢◌, ◌⊎◌, ◌↔◌, ◌++◌, ◌∷◌, [], ℕ, List, true, false, take, codes, string_bytes, Err, None, Ok, Some, IfErr, IfOk, IsOk, IsTrue};
+ghost use Rattle.std.specs.Prelude.{◌≡◌, ◌≢◌, ◌⊎◌, ◌↔◌, ◌≤◌, ◌++◌, ◌∷◌, [], ℕ, List, length, true, false, take, codes, string_bytes, Err, None, Ok, Some, IfErr, IfOk, IsErrOf, IsOk, IsTrue};
 ghost use Rattle.oram_layout.specs.BucketFile.{IsBucketFile};
 ghost use Rattle.oram_layout.specs.Fronts.{IsFront, IsNewer, IsOlder, log_letters, sqlite_letters};
 ghost use Rattle.oram_layout.specs.Header.{letters};
@@ -10,6 +10,7 @@ ghost use Rattle.oram_layout.specs.Records.{AreKept, records_in};
 ghost use Rattle.oram_layout.specs.Trees.{Trees};
 ghost use Rattle.oram_layout.specs.declared.fronts.Identity.{Identity};
 ghost use Rattle.oram_redo.specs.Content.{Content};
+ghost use Rattle.oram_redo.specs.Length.{IsCutShort};
 ghost use Rattle.oram_redo.specs.Log.{StandsFor};
 ghost use Rattle.oram_redo.specs.Opened.{Opened, contents_in};
 ghost use Rattle.oram_store.specs.KeptRecords.{IsSound, records_of};
@@ -17,15 +18,18 @@ ghost use Rattle.oram_store.specs.RecordFile.{bounds};
 
 use crate::creation::create;
 use crate::faults::StoreFault;
+use crate::log_copy::renewed;
 use crate::matching::check_generations;
 use crate::record_file::BOUNDS;
 use crate::store::FileStore;
-use crate::written_again::{bytes_at, lacks_room, write_again};
 use oram_layout::{
     FRONT_LEN, Front, Generation, Identity, Newest, WHOLE_FRONT_LEN, newest_in, read_front,
     read_log_front,
 };
-use oram_redo::{FileKind, FilePair, OPEN, SHUT, SystemPair, write_fronts};
+use oram_redo::{
+    FileKind, FilePair, LENGTH_AT, LENGTH_FIELD_LEN, OPEN, SHUT, SystemPair, is_cut_short,
+    write_fronts,
+};
 use std::alloc::{AllocError, Global};
 use std::fs::{File, OpenFile, OpenOptions, TryLockError};
 use std::io::ErrorKind;
@@ -41,13 +45,13 @@ const LARGE_BLOCK: usize = 1 << 22;
 pub type BucketFile = FileStore<SystemPair>;
 
 /// The mode of a file that only its owner may read and write.
-const OWNERS_ALONE: u32 = 0o600;
+pub(crate) const OWNERS_ALONE: u32 = 0o600;
 
 /// Opens the file of a store, or makes it if there is none. Its log is beside it, under the same name with `-log`
 /// appended. The two belong together.
 ///
 /// A file that isn't a store's, is damaged, is held by another process, or lies beside a log of another moment is refused and keeps
-/// its bytes. This reads only the header of the file. It reads the log, which has 64 MiB at most, and writes it over itself. If the
+/// its bytes. This reads only the header of the file. It puts a copy in the place of the log, which has 64 MiB at most. If the
 /// log has entries, it writes them to their places and empties it.
 ///
 /// After the disk has failed (`StoreFault::Io`, `StoreFault::Closed`), drop the store and open its file again with this
@@ -96,14 +100,39 @@ fn log_name(alloc: Global, path: &str) -> Result<String, AllocError>
     Ok(name)
 }
 
-/// Returns the name under which a file is made. What has this name already is written over, so it is a name that nobody gives to
+/// Returns the name under which a file is made. What has this name already is replaced, so it is a name that nobody gives to
 /// a file of their own.
-fn new_name(alloc: Global, path: &str) -> Result<String, AllocError>
+pub(crate) fn new_name(alloc: Global, path: &str) -> Result<String, AllocError>
     ensures { IfOk result (λ name. string_bytes name ≡ path.now ++ codes ".unfinished") }
 {
     let mut name = String::from_str(alloc, path)?;
     name.push_str(".unfinished")?;
     Ok(name)
+}
+
+/// Reads the bytes at a place of a file, as many as there are, and returns their number.
+fn bytes_at(file: &File, at: u64, bytes: &mut [u8]) -> io::Result<usize>
+    ensures { IfOk result (λ len. len ≤ length bytes.new) }
+{
+    let mut got = 0;
+    while got < bytes.len() {
+        let Some(from) = at.checked_add(got as u64) else {
+            break;
+        };
+        match file.read_at(&mut bytes[got..], from)? {
+            0 => break,
+            n => got += n,
+        }
+    }
+    Ok(got)
+}
+
+/// Returns whether a write failed because it found no room.
+fn lacks_room(error: &io::Error) -> bool {
+    matches!(
+        error.kind(),
+        ErrorKind::StorageFull | ErrorKind::QuotaExceeded
+    )
 }
 
 /// Opens a regular file for reading and writing. Fails with `not_plain` if the path leads to nothing or to anything
@@ -118,6 +147,24 @@ fn open_plain(rt: &HostRuntime, path: &str, not_plain: StoreFault) -> Result<Fil
     let mut options = OpenOptions::new();
     options.read(true).write(true);
     Ok(options.open(rt, path)?)
+}
+
+/// Refuses a file of buckets that is shorter than its front says: it was cut short. While it is whole, it may have any length, since it ends
+/// behind the last place that was written so far; its front says how long it was when the log was begun last.
+fn check_length(records: &File) -> Result<(), StoreFault> {
+    let mut said = [0; LENGTH_FIELD_LEN];
+    let len = bytes_at(records, LENGTH_AT, &mut said)?;
+    check_whole(&said[..len], records.metadata()?.len())
+}
+
+fn check_whole(said: &[u8], len: u64) -> Result<(), StoreFault>
+    ensures cut { IsErrOf result StoreFault.Damaged ↔ IsCutShort said.now len }
+    ensures errors { IfErr result (λ fault. fault ≡ StoreFault.Damaged) }
+{
+    if is_cut_short(said, len) {
+        return Err(StoreFault::Damaged);
+    }
+    Ok(())
 }
 
 /// Takes the lock of a file, which lasts as long as the file is open. Fails with `Busy` if another process holds it.
@@ -252,7 +299,8 @@ pub fn open_pair(
     FileStore::over(alloc, files, generation)
 }
 
-/// Opens the file of a store and its log, looks at what their fronts say, and locks the file. Returns the log's generation, too.
+/// Opens the file of a store and its log, looks at what their fronts say, locks the file, and puts a copy of the log in its place. Returns
+/// the log's generation, too.
 fn open_files(
     rt: &HostRuntime,
     alloc: Global,
@@ -261,21 +309,32 @@ fn open_files(
     let records = open_plain(rt, path, StoreFault::NotABucketFile)?;
     let identity = identity_of(&records)?;
     lock(&records)?;
-    let log = open_log(rt, alloc, path, &identity)?;
+    check_length(&records)?;
+    let name = name_of_log(rt, alloc, path)?;
+    let log = open_log(rt, name.as_str(), &identity)?;
     let (generation, is_behind) = generation_of(&records, &log, &identity)?;
-    write_again(&log)?;
+    let log = renewed(rt, alloc, log, name.as_str())?;
     // What the file says of a log with entries was synced before the first of them was written.
     if !has_entries(&log)? {
-        log.sync_all()?;
-        say_again(&records, &generation, is_behind)?;
+        say_again(&records, &log, &generation, is_behind)?;
     }
     Ok((records, log, generation))
 }
 
 /// Writes the generation of a log without entries into the front of the file, although the file may say it already: if a sync has
 /// failed, in this process or an earlier one, a read may return a number that the disk lacks. The sync that follows covers it. If a
-/// crash spoils it, the file says the number before, which is taken beside a log without entries. So that log has to be synced first.
-fn say_again(records: &File, generation: &Generation, is_behind: bool) -> io::Result<()> {
+/// crash spoils it, the file says the number before, which is taken beside a log without entries. So that log has to be synced first. If
+/// it is one ahead of the file, a sync of its number may have failed too, and there may be no copy of it: then it says that again as well.
+fn say_again(
+    records: &File,
+    log: &File,
+    generation: &Generation,
+    is_behind: bool,
+) -> io::Result<()> {
+    if is_behind {
+        log.write_all_at(&generation.field(FileKind::Log), generation.place())?;
+    }
+    log.sync_all()?;
     let field = generation.field(FileKind::Records);
     match records.write_all_at(&field, generation.place()) {
         // A file system that copies on write may have no room for this, and still be read.
@@ -284,19 +343,23 @@ fn say_again(records: &File, generation: &Generation, is_behind: bool) -> io::Re
     }
 }
 
-/// Opens the log of a file with this identity, at the path that any links on the way to the file lead to.
-fn open_log(
-    rt: &HostRuntime,
-    alloc: Global,
-    path: &str,
-    identity: &Identity,
-) -> Result<File, StoreFault> {
+/// Returns the name of the log of a file that is there, after all links on the way to the file and to its log.
+fn name_of_log(rt: &HostRuntime, alloc: Global, path: &str) -> Result<String, StoreFault> {
     let real = fs::canonicalize(rt, path)?;
-    let log_name = log_name(alloc, real.as_str())?;
-    if !is_there(rt, log_name.as_str())? {
+    let beside = log_name(alloc, real.as_str())?;
+    if !is_there(rt, beside.as_str())? {
         return Err(StoreFault::WithoutLog);
     }
-    let log = open_plain(rt, log_name.as_str(), StoreFault::LogOfAnotherFile)?;
+    match fs::canonicalize(rt, beside.as_str()) {
+        Ok(name) => Ok(String::from_str(alloc, name.as_str())?),
+        Err(error) if error.kind() == ErrorKind::NotFound => Err(StoreFault::LogOfAnotherFile),
+        Err(error) => Err(error.into()),
+    }
+}
+
+/// Opens the log of a file with this identity.
+fn open_log(rt: &HostRuntime, name: &str, identity: &Identity) -> Result<File, StoreFault> {
+    let log = open_plain(rt, name, StoreFault::LogOfAnotherFile)?;
     check_log(&log, identity)?;
     Ok(log)
 }
@@ -345,7 +408,7 @@ fn new_identity(rt: &HostRuntime) -> io::Result<Identity> {
 }
 
 /// Returns the folder of a file, which is the working directory if its path names none.
-fn folder_of(path: &str) -> &str
+pub(crate) fn folder_of(path: &str) -> &str
     ensures named { (folder : List ℕ) → path_parent path.now ≡ Some folder → folder ≢ [] → result.now ≡ folder }
     ensures working { (path_parent path.now ≡ None) ⊎ (path_parent path.now ≡ Some []) → result.now ≡ codes "." }
 {

@@ -1,6 +1,6 @@
 //! Laws of the definitions, as contracts of functions that do nothing, and one run from empty files, whose promise
 //! rests on no premise that might never hold.
-ghost use Rattle.std.specs.Prelude.{◌≡◌, ℕ, [], false, true, IfOk, IfSome};
+ghost use Rattle.std.specs.Prelude.{◌≡◌, ℕ, [], false, length, true, IfOk, IfSome};
 ghost use Rattle.oram_layout.specs.Records.{AreKept};
 ghost use Rattle.oram_layout.specs.Trees.{sizes_of};
 ghost use Rattle.oram_redo.specs.FilePair.{Contents};
@@ -8,6 +8,7 @@ ghost use Rattle.oram_store.specs.Answers.{IsKeptAtOnce};
 ghost use Rattle.oram_store.specs.Crashes.{Serves};
 ghost use Rattle.oram_store.specs.KeptRecords.{Holds, IsSound, records_of, sure_records};
 ghost use Rattle.oram_store.specs.Laws.{HoldsPath, IdentityStays, no_records};
+ghost use Rattle.oram_store.specs.NewFiles.{NewFilesStand};
 ghost use Rattle.oram_store.specs.RecordFile.{Finds, Runs};
 ghost use Rattle.oram_store.specs.Refusals.{RespondsWith};
 ghost use Rattle.oram_wire.specs.HostBodies.{HasNumbers};
@@ -31,6 +32,12 @@ pub fn found_again<F: FilePair>(store: &FileStore<F>)
 /// Once a disk has its first tree, no request changes the disk's identity, whatever the store answers.
 pub fn identity_stays()
     ensures { IdentityStays }
+{}
+
+/// The files of a new store meet the premises of [`open_pair`](crate::open_pair), and so they do once their log has the entry of a first
+/// tree.
+pub fn new_files_stand()
+    ensures { (identity : Identity) (whole : length identity.0 ≡ 16) → NewFilesStand identity whole }
 {}
 
 /// Makes a store of empty files, gives it a tree, and stores the records of one path. Each crash from then on leaves

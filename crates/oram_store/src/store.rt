@@ -1,15 +1,16 @@
 //! The store: its trees, and what each request does to their records.
-ghost use Rattle.std.specs.Prelude.{◌≡◌, ◌≢◌, Contains, MatchOption, ◌⊎◌, ◌≤◌, ◌<◌, ◌+◌, ◌*◌, ◌^◌, ◌∷◌, ◌↔◌, [], ℕ, length, IsTrue, false, None, Some, IfErr, IfOk, IfSome, IsOk, IsSome, IsSomeAnd, MatchResult, OnErr, OnOk};
+ghost use Rattle.std.specs.Prelude.{All, map, ◌≡◌, ◌≢◌, Contains, MatchOption, ◌⊎◌, ◌≤◌, ◌<◌, ◌+◌, ◌*◌, ◌^◌, ◌∷◌, ◌↔◌, [], ℕ, length, IsTrue, false, None, Some, IfErr, IfOk, IfSome, IsOk, IsSome, IsSomeAnd, MatchResult, OnErr, OnOk};
 ghost use Rattle.oram_host.specs.Path.{FitsAnswer, IsBehind};
 ghost use Rattle.oram_host.specs.Refusals.{code_of};
-ghost use Rattle.oram_layout.specs.Changes.{marks, path_patches, record_patch};
+ghost use Rattle.oram_layout.specs.Changes.{marks, record_patch};
 ghost use Rattle.oram_layout.specs.Header.{entry_at, entry_bytes};
 ghost use Rattle.oram_layout.specs.Limits.{nodes_of};
-ghost use Rattle.oram_layout.specs.Trees.{Trees, cell_at, sizes_of, tree_at};
+ghost use Rattle.oram_layout.specs.Trees.{cell_at, sizes_of, tree_at};
 ghost use Rattle.oram_store.specs.Answers.{answer_by};
 ghost use Rattle.oram_store.specs.Close.{Closes};
 ghost use Rattle.oram_store.specs.Crashes.{CommitsPuts, Serves};
-ghost use Rattle.oram_store.specs.KeptRecords.{Changes, IsSound, IsSoundFile, Stores};
+ghost use Rattle.oram_store.specs.Groups.{FitsTree, IsOfTrees, ServesGroup, message_of};
+ghost use Rattle.oram_store.specs.KeptRecords.{IsSound};
 ghost use Rattle.oram_store.specs.PendingCells.{AreCells};
 ghost use Rattle.oram_store.specs.Reasons.{IsReasonFor, ReportsWhy};
 ghost use Rattle.oram_store.specs.Refusals.{IsRefused, ChangesTrees, is_fixed, refusal_by};
@@ -20,9 +21,10 @@ ghost use Rattle.oram_wire.specs.declared.host_messages.HostRequest.{HostRequest
 
 mod records;
 
-use crate::batches::{cells_of, marks_of, path_batch};
-use crate::cells::{THERE, has_record, read_path, write_missing};
+use crate::batches::marks_of;
+use crate::cells::{THERE, has_record, read_path};
 use crate::faults::StoreFault;
+use crate::groups::{PathStore, store_group};
 use crate::record_file::RecordFile;
 use oram_host::HostRefusal;
 use oram_layout::{Shape, Tree, entry_place, next_base};
@@ -124,44 +126,6 @@ fn commit_entry<F: FilePair>(
     ensures running { OnOk result (file.new.has_stopped ≡ false) }
 {
     commit_one(alloc, file, entry_place(number), &tree.entry())
-}
-
-/// Commits the records of a path.
-fn commit_path<F: FilePair>(
-    alloc: Global,
-    file: &mut RecordFile<F>,
-    tree: &Tree,
-    leaf: u32,
-    records: &[u8],
-) -> Result<(), StoreFault>
-    requires leaf { leaf < 2 ^ tree.now.shape.depth }
-    requires whole { length records.now ≡ (tree.now.shape.depth + 1) * tree.now.shape.record_len }
-    ensures commits { Commits F.model (path_patches tree.now leaf records.now 0 (tree.now.shape.depth + 1)) result file.old file.new }
-    ensures calls { Calls F.model result file.old file.new }
-    ensures running { OnOk result (file.new.has_stopped ≡ false) }
-{
-    let cells = cells_of(alloc, tree, records)?;
-    let batch = path_batch(alloc, tree, leaf, &cells)?;
-    file.commit(alloc, &batch)
-}
-
-/// Replaces the records of a path.
-fn store_path<F: FilePair>(
-    alloc: Global,
-    file: &mut RecordFile<F>,
-    tree: &Tree,
-    leaf: u32,
-    records: &[u8],
-) -> Result<(), StoreFault>
-    requires leaf { leaf < 2 ^ tree.now.shape.depth }
-    requires whole { length records.now ≡ (tree.now.shape.depth + 1) * tree.now.shape.record_len }
-    ensures changes { (trees : Trees) (number : ℕ) → tree_at trees number ≡ Some tree.now → IsSoundFile F.model trees file.old → F.model.is_honest file.new.files
-        → Changes F.model trees (Stores number (sizes_of tree.now.shape) leaf records.now) result file.old file.new }
-    ensures calls { Calls F.model result file.old file.new }
-    ensures running { OnOk result (file.new.has_stopped ≡ false) }
-{
-    write_missing(alloc, file, tree, leaf, records)?;
-    commit_path(alloc, file, tree, leaf, records)
 }
 
 impl<F: FilePair> FileStore<F> {
@@ -298,37 +262,53 @@ impl<F: FilePair> FileStore<F> {
         }
     }
 
-    /// Commits the pending PUTs, and replaces the records of a path.
-    fn commit_puts_and_store(
-        &mut self,
-        tree: &Tree,
-        leaf: u32,
-        records: &[u8],
-    ) -> Result<(), StoreFault>
-        requires leaf { leaf < 2 ^ tree.now.shape.depth }
-        requires whole { length records.now ≡ (tree.now.shape.depth + 1) * tree.now.shape.record_len }
-        ensures serves { (number : ℕ) → tree_at self.old.trees number ≡ Some tree.now → F.model.is_honest self.new.file.files → IsSound F.model self.old → Serves F.model (HostRequest.Store number leaf records.now) (answer_by result) self.old self.new }
+    /// Commits the pending PUTs, and replaces the records of the paths of a group.
+    fn commit_puts_and_store(&mut self, stores: &[PathStore<'_>]) -> Result<(), StoreFault>
+        requires fits { All FitsTree stores.now }
+        requires few { length stores.now ≤ 32 }
+        ensures serves { All (IsOfTrees self.old.trees) stores.now → F.model.is_honest self.new.file.files → IsSound F.model self.old
+            → ServesGroup F.model (map message_of stores.now) (answer_by result) self.old self.new }
         ensures none_pending { OnOk result (self.new.pending ≡ []) }
         ensures trees { self.new.trees ≡ self.old.trees }
         ensures calls { Calls F.model result self.old.file self.new.file }
         ensures running { OnOk result (self.new.file.has_stopped ≡ false) }
     {
         self.commit_puts()?;
-        store_path(self.alloc, &mut self.file, tree, leaf, records)
+        store_group(self.alloc, &mut self.file, stores)
     }
 
-    pub(crate) fn store(&mut self, number: u8, leaf: u32, records: &[u8]) -> Result<(), HostRefusal>
-        ensures allowed { OnOk result (refusal_by self.old.trees (HostRequest.Store number leaf records.now) ≡ None) }
-        ensures refused { IfErr result (IsRefused self.old.trees (HostRequest.Store number leaf records.now)) }
-        ensures untouched { IsSome (refusal_by self.old.trees (HostRequest.Store number leaf records.now)) → self.new ≡ self.old }
+    /// Carries out STOREs that the trees don't refuse: all of them, or none if there is no room.
+    pub(crate) fn store_together(&mut self, stores: &[PathStore<'_>]) -> Result<(), HostRefusal>
+        requires fits { All FitsTree stores.now }
+        requires few { length stores.now ≤ 32 }
+        ensures refused { IfErr result (λ why. why ≡ HostRefusal.OutOfMemory) }
         ensures trees { self.new.trees ≡ self.old.trees }
         ensures none_pending { OnOk result (self.new.pending ≡ []) }
-        ensures serves { F.model.is_honest self.new.file.files → IsSound F.model self.old → MatchResult result
-            (λ _. Serves F.model (HostRequest.Store number leaf records.now) HostAnswer.Done self.old self.new)
-            (λ why. Serves F.model (HostRequest.Store number leaf records.now) (HostAnswer.Refused (code_of why)) self.old self.new) }
+        ensures serves { All (IsOfTrees self.old.trees) stores.now → F.model.is_honest self.new.file.files → IsSound F.model self.old → MatchResult result
+            (λ _. ServesGroup F.model (map message_of stores.now) HostAnswer.Done self.old self.new)
+            (λ why. ServesGroup F.model (map message_of stores.now) (HostAnswer.Refused (code_of why)) self.old self.new) }
         ensures runs { Runs F.model self.old.file self.new.file }
         ensures running { OnOk result (self.new.file.has_stopped ≡ false) }
-        ensures failure { result ≡ Err HostRefusal.OutOfMemory → IsSomeAnd self.new.failure (IsReason F.model self.old.file self.new.file) }
+        ensures failure { OnErr result (IsSomeAnd self.new.failure (IsReason F.model self.old.file self.new.file)) }
+    {
+        match self.commit_puts_and_store(stores) {
+            Ok(()) => Ok(()),
+            Err(fault) => Err(self.refuse(fault)),
+        }
+    }
+
+    /// Returns a STORE with its tree, or why the trees refuse it.
+    pub(crate) fn accepted<'a>(
+        &self,
+        number: u8,
+        leaf: u32,
+        records: &'a [u8],
+    ) -> Result<PathStore<'a>, HostRefusal>
+        ensures message { IfOk result (λ store. message_of store ≡ HostRequest.Store number leaf records.now) }
+        ensures fits { IfOk result (λ store. FitsTree store × IsOfTrees self.now.trees store) }
+        ensures allowed { OnOk result (refusal_by self.now.trees (HostRequest.Store number leaf records.now) ≡ None) }
+        ensures refused { IfErr result (λ why. refusal_by self.now.trees (HostRequest.Store number leaf records.now) ≡ Some why) }
+        ensures code { IfErr result (λ why. code_of why ≢ 6) }
     {
         let Some(tree) = self.tree_of(number) else {
             return Err(HostRefusal::NoShape);
@@ -342,10 +322,30 @@ impl<F: FilePair> FileStore<F> {
         if records.len() != tree.shape.path_len() {
             return Err(HostRefusal::BadLength);
         }
-        match self.commit_puts_and_store(&tree, leaf, records) {
-            Ok(()) => Ok(()),
-            Err(fault) => Err(self.refuse(fault)),
-        }
+        Ok(PathStore {
+            number,
+            tree,
+            leaf,
+            records,
+        })
+    }
+
+    /// Carries out a STORE: a group of one.
+    pub(crate) fn store(&mut self, number: u8, leaf: u32, records: &[u8]) -> Result<(), HostRefusal>
+        ensures allowed { OnOk result (refusal_by self.old.trees (HostRequest.Store number leaf records.now) ≡ None) }
+        ensures refused { IfErr result (IsRefused self.old.trees (HostRequest.Store number leaf records.now)) }
+        ensures untouched { IsSome (refusal_by self.old.trees (HostRequest.Store number leaf records.now)) → self.new ≡ self.old }
+        ensures trees { self.new.trees ≡ self.old.trees }
+        ensures none_pending { OnOk result (self.new.pending ≡ []) }
+        ensures serves { F.model.is_honest self.new.file.files → IsSound F.model self.old → MatchResult result
+            (λ _. Serves F.model (HostRequest.Store number leaf records.now) HostAnswer.Done self.old self.new)
+            (λ why. Serves F.model (HostRequest.Store number leaf records.now) (HostAnswer.Refused (code_of why)) self.old self.new) }
+        ensures runs { Runs F.model self.old.file self.new.file }
+        ensures running { OnOk result (self.new.file.has_stopped ≡ false) }
+        ensures failure { result ≡ Err HostRefusal.OutOfMemory → IsSomeAnd self.new.failure (IsReason F.model self.old.file self.new.file) }
+    {
+        let store = self.accepted(number, leaf, records)?;
+        self.store_together(&[store])
     }
 
     pub(crate) fn put(&mut self, number: u8, node: u32, bytes: &[u8]) -> Result<(), HostRefusal>

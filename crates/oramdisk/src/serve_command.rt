@@ -74,6 +74,9 @@ fn report_connection<R: Clock + Eprint + AllocGlobal>(
     Ok(())
 }
 
+/// The most bytes that a client's connection takes from its socket at once. 64 requests that write 4 KiB each fit into them.
+const READ_ROOM: usize = 1 << 19;
+
 /// Serves one client until its connection ends, and turns others away meanwhile.
 fn serve_client<R: Net + Clock + Eprint + AllocGlobal, D: BlockDevice>(
     rt: &R,
@@ -96,6 +99,7 @@ fn serve_client<R: Net + Clock + Eprint + AllocGlobal, D: BlockDevice>(
         stream,
         listener.as_raw_fd(),
         &attendant,
+        READ_ROOM,
     ) {
         Ok(halves) => halves,
         Err(error) if error.kind() == ErrorKind::OutOfMemory => {

@@ -14,11 +14,11 @@ use oram_core::{Command, Core, Note};
 use oram_geometry::Device;
 use oram_host::Server;
 use oram_nbd::{Arrived, ClientWatch, transmit};
-use oram_rounds::{KeepError, Keeper, OneByOne, RoundLink, perform, record_len};
+use oram_rounds::{KeepError, Keeper, KeptParts, OneByOne, RoundLink, perform, record_len};
 use oram_session::{ChaChaTape, Direct, has_no_work, submit};
 use oram_volume::Volume;
 use requests::{Access, BLOCK_BYTES, BLOCKS, REQUESTS, said, some_accesses};
-use std::alloc::Global;
+use std::alloc::{AllocError, Global};
 use std::io::Read;
 use std::rt::{Clock, Files};
 use std::time::{Duration, Instant};
@@ -58,8 +58,8 @@ impl Keeper for MemoryKeeper {
 
     ghost reads_back = { λ k bytes. bytes ≡ k.newest.items };
 
-    fn keep(&mut self, file: &[u8]) -> Result<(), KeepError> {
-        match file.to_vec(self.alloc) {
+    fn keep(&mut self, text: &KeptParts<'_>) -> Result<(), KeepError> {
+        match joined(self.alloc, text) {
             Ok(newest) => {
                 self.newest = newest;
                 Ok(())
@@ -67,6 +67,17 @@ impl Keeper for MemoryKeeper {
             Err(_) => Err(KeepError),
         }
     }
+}
+
+/// Returns a text as one list of bytes.
+fn joined(alloc: Global, text: &KeptParts<'_>) -> Result<Vec<u8>, AllocError> {
+    let mut bytes = Vec::new(alloc);
+    bytes.extend_from_slice(text.before)?;
+    for entry in text.table {
+        bytes.extend_from_slice(&entry.to_be_bytes())?;
+    }
+    bytes.extend_from_slice(text.after)?;
+    Ok(bytes)
 }
 
 /// Requests that arrive one at a time, so that each of them is carried out alone.

@@ -3,6 +3,7 @@
 mod cores;
 mod disks;
 mod hashes;
+mod keepings;
 mod stashes;
 mod stores;
 
@@ -11,6 +12,7 @@ use std::{env, io};
 const USAGE: &str = "bench hash
 bench core
 bench disk FOLDER
+bench keep FILE KIB TIMES
 bench stash ACCESSES
 bench store run FILE
 bench store fill FILE DEPTH
@@ -24,6 +26,9 @@ fn run(rt: &HostRuntime, words: [Option<&str>; 5]) -> io::Result<()> {
         [Some("core"), None, ..] => cores::run(rt),
         [Some("stash"), Some(accesses), None, ..] => stashes::run(rt, accesses),
         [Some("disk"), Some(folder), None, ..] => disks::measure(rt, folder),
+        [Some("keep"), Some(file), Some(kib), Some(times), None] => keepings::measure(
+            rt, file, kib, times,
+        ),
         [Some("store"), Some("run"), Some(file), None, _] => stores::measure(rt, file),
         [Some("store"), Some("open"), Some(file), None, _] => stores::reopen(rt, file),
         [Some("store"), Some("fill"), Some(file), Some(depth), None] => stores::fill(

@@ -2,7 +2,8 @@
 //!
 //! `run FILE` makes the first device of `bench core` in a new file, one tree of blocks of 4,096 bytes. It prints how
 //! many FETCHes and STOREs a second the store answers, how many the server in memory answers, and how many synced
-//! writes of the same bytes there are a second, all in one run: each with its mean, its median and the longest.
+//! writes of the same bytes there are a second, all in one run: each with its mean, its median and the longest. Then it prints how
+//! long each STORE takes if it arrives alone, with seven others or with fifteen others, and how often the files are synced for it.
 //!
 //! `fill FILE DEPTH` makes a whole tree of that depth of the same records in a new file (depth 16: 2.2 GB). `open FILE`
 //! opens what `fill` left, and fetches the paths of its first 1,000 leaves. Each prints the most memory that the
@@ -13,6 +14,7 @@
 //! little room on the disk.
 
 mod filled_store;
+mod groups;
 mod system;
 mod times;
 
@@ -292,6 +294,7 @@ where
     let _ = format(rt.alloc(), &mut server, shape)?;
     let plain = format!(in rt.alloc(); "{file}-plain")?;
     measure_accesses(rt, shape, store, &mut server, plain.as_str())?;
+    groups::measure(rt, shape, store, plain.as_str())?;
     fs::remove_file(rt, plain.as_str())
 }
 

@@ -11,6 +11,7 @@ mod groups;
 mod hosts;
 mod page;
 mod table;
+mod texts;
 mod words;
 
 pub use devices::{device_in, shown_device_in};
@@ -21,4 +22,5 @@ pub use hosts::{
 };
 pub use page::Page;
 pub use table::{RowFault, Table, run_table};
+pub use texts::joined;
 pub use words::RowWords;

@@ -2,11 +2,11 @@
 
 use oram_cli::FileReason;
 use oram_client::{
-    DeedHistory, DiskKey, FileFailure, FileKeeper, FileStep, Head, KeyCheck, Place, Salt,
-    SealerKind, disk_identity, key_check, keys_for, put_kept_file, read_kept_file, sealer_key,
-    tape_key,
+    DeedHistory, DiskKey, FileFailure, FileKeeper, FileStep, Head, KeptFault, KeyCheck, Place,
+    Salt, SealerKind, disk_identity, key_check, keys_for, put_kept_file, read_kept_file,
+    sealer_key, tape_key,
 };
-use oram_rounds::Keeper;
+use oram_rounds::{Keeper, KeptParts};
 use rows::{Page, RowFault, RowWords, Target, pace_in};
 use std::alloc::Global;
 use std::cell::Cell;
@@ -26,8 +26,20 @@ fn write_head(page: &mut Page, head: &Head) {
     page.show(&head.sealer);
 }
 
-/// `disk put ROOM PACE SALT CHECK SEALER PROCESS`: writes whether the kept file of a disk was written, and the bytes that
-/// were.
+/// Returns the entries of a table, which has them in four bytes each.
+fn table_in(alloc: Global, bytes: &[u8]) -> Result<Vec<u32>, RowFault> {
+    let mut table = Vec::new(alloc);
+    for entry in bytes.chunks(4) {
+        let [a, b, c, d] = entry else {
+            return Err(RowFault::NoRow);
+        };
+        table.push(u32::from_be_bytes([*a, *b, *c, *d]))?;
+    }
+    Ok(table)
+}
+
+/// `disk put ROOM PACE SALT CHECK SEALER BEFORE TABLE AFTER`: writes whether the kept file of a disk was written, with a text that
+/// has a table in it, and the bytes that were.
 fn put(alloc: Global, words: &mut RowWords, page: &mut Page) -> Result<(), RowFault> {
     let room = words.size();
     let mut target = Target::new(alloc, room, pace_in(words)?)?;
@@ -36,24 +48,76 @@ fn put(alloc: Global, words: &mut RowWords, page: &mut Page) -> Result<(), RowFa
         key_check: KeyCheck(words.array(alloc)),
         sealer: sealer_in(words)?,
     };
-    let process = words.bytes(alloc);
-    let written = put_kept_file(&mut target, &head, &process);
+    let before = words.bytes(alloc);
+    let table = table_in(alloc, &words.bytes(alloc))?;
+    let after = words.bytes(alloc);
+    let text = KeptParts {
+        before: &before,
+        table: &table,
+        after: &after,
+    };
+    let written = put_kept_file(&mut target, &head, &text);
     page.word(if written.is_ok() { "done" } else { "failed" });
     page.bytes(target.bytes());
     Ok(())
 }
 
-/// `disk read FILE`: writes the salt, the key check, the sealer and the process of a kept file.
+/// `disk read FILE`: writes the salt, the key check, the sealer and the process of a kept file, and of one of the fifth format the
+/// check of the process.
 fn read(alloc: Global, words: &mut RowWords, page: &mut Page) -> Result<(), RowFault> {
     let file = words.bytes(alloc);
     match read_kept_file(&file) {
         Ok(kept) => {
             write_head(page, &kept.head);
             page.bytes(kept.process);
+            if let Some(check) = kept.fifth_check {
+                page.word("check");
+                page.bytes(&check.to_be_bytes());
+            }
         }
         Err(fault) => page.show(&fault),
     }
     Ok(())
+}
+
+/// Reads a file, and counts whether it is torn, of an older disk, of no disk, or read.
+fn count(file: &[u8], counts: &mut [u64; 4]) {
+    let at = match read_kept_file(file) {
+        Err(KeptFault::Torn) => 0,
+        Err(KeptFault::Older) => 1,
+        Err(KeptFault::NotOurs) => 2,
+        Ok(_) => 3,
+    };
+    counts[at] = counts[at].saturating_add(1);
+}
+
+fn write_counts(page: &mut Page, counts: &[u64; 4]) {
+    for (name, count) in ["torn", "older", "not_ours", "read"].iter().zip(counts) {
+        page.word(name);
+        page.number(*count);
+    }
+}
+
+/// `disk cuts FILE`: reads a kept file cut short at each length, and writes how many are torn, of an older disk, of no disk, and read.
+fn cuts(alloc: Global, words: &mut RowWords, page: &mut Page) {
+    let file = words.bytes(alloc);
+    let mut counts = [0; 4];
+    for len in 0..file.len() {
+        count(&file[..len], &mut counts);
+    }
+    write_counts(page, &counts);
+}
+
+/// `disk flips FILE`: the same of the file with each of its bytes flipped in turn.
+fn flips(alloc: Global, words: &mut RowWords, page: &mut Page) {
+    let mut file = words.bytes(alloc);
+    let mut counts = [0; 4];
+    for i in 0..file.len() {
+        file[i] ^= 1;
+        count(&file, &mut counts);
+        file[i] ^= 1;
+    }
+    write_counts(page, &counts);
 }
 
 /// `disk keys KEY SALT`: writes the sealer's key, the tape's key, the key check and the identity.
@@ -180,7 +244,12 @@ impl<'a> Place for FailingPlace<'a> {
 
     ghost folders_after = { λ p deed done q noted. possible_after p.history.notes deed done q.history.notes noted };
 
-    fn write(&mut self, head: &Head, process: &[u8], sync: bool) -> Result<(), FileFailure> {
+    fn write(
+        &mut self,
+        head: &Head,
+        process: &KeptParts<'_>,
+        sync: bool,
+    ) -> Result<(), FileFailure> {
         let result = self.next(FileStep::Create);
         self.history.note_write(head, process, sync, result.is_ok());
         result
@@ -218,7 +287,12 @@ fn keep_times(
     count: u32,
 ) -> Result<(), RowFault> {
     for _ in 0..count {
-        page.word(match keeper.keep(b"process") {
+        let text = KeptParts {
+            before: b"process",
+            table: &[],
+            after: &[],
+        };
+        page.word(match keeper.keep(&text) {
             Ok(()) => "kept",
             Err(_) => "lost",
         });
@@ -263,6 +337,14 @@ pub fn answer(
     match name {
         "put" => put(alloc, words, page),
         "read" => read(alloc, words, page),
+        "cuts" => {
+            cuts(alloc, words, page);
+            Ok(())
+        }
+        "flips" => {
+            flips(alloc, words, page);
+            Ok(())
+        }
         "keys" => keys(alloc, words, page),
         "opens" => opens(alloc, words, page),
         "head" => head(alloc, words, page),

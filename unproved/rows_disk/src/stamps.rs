@@ -13,7 +13,7 @@ struct Client {
 }
 
 impl Client {
-    /// Keeps the process in a file with this checksum.
+    /// Keeps the process, which has this check.
     fn keep(&mut self, alloc: Global, check: u64) -> Result<(), RowFault> {
         self.note = encode_note(alloc, &self.known)?;
         self.check = check;
@@ -59,7 +59,7 @@ impl Client {
     }
 }
 
-/// Reads a number and a checksum as a stamp.
+/// Reads a number and a check as a stamp.
 fn stamp_in(words: &mut RowWords) -> Stamp {
     Stamp {
         number: words.number(),
@@ -67,7 +67,7 @@ fn stamp_in(words: &mut RowWords) -> Stamp {
     }
 }
 
-/// `stamps life EVENTS`: the client of a new disk is kept in a file with a checksum (`keep 6`), sends a batch (`sends`), learns that all of it
+/// `stamps life EVENTS`: the client of a new disk is kept with a check (`keep 6`), sends a batch (`sends`), learns that all of it
 /// was carried out (`answers`), is shown what the host has begun and done (`shows 2 6 1 5`), or another process begins with the file
 /// (`restarts`). `asks` writes whether a batch without STOREs needs no stamp.
 fn life(alloc: Global, words: &mut RowWords, page: &mut Page) -> Result<(), RowFault> {

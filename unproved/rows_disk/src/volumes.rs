@@ -8,10 +8,10 @@ use oram_core::Core;
 use oram_geometry::Device;
 use oram_host::Server;
 use oram_nbd::transmit;
-use oram_rounds::{KeepError, Keeper, OneByOne, RoundLink, record_len};
+use oram_rounds::{KeepError, Keeper, KeptParts, OneByOne, RoundLink, record_len};
 use oram_session::{ChaChaTape, Direct, FaultLink};
 use oram_volume::Volume;
-use rows::{Pace, Page, RowFault, RowWords, Source, Target};
+use rows::{Pace, Page, RowFault, RowWords, Source, Target, joined};
 use std::alloc::Global;
 
 /// A keeper in memory that keeps `room` more files, and fails after these.
@@ -47,11 +47,11 @@ impl Keeper for MemoryKeeper {
 
     ghost reads_back = { λ k bytes. bytes ≡ k.newest.items };
 
-    fn keep(&mut self, file: &[u8]) -> Result<(), KeepError> {
+    fn keep(&mut self, text: &KeptParts<'_>) -> Result<(), KeepError> {
         if self.room == 0 {
             return Err(KeepError);
         }
-        let Ok(newest) = file.to_vec(self.alloc) else {
+        let Ok(newest) = joined(self.alloc, text.before, text.table, text.after) else {
             self.lacks_memory = true;
             return Err(KeepError);
         };

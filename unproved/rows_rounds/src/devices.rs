@@ -3,11 +3,11 @@
 //! `rows_sessions` has [`standing`] too. The crate `rows` can't have it for both, since it doesn't depend on the core:
 //! otherwise each row program could be proved only after the core.
 
+use crate::kept_files::text_of;
 use oram_bucket::PlainSeal;
 use oram_core::Core;
 use oram_geometry::Device;
 use oram_host::Server;
-use oram_rounds::encode_kept;
 use oram_session::{Direct, format_device};
 use rows::{RowFault, RowWords, device_in};
 use std::alloc::Global;
@@ -15,7 +15,7 @@ use std::alloc::Global;
 /// Formats a device over a link, and returns the file from which its first process begins.
 fn formatted_over(alloc: Global, device: Device, link: &mut Direct) -> Result<Vec<u8>, RowFault> {
     match format_device(alloc, device, PlainSeal, link) {
-        Ok(core) => Ok(encode_kept(alloc, &[], &[], &core)?.bytes),
+        Ok(core) => Ok(text_of(alloc, &[], &[], &core)?.bytes),
         Err(_) => Err(RowFault::OutOfMemory),
     }
 }

@@ -1,8 +1,8 @@
 //! A keeper that keeps files in memory, and fails where a row wants it.
 ghost use Rattle.std.specs.Prelude.{◌≡◌, OnErr, OnOk};
 
-use oram_rounds::{KeepError, Keeper};
-use rows::{RowFault, RowWords};
+use oram_rounds::{KeepError, Keeper, KeptParts};
+use rows::{RowFault, RowWords, joined};
 use std::alloc::Global;
 
 /// When a keeper fails.
@@ -87,14 +87,17 @@ impl MemoryKeeper {
         self.kept.saturating_add(u64::from(late))
     }
 
-    fn put(&mut self, file: &[u8]) -> Result<(), KeepError> {
-        let mut newest = Vec::new(self.alloc);
-        if newest.extend_from_slice(file).is_err() {
-            self.lacks_memory = true;
-            return Err(KeepError);
+    fn put(&mut self, text: &KeptParts<'_>) -> Result<(), KeepError> {
+        match joined(self.alloc, text.before, text.table, text.after) {
+            Ok(newest) => {
+                self.newest = newest;
+                Ok(())
+            }
+            Err(_) => {
+                self.lacks_memory = true;
+                Err(KeepError)
+            }
         }
-        self.newest = newest;
-        Ok(())
     }
 }
 
@@ -103,16 +106,16 @@ impl Keeper for MemoryKeeper {
 
     ghost reads_back = { λ k bytes. bytes ≡ k.newest.items };
 
-    fn keep(&mut self, file: &[u8]) -> Result<(), KeepError> {
+    fn keep(&mut self, text: &KeptParts<'_>) -> Result<(), KeepError> {
         let call = self.calls;
         self.calls = self.calls.saturating_add(1);
         if call < self.room.files {
-            self.put(file)?;
+            self.put(text)?;
             self.kept = self.kept.saturating_add(1);
             return Ok(());
         }
         if self.room.late && call == self.room.files {
-            self.put(file)?;
+            self.put(text)?;
         }
         Err(KeepError)
     }

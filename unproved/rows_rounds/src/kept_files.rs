@@ -1,12 +1,13 @@
-//! Rows of files of a process that aren't whole.
+//! Rows of texts of a process, whole ones and others.
 
 use oram_bucket::{ChaChaSeal, PlainSeal};
-use oram_rounds::{KeptCore, KeptCoreFault, ProcessFile, decode_kept};
-use oram_state::{StateFault, decode_fields};
-use rows::{Page, RowFault};
+use oram_core::Core;
+use oram_rounds::{KeptCore, KeptCoreFault, decode_kept, encode_kept};
+use oram_state::{StateFault, decode_fields, encode_around_table};
+use rows::{Page, RowFault, joined};
 use std::alloc::Global;
 
-/// How many files were read, and what became of them.
+/// How many texts were read, and what became of them.
 #[derive(Clone, Copy, Drop)]
 struct Tally {
     torn: u64,
@@ -21,7 +22,7 @@ impl Tally {
         taken: 0,
     };
 
-    /// Reads a file, and counts what came of it.
+    /// Reads a text, and counts what came of it.
     fn count(&mut self, alloc: Global, file: &[u8]) -> Result<(), RowFault> {
         match decode_kept(alloc, PlainSeal, file) {
             Ok(_) => self.taken = self.taken.saturating_add(1),
@@ -32,7 +33,8 @@ impl Tally {
         Ok(())
     }
 
-    /// Writes how many files were refused since they aren't whole, and how many because of the core, and how many were read.
+    /// Writes how many texts were refused since no STOREs and note are at their front, how many because of the core, and how many were
+    /// read.
     fn tell(self, page: &mut Page) {
         page.word("torn");
         page.number(self.torn);
@@ -43,10 +45,38 @@ impl Tally {
     }
 }
 
-/// Reads a file, and writes how many STOREs it has, its note, and whether its checksum is the one that its writer gave.
+/// The text of a process, and its check.
+#[derive(Drop)]
+pub(crate) struct WholeText {
+    pub(crate) bytes: Vec<u8>,
+    pub(crate) check: u64,
+}
+
+/// Returns the text of these STOREs, this note and this core.
+pub(crate) fn text_of(
+    alloc: Global,
+    stores: &[Vec<u8>],
+    note: &[u8],
+    core: &Core<PlainSeal>,
+) -> Result<WholeText, RowFault> {
+    let text = encode_kept(alloc, stores, note, core)?;
+    let parts = text.with_table(core.table());
+    Ok(WholeText {
+        bytes: joined(alloc, parts.before, parts.table, parts.after)?,
+        check: text.check,
+    })
+}
+
+/// Returns the fields of a core.
+pub(crate) fn fields_of(alloc: Global, core: &Core<PlainSeal>) -> Result<Vec<u8>, RowFault> {
+    let around = encode_around_table(alloc, core)?;
+    Ok(joined(alloc, &around.before, core.table(), &around.after)?)
+}
+
+/// Reads a text, and writes how many STOREs it has, its note, its check, and whether that is the one that its writer gave.
 pub(crate) fn tell_read_file(
     alloc: Global,
-    file: &ProcessFile,
+    text: &WholeText,
     page: &mut Page,
 ) -> Result<(), RowFault> {
     let KeptCore {
@@ -54,7 +84,7 @@ pub(crate) fn tell_read_file(
         note,
         check,
         ..
-    } = match decode_kept(alloc, PlainSeal, &file.bytes) {
+    } = match decode_kept(alloc, PlainSeal, &text.bytes) {
         Ok(kept) => kept,
         Err(KeptCoreFault::OutOfMemory) => return Err(RowFault::OutOfMemory),
         Err(_) => return Err(RowFault::NoRow),
@@ -63,32 +93,17 @@ pub(crate) fn tell_read_file(
     page.number(stores.len());
     page.word("note");
     page.bytes(&note);
-    page.word("checksum");
-    page.flag(check == file.check);
+    page.word("check");
+    page.bytes(&check.to_be_bytes());
+    page.flag(check == text.check);
     Ok(())
 }
 
-/// Reads the file cut short at each length.
+/// Reads the text cut short at each length.
 pub(crate) fn tell_cut_files(alloc: Global, file: &[u8], page: &mut Page) -> Result<(), RowFault> {
     let mut tally = Tally::EMPTY;
     for len in 0..file.len() {
         tally.count(alloc, &file[..len])?;
-    }
-    tally.tell(page);
-    Ok(())
-}
-
-/// Reads the file with each of its bytes flipped in turn.
-pub(crate) fn tell_flipped_files(
-    alloc: Global,
-    mut file: Vec<u8>,
-    page: &mut Page,
-) -> Result<(), RowFault> {
-    let mut tally = Tally::EMPTY;
-    for i in 0..file.len() {
-        file[i] ^= 1;
-        tally.count(alloc, &file)?;
-        file[i] ^= 1;
     }
     tally.tell(page);
     Ok(())
@@ -112,7 +127,7 @@ pub(crate) fn tell_cut_fields(
     Ok(())
 }
 
-/// Reads the file with another sealer than the one that it was written with.
+/// Reads the text with another sealer than the one that it was written with.
 pub(crate) fn tell_other_sealer(
     alloc: Global,
     file: &[u8],

@@ -4,16 +4,15 @@ use crate::devices::{new_device, standing};
 use crate::hosts::{HostPlace, Sent, Way};
 use crate::keepers::{MemoryKeeper, Room};
 use crate::kept_files::{
-    tell_cut_fields, tell_cut_files, tell_flipped_files, tell_other_sealer, tell_read_file,
+    fields_of, tell_cut_fields, tell_cut_files, tell_other_sealer, tell_read_file, text_of,
 };
 use crate::lives::{Life, link_for};
 use crate::plain_arrays::{many_commands, right_replies};
 use oram_bytes::Bytes;
 use oram_core::{Command, Note, Reply, ReplyBody};
 use oram_host::Server;
-use oram_rounds::{RoundFault, encode_kept};
+use oram_rounds::RoundFault;
 use oram_session::Link;
-use oram_state::encode_fields;
 use rows::{Page, RowFault, RowWords};
 use std::alloc::Global;
 
@@ -252,7 +251,7 @@ impl<'a> Rounds<'a> {
         Ok(())
     }
 
-    /// `noted NOTE`: writes the file of the process with this note, and what is read back of it.
+    /// `noted NOTE`: writes the text of the process with this note, and what is read back of it.
     fn noted(
         &mut self,
         alloc: Global,
@@ -261,24 +260,23 @@ impl<'a> Rounds<'a> {
     ) -> Result<(), RowFault> {
         let life = self.life()?;
         let note = words.bytes(alloc);
-        let file = encode_kept(alloc, life.link.waiting(), &note, &life.core)?;
-        page.bytes(&file.bytes);
-        tell_read_file(alloc, &file, page)
+        let text = text_of(alloc, life.link.waiting(), &note, &life.core)?;
+        page.bytes(&text.bytes);
+        tell_read_file(alloc, &text, page)
     }
 
-    /// `file`: writes the file of the process as it is now. `fields`: writes the fields of its core alone. `cut_files`,
-    /// `cut_fields` and `flipped_files`: writes how many files that lack bytes, or have a wrong byte, are refused.
-    /// `other_sealer`: writes why the file isn't read with another sealer.
+    /// `file`: writes the text of the process as it is now. `fields`: writes the fields of its core alone. `cut_files` and
+    /// `cut_fields`: writes how many texts that lack bytes are refused. `other_sealer`: writes why the text isn't read with
+    /// another sealer.
     fn file_row(&mut self, alloc: Global, call: &str, page: &mut Page) -> Result<(), RowFault> {
         let life = self.life()?;
         let note = life.link.note(alloc)?;
-        let file = encode_kept(alloc, life.link.waiting(), &note, &life.core)?.bytes;
+        let file = text_of(alloc, life.link.waiting(), &note, &life.core)?.bytes;
         match call {
             "file" => page.bytes(&file),
-            "fields" => page.bytes(&encode_fields(alloc, &life.core)?),
-            "cut_fields" => tell_cut_fields(alloc, &encode_fields(alloc, &life.core)?, page)?,
+            "fields" => page.bytes(&fields_of(alloc, &life.core)?),
+            "cut_fields" => tell_cut_fields(alloc, &fields_of(alloc, &life.core)?, page)?,
             "cut_files" => tell_cut_files(alloc, &file, page)?,
-            "flipped_files" => tell_flipped_files(alloc, file, page)?,
             "other_sealer" => tell_other_sealer(alloc, &file, page)?,
             _ => return Err(RowFault::NoRow),
         }

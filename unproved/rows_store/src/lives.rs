@@ -6,7 +6,7 @@ use oram_layout::Generation;
 use oram_redo::MemoryPair;
 use oram_store::{FileStore, StoreFault};
 use oram_wire::HostAnswer;
-use rows::{NO_ROOM, Page, RowFault, RowWords, show_answer};
+use rows::{NO_ROOM, Page, RowFault, RowWords, lacks_room, show_answer};
 use std::alloc::Global;
 
 /// The files that the next stores are opened over.
@@ -24,6 +24,8 @@ struct Life {
     log_room: u64,
     /// Whether the store is closed at the end. If not, its process is killed.
     is_closed: bool,
+    /// Whether the messages arrive together.
+    is_together: bool,
 }
 
 /// The most calls that a request makes.
@@ -34,6 +36,7 @@ const KILLED: Life = Life {
     calls: u64::MAX,
     log_room: u64::MAX,
     is_closed: false,
+    is_together: false,
 };
 
 /// A life in which the files don't fail, and at the end the store is closed.
@@ -41,6 +44,7 @@ const CLOSED: Life = Life {
     calls: u64::MAX,
     log_room: u64::MAX,
     is_closed: true,
+    is_together: false,
 };
 
 /// Writes why a store didn't do what it was asked. Files in memory have no room only if memory ran out, and `Io` means
@@ -96,18 +100,48 @@ fn close(
     }
 }
 
-/// Asks a store these bodies, and closes it if `is_closed` is set.
-fn ask_each(
-    mut store: FileStore<FailingFiles<'_, MemoryPair>>,
+/// Hands a store messages that have arrived together, and writes how many it answers at once, and with which bytes. If the store has
+/// no room, the reason follows.
+fn ask_together(
+    alloc: Global,
+    store: &mut FileStore<FailingFiles<'_, MemoryPair>>,
     bodies: &[Vec<u8>],
-    is_closed: bool,
     page: &mut Page,
 ) -> Result<(), RowFault> {
-    for body in bodies {
+    let mut rest = bodies;
+    for _ in 0..bodies.len() {
+        if rest.is_empty() {
+            break;
+        }
+        let (count, answer) = store.answer_group(alloc, rest)?;
         page.part();
-        ask(&mut store, body, page)?;
+        page.number(count);
+        page.bytes(&answer);
+        if lacks_room(&answer) {
+            write_failure(store, page)?;
+        }
+        rest = &rest[count..];
     }
-    if is_closed {
+    Ok(())
+}
+
+/// Asks a store these bodies, and closes it if the life ends so.
+fn ask_each(
+    alloc: Global,
+    mut store: FileStore<FailingFiles<'_, MemoryPair>>,
+    bodies: &[Vec<u8>],
+    life: Life,
+    page: &mut Page,
+) -> Result<(), RowFault> {
+    if life.is_together {
+        ask_together(alloc, &mut store, bodies, page)?;
+    } else {
+        for body in bodies {
+            page.part();
+            ask(&mut store, body, page)?;
+        }
+    }
+    if life.is_closed {
         close(store, page)
     } else {
         Ok(())
@@ -128,20 +162,40 @@ fn live(
         log_room: life.log_room,
     };
     match FileStore::over(alloc, lent, Generation::first(IDENTITY)) {
-        Ok(store) => ask_each(store, bodies, life.is_closed, page),
+        Ok(store) => ask_each(alloc, store, bodies, life, page),
         Err(fault) => write_fault(page, fault),
     }
 }
 
-/// Lets three stores live over new files, one after the other. The first one is asked all bodies but the last two and
-/// closed, so that the log is empty. The second one is asked the last two, and its files fail after `calls` calls. The
-/// third one is asked the last body. Writes what the last two stores answer.
-fn cut(alloc: Global, bodies: &[Vec<u8>], calls: u64, page: &mut Page) -> Result<(), RowFault> {
-    let (first, cut) = bodies.split_at(bodies.len().saturating_sub(2));
-    let (_, last) = cut.split_at(cut.len().saturating_sub(1));
+/// Which of the bodies of a row the second of three stores is asked.
+#[derive(Clone, Copy, Debug)]
+struct Cut {
+    /// How many of the last ones.
+    count: usize,
+    /// Whether they arrive together.
+    is_together: bool,
+}
+
+/// Lets three stores live over new files, one after the other. The first one is asked the first bodies and closed, so that the log is
+/// empty. The second one is asked the last ones, as `cut` says, and its files fail after `calls` calls. The third one is asked the
+/// last body. Writes what the last two stores answer.
+fn live_thrice(
+    alloc: Global,
+    bodies: &[Vec<u8>],
+    cut: Cut,
+    calls: u64,
+    page: &mut Page,
+) -> Result<(), RowFault> {
+    let (first, second) = bodies.split_at(bodies.len().saturating_sub(cut.count));
+    let (_, last) = second.split_at(second.len().saturating_sub(1));
     let mut files = created(alloc)?;
     live(alloc, &mut files, CLOSED, first, &mut Page::new(alloc))?;
-    live(alloc, &mut files, Life { calls, ..KILLED }, cut, page)?;
+    let life = Life {
+        calls,
+        is_together: cut.is_together,
+        ..KILLED
+    };
+    live(alloc, &mut files, life, second, page)?;
     let mut found = Page::new(alloc);
     live(alloc, &mut files, KILLED, last, &mut found)?;
     page.word("then");
@@ -149,10 +203,10 @@ fn cut(alloc: Global, bodies: &[Vec<u8>], calls: u64, page: &mut Page) -> Result
     Ok(())
 }
 
-/// Writes what `cut` writes, on its own page.
-fn case(alloc: Global, bodies: &[Vec<u8>], calls: u64) -> Result<Page, RowFault> {
+/// Writes what `live_thrice` writes, on its own page.
+fn case(alloc: Global, bodies: &[Vec<u8>], cut: Cut, calls: u64) -> Result<Page, RowFault> {
     let mut page = Page::new(alloc);
-    cut(alloc, bodies, calls, &mut page)?;
+    live_thrice(alloc, bodies, cut, calls, &mut page)?;
     page.text()?;
     Ok(page)
 }
@@ -160,16 +214,17 @@ fn case(alloc: Global, bodies: &[Vec<u8>], calls: u64) -> Result<Page, RowFault>
 /// `life cuts BODIES BODY FETCH`: a store is asked `BODIES` and closed, the next one is asked `BODY` and `FETCH`, and
 /// the one after that is asked `FETCH` again. The files of the second store fail after no call, after one, and so on,
 /// until they don't cut it off any more. Writes what the last two stores answer; equal answers in a row are written
-/// once.
-fn cuts(alloc: Global, words: &mut RowWords, page: &mut Page) -> Result<(), RowFault> {
+/// once. `life breaks BODIES BODY BODY FETCH` is the same where the second store is asked two bodies and `FETCH`, which arrive
+/// together.
+fn cuts(alloc: Global, words: &mut RowWords, cut: Cut, page: &mut Page) -> Result<(), RowFault> {
     let bodies = words.bodies(alloc);
-    if bodies.len() < 2 {
+    if bodies.len() < cut.count {
         return Err(RowFault::NoRow);
     }
-    let whole = case(alloc, &bodies, u64::MAX)?;
+    let whole = case(alloc, &bodies, cut, u64::MAX)?;
     let mut before = Page::new(alloc);
     for calls in 0..MOST_CALLS {
-        let now = case(alloc, &bodies, calls)?;
+        let now = case(alloc, &bodies, cut, calls)?;
         if !now.is_like(&before) {
             if calls > 0 {
                 page.word("|");
@@ -190,7 +245,8 @@ impl Lives {
     }
 
     /// Answers a row about lives. `life new` makes new files; `life killed BODIES` and `life closed BODIES` let a store
-    /// live over them, and `life full PLACE BODIES` one whose log has room up to that place; `life file FILE AT LEN` writes bytes
+    /// live over them, and `life full PLACE BODIES` one whose log has room up to that place, or `life filled PLACE BODIES`, where the bodies
+    /// arrive together; `life file FILE AT LEN` writes bytes
     /// that are in them afterwards.
     pub fn answer(
         &mut self,
@@ -199,8 +255,19 @@ impl Lives {
         words: &mut RowWords,
         page: &mut Page,
     ) -> Result<(), RowFault> {
-        if name == "cuts" {
-            return cuts(alloc, words, page);
+        let cut = match name {
+            "cuts" => Some(Cut {
+                count: 2,
+                is_together: false,
+            }),
+            "breaks" => Some(Cut {
+                count: 3,
+                is_together: true,
+            }),
+            _ => None,
+        };
+        if let Some(cut) = cut {
+            return cuts(alloc, words, cut, page);
         }
         if name == "new" {
             self.files = Some(created(alloc)?);
@@ -213,15 +280,13 @@ impl Lives {
         match name {
             "killed" => live(alloc, files, KILLED, &words.bodies(alloc), page),
             "closed" => live(alloc, files, CLOSED, &words.bodies(alloc), page),
-            "full" => {
-                let log_room = words.number();
-                live(
-                    alloc,
-                    files,
-                    Life { log_room, ..KILLED },
-                    &words.bodies(alloc),
-                    page,
-                )
+            "full" | "filled" => {
+                let life = Life {
+                    log_room: words.number(),
+                    is_together: name == "filled",
+                    ..KILLED
+                };
+                live(alloc, files, life, &words.bodies(alloc), page)
             }
             "file" => write_bytes(alloc, files, words, page),
             _ => Err(RowFault::NoRow),

@@ -79,6 +79,51 @@ fn tell(
     Ok(())
 }
 
+/// `store together BODIES`: hands the store messages that have arrived together, and writes how many it answers at once, and with which
+/// bytes, until all are answered. The server gets the same messages one by one; an answer that differs is written behind it.
+fn arrive(
+    alloc: Global,
+    store: &mut FileStore<MemoryPair>,
+    server: &mut Server,
+    messages: &[Vec<u8>],
+    page: &mut Page,
+) -> Result<(), RowFault> {
+    let mut rest = messages;
+    for _ in 0..messages.len() {
+        if rest.is_empty() {
+            break;
+        }
+        let (count, answer) = store.answer_group(alloc, rest)?;
+        let of_store = spelled(alloc, &answer)?;
+        page.part();
+        page.number(count);
+        page.page(&of_store);
+        for message in &rest[..count] {
+            let of_server = spelled(alloc, &server.answer(alloc, message)?)?;
+            if !of_store.is_like(&of_server) {
+                page.word("server");
+                page.page(&of_server);
+            }
+        }
+        rest = &rest[count..];
+    }
+    Ok(())
+}
+
+/// `store short BODIES`: writes how many messages a store without room answers at once, with which bytes, and why.
+fn arrive_full(
+    alloc: Global,
+    store: &mut FileStore<MemoryPair>,
+    messages: &[Vec<u8>],
+    page: &mut Page,
+) -> Result<(), RowFault> {
+    let (count, answer) = store.answer_group(alloc, messages)?;
+    page.number(count);
+    page.bytes(&answer);
+    write_failure(store, page);
+    Ok(())
+}
+
 /// Answers a row about the store alone.
 fn answer_of(
     alloc: Global,
@@ -89,6 +134,7 @@ fn answer_of(
 ) -> Result<(), RowFault> {
     match name {
         "alone" | "answer" | "full" | "put" => tell(alloc, store, name, words, page),
+        "short" => arrive_full(alloc, store, &words.bodies(alloc), page),
         "commit" => write_end(page, store.commit_puts()),
         "failure" => {
             write_failure(store, page);
@@ -169,6 +215,21 @@ impl Stores {
         }
     }
 
+    /// Answers a row about messages that arrive together.
+    fn together(
+        &mut self,
+        alloc: Global,
+        words: &mut RowWords,
+        page: &mut Page,
+    ) -> Result<(), RowFault> {
+        match (&mut self.store, &mut self.server) {
+            (Some(store), Some(server)) => {
+                arrive(alloc, store, server, &words.bodies(alloc), page)
+            }
+            _ => Err(RowFault::NoRow),
+        }
+    }
+
     /// Answers a row about a store.
     pub fn answer(
         &mut self,
@@ -182,6 +243,7 @@ impl Stores {
             "over" => self.over(alloc, words, page),
             "close" => self.close(page),
             "ask" | "bytes" => self.ask(alloc, name, words, page),
+            "together" => self.together(alloc, words, page),
             _ => match &mut self.store {
                 Some(store) => answer_of(alloc, store, name, words, page),
                 None => Err(RowFault::NoRow),

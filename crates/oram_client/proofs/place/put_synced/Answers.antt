@@ -1,5 +1,6 @@
 use Rattle.std.proofs.Common.{true, false, inl, inr}
 use Rattle.std.proofs.lemmas.Result.{IfErr-weaker}
+use Rattle.oram_rounds.specs.KeptParts.{text_of}
 use Rattle.oram_client.specs.KeptFile.{kept_file}
 use Rattle.oram_client.specs.Replacement.{Clears, IsBrokenOff, IsStepOf, deeds_of}
 use Rattle.oram_client.proofs.place.put_synced.Goals as goal
@@ -8,5 +9,5 @@ pub returns-clause-err : goal.returns-clause-err
 returns-clause-err g c =
     let does = g.P.Place.does in
     IfErr-weaker c.clear.result (λ why. does c.sync_folder.new.self Clears false c.clear.new.self × IsStepOf Clears why.step)
-    (λ why. IsBrokenOff does c.args.place.now (deeds_of true (kept_file c.args.head.now c.args.process.now)) why.step c.clear.new.self)
+    (λ why. IsBrokenOff does c.args.place.now (deeds_of true (kept_file c.args.head.now (text_of c.args.process.now))) why.step c.clear.new.self)
     (λ why failed. inr (c.write.new.self, c.in_ok-write.ensures.ok, inr (c.rename_into_place.new.self, c.in_ok-rename_into_place.ensures.ok, inr (c.sync_folder.new.self, c.in_ok-sync_folder.ensures.ok, inl failed)))) c.clear.ensures.err

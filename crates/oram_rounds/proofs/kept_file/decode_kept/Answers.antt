@@ -1,7 +1,10 @@
-use Rattle.std.proofs.Common.{List, ℕ, sym, ◌∙◌, subst}
+use Rattle.std.proofs.Common.{List, ℕ, ap, sym, ◌∙◌, ◌++◌, subst}
+use Rattle.oram_core.specs.Core.{scheme_of}
+use Rattle.oram_state.specs.AroundTable.{before_table}
+use Rattle.oram_rounds.specs.Files.{check_of, checksum, kept_text}
 use Rattle.oram_state.specs.DecodedCore.{AreSavedFields}
 use Rattle.oram_rounds.specs.Batches.{texts}
-use Rattle.oram_rounds.proofs.KeptText.{kept_same}
+use Rattle.oram_rounds.proofs.KeptText.{check_by, kept_same}
 use Rattle.oram_rounds.proofs.kept_file.decode_kept.Goals as goal
 
 pub returns-in-Ok-clause-ok : goal.returns-in-Ok-clause-ok
@@ -19,6 +22,25 @@ returns-in-Ok-clause-ok g c =
       },
       sym (c.in_ok-note.ensures.items_if_clones_equal (λ x y e. e)),
     )
+
+pub split_around_table-requires : goal.split_around_table-requires
+split_around_table-requires g c =
+    let core = c.in-Ok.core in
+    subst (λ s. AreSavedFields c.in_ok-parts.parts.fields.now (g.S.Sealer.cipher s).overhead core.device core.state) (sym c.in-Ok.ensures.sealer) c.in-Ok.ensures.core
+
+pub returns-in-Ok-clause-check : goal.returns-in-Ok-clause-check
+returns-in-Ok-clause-check g c =
+    let parts = c.in_ok-parts.parts in
+    let core = c.in-Ok.core in
+    let stores = texts parts.stores.items in
+    let overhead = (g.S.Sealer.cipher core.sealer).overhead in
+    let split = c.split_around_table in
+    let before = split.result.0.now in
+    let after = split.result.1.now in
+    c.check_of-check.ensures ∙ check_by stores parts.note.now parts.front.now before after c.in_ok-parts.ensures.front
+    ∙ ap (λ (b : List ℕ). checksum (kept_text stores parts.note.now (b ++ after))) split.ensures.before
+    ∙ ap (λ (b : List ℕ). checksum (kept_text stores parts.note.now (before_table overhead core.device core.state ++ b))) split.ensures.after
+    ∙ ap (λ (n : List ℕ). check_of (scheme_of g.S.Sealer.cipher core) stores n core.state) (sym (c.in_ok-note.ensures.items_if_clones_equal (λ x y e. e)))
 
 pub returns-in-Ok-clause-same : goal.returns-in-Ok-clause-same
 returns-in-Ok-clause-same g c = λ d stores core f.

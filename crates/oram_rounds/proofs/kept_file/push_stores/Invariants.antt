@@ -8,6 +8,6 @@ use Rattle.oram_rounds.proofs.kept_file.push_stores.Given as goal
 
 abbrev pub invariant-loop-store : goal.invariant-loop-store
 invariant-loop-store l = record {
-  written : l.file.items ≡ l.fn.file.items ++ (to_be_bytes w64 (length l.stores) ++ flat_map sized_text (take l.store-index (texts l.stores)));
+  written : l.text.items ≡ l.fn.text.items ++ (to_be_bytes w64 (length l.stores) ++ flat_map sized_text (take l.store-index (texts l.stores)));
   short : AreShort (take l.store-index (texts l.stores));
 }

@@ -33,49 +33,49 @@ use Rattle.oram_client.specs.contracts.deed_history.DeedHistory.note as it
 use Rattle.oram_client.proofs.deed_history.DeedHistory.note.Statement as stated
 use Rattle.oram_client.proofs.deed_history.DeedHistory.note.Code as code
 use denote.Ref.{Bor}
-use denote.Builtin.{u8, u64}
+use denote.Builtin.{u8, u32, u64}
 use denote.Exit.{yes}
 use denote.Slice.{ShrSlice, slice_val, shr_slice_vals, shr_slice_Tells}
 use denote.Triple.Walked.{stay_none_slice, Goes-none_slice}
 use Rattle.std.proofs.Common.{◌<◌, ◌^◌, length}
 
 abbrev Arg : Type 0
-Arg = MutBor DeedHistory × (Bor (List ℕ) × (Bor (List ℕ) × (Bor (List ℕ) × (Bor (List ℕ) × Unit {0}))))
+Arg = MutBor DeedHistory × (Bor (List ℕ) × (Bor (List ℕ) × (Bor (List ℕ) × (Bor (List ℕ) × (Bor (List ℕ) × (Bor (List ℕ) × Unit {0}))))))
 
 abbrev stayed : Stays (it.ended).signature.params (it.ended).kept
-stayed = (stay_ref (0 ∷ []) tt (plain (λ _. T.the_row)), (stay_none_slice (1 ∷ []) tt (plain (λ _. u64)) yes, (stay_none_slice (2 ∷ []) tt (plain (λ _. u8)) yes, (stay_none_slice (3 ∷ []) tt (plain (λ _. u8)) yes, (stay_none_slice (4 ∷ []) tt (plain (λ _. u8)) yes, tt)))))
+stayed = (stay_ref (0 ∷ []) tt (plain (λ _. T.the_row)), (stay_none_slice (1 ∷ []) tt (plain (λ _. u64)) yes, (stay_none_slice (2 ∷ []) tt (plain (λ _. u8)) yes, (stay_none_slice (3 ∷ []) tt (plain (λ _. u8)) yes, (stay_none_slice (4 ∷ []) tt (plain (λ _. u8)) yes, (stay_none_slice (5 ∷ []) tt (plain (λ _. u32)) yes, (stay_none_slice (6 ∷ []) tt (plain (λ _. u8)) yes, tt)))))))
 
-module _ {M : Type 1} {𝓤 : Ura M} (𝓛 : Logic 𝓤) (at_mem : Memory → SProp 𝓤) (run : Routine → Fun 𝓤) (κ κ₁ κ₂ κ₃ κ₄ : Lft) (q q₁ q₂ q₃ q₄ : Share) (b o : ℕ) (γ : GName) (h : DeedHistory) (k s t u : Bor (List ℕ)) where
+module _ {M : Type 1} {𝓤 : Ura M} (𝓛 : Logic 𝓤) (at_mem : Memory → SProp 𝓤) (run : Routine → Fun 𝓤) (κ κ₁ κ₂ κ₃ κ₄ κ₅ κ₆ : Lft) (q q₁ q₂ q₃ q₄ q₅ q₆ : Share) (b o : ℕ) (γ : GName) (h : DeedHistory) (k s t u v w : Bor (List ℕ)) where
   open 𝓛 use {H, A}
 
   abbrev x : Arg
-  x = (record { ref_ptr = (b, o); ghost_name = γ; now = h }, (k, (s, (t, (u, tt)))))
+  x = (record { ref_ptr = (b, o); ghost_name = γ; now = h }, (k, (s, (t, (u, (v, (w, tt)))))))
 
   abbrev h' : DeedHistory
-  h' = record { marker = h.marker; notes = noted_of k.now s.now t.now u.now ∷ h.notes }
+  h' = record { marker = h.marker; notes = noted_of k.now s.now t.now u.now v.now w.now ∷ h.notes }
 
-  abbrev at : List Val × (List Val × (List Val × (List Val × (List Val × Unit {0}))))
-  at = (vptr b o ∷ [], (slice_val k.ref_ptr (length k.now) ∷ [], (slice_val s.ref_ptr (length s.now) ∷ [], (slice_val t.ref_ptr (length t.now) ∷ [], (slice_val u.ref_ptr (length u.now) ∷ [], tt)))))
+  abbrev at : List Val × (List Val × (List Val × (List Val × (List Val × (List Val × (List Val × Unit {0}))))))
+  at = (vptr b o ∷ [], (slice_val k.ref_ptr (length k.now) ∷ [], (slice_val s.ref_ptr (length s.now) ∷ [], (slice_val t.ref_ptr (length t.now) ∷ [], (slice_val u.ref_ptr (length u.now) ∷ [], (slice_val v.ref_ptr (length v.now) ∷ [], (slice_val w.ref_ptr (length w.now) ∷ [], tt)))))))
 
   abbrev rest : base.Fml.Fml
-  rest = owns (ShrSlice (named 1) κ₁ u64 ∷ ShrSlice (named 2) κ₂ u8 ∷ ShrSlice (named 3) κ₃ u8 ∷ ShrSlice (named 4) κ₄ u8 ∷ []) x.1 at.1
+  rest = owns (ShrSlice (named 1) κ₁ u64 ∷ ShrSlice (named 2) κ₂ u8 ∷ ShrSlice (named 3) κ₃ u8 ∷ ShrSlice (named 4) κ₄ u8 ∷ ShrSlice (named 5) κ₅ u32 ∷ ShrSlice (named 6) κ₆ u8 ∷ []) x.1 at.1
 
   abbrev Post : Val → SProp 𝓤
-  Post = (walk_of 𝓛 it.ended stayed (it.clauses 𝓛 at_mem run)).post (((κ, (κ₁, (κ₂, (κ₃, (κ₄, tt))))), (q, (q₁, (q₂, (q₃, (q₄, tt))))), tt, x, at), tt)
+  Post = (walk_of 𝓛 it.ended stayed (it.clauses 𝓛 at_mem run)).post (((κ, (κ₁, (κ₂, (κ₃, (κ₄, (κ₅, (κ₆, tt))))))), (q, (q₁, (q₂, (q₃, (q₄, (q₅, (q₆, tt))))))), tt, x, at), tt)
 
-  exits : ent 𝓤 (sep 𝓤 (A.obs γ ((T.the_row).coded.code h')) (sep 𝓤 (A.bor κ (Body (mem T.the_row) b o γ)) (sep 𝓤 (A.lft κ q) (sep 𝓤 (types.Logic.sem 𝓛 rest) (sep 𝓤 (A.lft κ₁ q₁) (sep 𝓤 (A.lft κ₂ q₂) (sep 𝓤 (A.lft κ₃ q₃) (sep 𝓤 (A.lft κ₄ q₄) (emp 𝓤))))))))) (Post vunit)
+  exits : ent 𝓤 (sep 𝓤 (A.obs γ ((T.the_row).coded.code h')) (sep 𝓤 (A.bor κ (Body (mem T.the_row) b o γ)) (sep 𝓤 (A.lft κ q) (sep 𝓤 (types.Logic.sem 𝓛 rest) (sep 𝓤 (A.lft κ₁ q₁) (sep 𝓤 (A.lft κ₂ q₂) (sep 𝓤 (A.lft κ₃ q₃) (sep 𝓤 (A.lft κ₄ q₄) (sep 𝓤 (A.lft κ₅ q₅) (sep 𝓤 (A.lft κ₆ q₆) (emp 𝓤))))))))))) (Post vunit)
   exits =
-      qed 𝓛 (‵ (fobs γ ((T.the_row).coded.code h')) ∷ ‵ (fbor κ (Body (mem T.the_row) b o γ)) ∷ ‵ (flft κ q) ∷ ‵ rest ∷ (‵ (flft κ₁ q₁) ⊛ (‵ (flft κ₂ q₂) ⊛ (‵ (flft κ₃ q₃) ⊛ (‵ (flft κ₄ q₄) ⊛ ‵ ftrue)))) ∷ []) ∵
-      suffices ! _ (ends_at 𝓛 it.ended stayed (it.clauses 𝓛 at_mem run) (((κ, (κ₁, (κ₂, (κ₃, (κ₄, tt))))), (q, (q₁, (q₂, (q₃, (q₄, tt))))), tt, x, at), tt) vunit tt (h', (tt, (tt, (tt, (tt, tt))))) (tt, (tt, (tt, (tt, (tt, tt)))))) $ says ! refl $ move ! (2 ∷ 4 ∷ []) $ join ! $
+      qed 𝓛 (‵ (fobs γ ((T.the_row).coded.code h')) ∷ ‵ (fbor κ (Body (mem T.the_row) b o γ)) ∷ ‵ (flft κ q) ∷ ‵ rest ∷ (‵ (flft κ₁ q₁) ⊛ (‵ (flft κ₂ q₂) ⊛ (‵ (flft κ₃ q₃) ⊛ (‵ (flft κ₄ q₄) ⊛ (‵ (flft κ₅ q₅) ⊛ (‵ (flft κ₆ q₆) ⊛ ‵ ftrue)))))) ∷ []) ∵
+      suffices ! _ (ends_at 𝓛 it.ended stayed (it.clauses 𝓛 at_mem run) (((κ, (κ₁, (κ₂, (κ₃, (κ₄, (κ₅, (κ₆, tt))))))), (q, (q₁, (q₂, (q₃, (q₄, (q₅, (q₆, tt))))))), tt, x, at), tt) vunit tt (h', (tt, (tt, (tt, (tt, (tt, (tt, tt))))))) (tt, (tt, (tt, (tt, (tt, (tt, (tt, tt)))))))) $ says ! refl $ move ! (2 ∷ 4 ∷ []) $ join ! $
       frame ! $ feq_i ! (List Val) (vptr b o ∷ []) (vptr b o ∷ []) refl $ fjoin3 ! $ fjoin ! $
       feq_i ! (List Val) (vunit ∷ []) (vunit ∷ []) refl $ move ! (1 ∷ 0 ∷ []) $ done !
 
   module _ (C : Calls 𝓤 H) (Λ : Loops 𝓤 H) where
-    walk : length k.now < 2 ^ 64 → length s.now < 2 ^ 64 → length t.now < 2 ^ 64 → length u.now < 2 ^ 64 → ent 𝓤 (on_entry 𝓛 it.signature (κ, (κ₁, (κ₂, (κ₃, (κ₄, tt))))) (q, (q₁, (q₂, (q₃, (q₄, tt))))) x at) (WpFn 𝓤 H C Λ code.function (vptr b o ∷ slice_val k.ref_ptr (length k.now) ∷ slice_val s.ref_ptr (length s.now) ∷ slice_val t.ref_ptr (length t.now) ∷ slice_val u.ref_ptr (length u.now) ∷ []) Post)
-    walk fk fs ft fu =
-        qed 𝓛 ((‵ (flft κ q) ⊛ (‵ (flft κ₁ q₁) ⊛ (‵ (flft κ₂ q₂) ⊛ (‵ (flft κ₃ q₃) ⊛ (‵ (flft κ₄ q₄) ⊛ ‵ ftrue))))) ∷ ‵ (owns (MutRef (named 0) κ T.the_row ∷ ShrSlice (named 1) κ₁ u64 ∷ ShrSlice (named 2) κ₂ u8 ∷ ShrSlice (named 3) κ₃ u8 ∷ ShrSlice (named 4) κ₄ u8 ∷ []) x at) ∷ []) ∵ split ! $ move ! (2 ∷ []) $ fsplit ! $ fsplit3 ! $ drop ! $ move ! (0 ∷ 1 ∷ 3 ∷ []) $
-        enter ! C Λ code.function (vptr b o ∷ slice_val k.ref_ptr (length k.now) ∷ slice_val s.ref_ptr (length s.now) ∷ slice_val t.ref_ptr (length t.now) ∷ slice_val u.ref_ptr (length u.now) ∷ []) _ $
-        alloc_all ! (λ l. pass_all ! refl ((tt, tt), ((tt, (tt, (record { fits = fk }, tt))), ((tt, (tt, (record { fits = fs }, tt))), ((tt, (tt, (record { fits = ft }, tt))), ((tt, (tt, (record { fits = fu }, tt))), tt))))) $
+    walk : length k.now < 2 ^ 64 → length s.now < 2 ^ 64 → length t.now < 2 ^ 64 → length u.now < 2 ^ 64 → length v.now < 2 ^ 64 → length w.now < 2 ^ 64 → ent 𝓤 (on_entry 𝓛 it.signature (κ, (κ₁, (κ₂, (κ₃, (κ₄, (κ₅, (κ₆, tt))))))) (q, (q₁, (q₂, (q₃, (q₄, (q₅, (q₆, tt))))))) x at) (WpFn 𝓤 H C Λ code.function (vptr b o ∷ slice_val k.ref_ptr (length k.now) ∷ slice_val s.ref_ptr (length s.now) ∷ slice_val t.ref_ptr (length t.now) ∷ slice_val u.ref_ptr (length u.now) ∷ slice_val v.ref_ptr (length v.now) ∷ slice_val w.ref_ptr (length w.now) ∷ []) Post)
+    walk fk fs ft fu fv fw =
+        qed 𝓛 ((‵ (flft κ q) ⊛ (‵ (flft κ₁ q₁) ⊛ (‵ (flft κ₂ q₂) ⊛ (‵ (flft κ₃ q₃) ⊛ (‵ (flft κ₄ q₄) ⊛ (‵ (flft κ₅ q₅) ⊛ (‵ (flft κ₆ q₆) ⊛ ‵ ftrue))))))) ∷ ‵ (owns (MutRef (named 0) κ T.the_row ∷ ShrSlice (named 1) κ₁ u64 ∷ ShrSlice (named 2) κ₂ u8 ∷ ShrSlice (named 3) κ₃ u8 ∷ ShrSlice (named 4) κ₄ u8 ∷ ShrSlice (named 5) κ₅ u32 ∷ ShrSlice (named 6) κ₆ u8 ∷ []) x at) ∷ []) ∵ split ! $ move ! (2 ∷ []) $ fsplit ! $ fsplit3 ! $ drop ! $ move ! (0 ∷ 1 ∷ 3 ∷ []) $
+        enter ! C Λ code.function (vptr b o ∷ slice_val k.ref_ptr (length k.now) ∷ slice_val s.ref_ptr (length s.now) ∷ slice_val t.ref_ptr (length t.now) ∷ slice_val u.ref_ptr (length u.now) ∷ slice_val v.ref_ptr (length v.now) ∷ slice_val w.ref_ptr (length w.now) ∷ []) _ $
+        alloc_all ! (λ l. pass_all ! refl ((tt, tt), ((tt, (tt, (record { fits = fk }, tt))), ((tt, (tt, (record { fits = fs }, tt))), ((tt, (tt, (record { fits = ft }, tt))), ((tt, (tt, (record { fits = fu }, tt))), ((tt, (tt, (record { fits = fv }, tt))), ((tt, (tt, (record { fits = fw }, tt))), tt))))))) $
         move ! (0 ∷ 1 ∷ 2 ∷ []) $ opens ! tt T.the_row {h = h} b o (λ vs.
         sets ! (of_opd ! (unit_lit !)) refl (tt, tt) $
         move ! (1 ∷ []) $ use1 𝓛 (‵ ((T.the_row).own_val h' vs)) (id⊢ 𝓤 _) $ move ! (1 ∷ 0 ∷ []) $ closes ! tt T.the_row h' vs b o $
@@ -86,11 +86,11 @@ module _ {M : Type 1} {𝓤 : Ura M} (𝓛 : Logic 𝓤) (at_mem : Memory → SP
   open 𝓛 use {H}
 
   walks : (C : Calls 𝓤 H) (Λ : Loops 𝓤 H) → Walks 𝓛 it.ended stayed (WpFn 𝓤 H C Λ code.function) (it.clauses 𝓛 at_mem run)
-  walks C Λ = walked 𝓛 it.ended stayed (it.clauses 𝓛 at_mem run) (WpFn 𝓤 H C Λ code.function) (λ κs. (mut_vals, (shr_slice_vals, (shr_slice_vals, (shr_slice_vals, (shr_slice_vals, tt)))))) (λ κs. (mut_Tells (named 0) κs.0 T.the_row, (shr_slice_Tells (named 1) κs.1.0 u64, (shr_slice_Tells (named 2) κs.1.1.0 u8, (shr_slice_Tells (named 3) κs.1.1.1.0 u8, (shr_slice_Tells (named 4) κs.1.1.1.1.0 u8, tt))))))
-      (λ κs qs bounds a _ are. via 𝓤 _ (fst∗ 𝓤 _ (emp 𝓤)) (walk 𝓛 at_mem run κs.0 κs.1.0 κs.1.1.0 κs.1.1.1.0 κs.1.1.1.1.0 qs.0 qs.1.0 qs.1.1.0 qs.1.1.1.0 qs.1.1.1.1.0 a.0.ref_ptr.0 a.0.ref_ptr.1 a.0.ghost_name a.0.now a.1.0 a.1.1.0 a.1.1.1.0 a.1.1.1.1.0 C Λ are.1.0.0.1.0 are.1.1.0.0.1.0 are.1.1.1.0.0.1.0 are.1.1.1.1.0.0.1.0))
+  walks C Λ = walked 𝓛 it.ended stayed (it.clauses 𝓛 at_mem run) (WpFn 𝓤 H C Λ code.function) (λ κs. (mut_vals, (shr_slice_vals, (shr_slice_vals, (shr_slice_vals, (shr_slice_vals, (shr_slice_vals, (shr_slice_vals, tt)))))))) (λ κs. (mut_Tells (named 0) κs.0 T.the_row, (shr_slice_Tells (named 1) κs.1.0 u64, (shr_slice_Tells (named 2) κs.1.1.0 u8, (shr_slice_Tells (named 3) κs.1.1.1.0 u8, (shr_slice_Tells (named 4) κs.1.1.1.1.0 u8, (shr_slice_Tells (named 5) κs.1.1.1.1.1.0 u32, (shr_slice_Tells (named 6) κs.1.1.1.1.1.1.0 u8, tt))))))))
+      (λ κs qs bounds a _ are. via 𝓤 _ (fst∗ 𝓤 _ (emp 𝓤)) (walk 𝓛 at_mem run κs.0 κs.1.0 κs.1.1.0 κs.1.1.1.0 κs.1.1.1.1.0 κs.1.1.1.1.1.0 κs.1.1.1.1.1.1.0 qs.0 qs.1.0 qs.1.1.0 qs.1.1.1.0 qs.1.1.1.1.0 qs.1.1.1.1.1.0 qs.1.1.1.1.1.1.0 a.0.ref_ptr.0 a.0.ref_ptr.1 a.0.ghost_name a.0.now a.1.0 a.1.1.0 a.1.1.1.0 a.1.1.1.1.0 a.1.1.1.1.1.0 a.1.1.1.1.1.1.0 C Λ are.1.0.0.1.0 are.1.1.0.0.1.0 are.1.1.1.0.0.1.0 are.1.1.1.1.0.0.1.0 are.1.1.1.1.1.0.0.1.0 are.1.1.1.1.1.1.0.0.1.0))
 
-  goes : AllGo 𝓛 5 (it.signature).params (it.ended).kept stayed
-  goes = (Goes-ref 𝓛 5 0 tt (plain (λ _. T.the_row)), (Goes-none_slice 𝓛 5 (1 ∷ []) tt (plain (λ _. u64)) yes, (Goes-none_slice 𝓛 5 (2 ∷ []) tt (plain (λ _. u8)) yes, (Goes-none_slice 𝓛 5 (3 ∷ []) tt (plain (λ _. u8)) yes, (Goes-none_slice 𝓛 5 (4 ∷ []) tt (plain (λ _. u8)) yes, tt)))))
+  goes : AllGo 𝓛 7 (it.signature).params (it.ended).kept stayed
+  goes = (Goes-ref 𝓛 7 0 tt (plain (λ _. T.the_row)), (Goes-none_slice 𝓛 7 (1 ∷ []) tt (plain (λ _. u64)) yes, (Goes-none_slice 𝓛 7 (2 ∷ []) tt (plain (λ _. u8)) yes, (Goes-none_slice 𝓛 7 (3 ∷ []) tt (plain (λ _. u8)) yes, (Goes-none_slice 𝓛 7 (4 ∷ []) tt (plain (λ _. u8)) yes, (Goes-none_slice 𝓛 7 (5 ∷ []) tt (plain (λ _. u32)) yes, (Goes-none_slice 𝓛 7 (6 ∷ []) tt (plain (λ _. u8)) yes, tt)))))))
 
 meets : {M : Type 1} {𝓤 : Ura M} (𝓛 : Logic 𝓤) → (at_mem : Memory → SProp 𝓤) (run : Routine → Fun 𝓤) (𝓣 : Tables 𝓤 𝓛.H)
     → Meets 𝓛 it.signature (WpFn 𝓤 𝓛.H 𝓣.C 𝓣.Λ code.function) (it.spec 𝓛 at_mem run)

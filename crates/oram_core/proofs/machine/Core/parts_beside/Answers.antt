@@ -2,11 +2,8 @@ use Rattle.std.proofs.Common.{refl}
 use Rattle.std.proofs.lemmas.Result.{IfOk-from_err}
 use Rattle.oram_core.proofs.machine.Core.parts_beside.Goals as goal
 
-pub returns-in_err-table_copy : goal.returns-in_err-table_copy
-returns-in_err-table_copy g c = IfOk-from_err c.from_residual.result _ c.from_residual.ensures.0
-
 pub returns-in_err-pendings : goal.returns-in_err-pendings
-returns-in_err-pendings g c = IfOk-from_err c.from_residual-in_err-pendings.result _ c.from_residual-in_err-pendings.ensures.0
+returns-in_err-pendings g c = IfOk-from_err c.from_residual.result _ c.from_residual.ensures.0
 
 pub returns-in_err-copy : goal.returns-in_err-copy
 returns-in_err-copy g c = IfOk-from_err c.from_residual-in_err-copy.result _ c.from_residual-in_err-copy.ensures.0

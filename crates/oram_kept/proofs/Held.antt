@@ -1,0 +1,125 @@
+-- What the files hold after a keeping, and whenever a crash comes.
+use Rattle.std.proofs.Common.{◌≡◌, inl, inr, ℕ, ◌*◌, ◌<◌, ◌≤◌, List, [], ◌∷◌, ◌++◌, length, refl, sym, ap, ◌∙◌, subst, arith, length-append}
+use Rattle.std.specs.Prelude.{All, Result, Ok, Err, OnOk}
+use Rattle.std.specs.List.{flat_map}
+use Rattle.oram_kept.specs.Kept.{Finds, FindsEither, Keeps, KeptValue, StandsEither, bounds}
+use Rattle.oram_kept.specs.Layout.{HasTable, HaveRoom, Holds, after_at, before_at, eight_bytes, head_of, lengths, numbers_on, page_at, page_of, pages_for, check_of}
+use Rattle.oram_kept.specs.Pages.{AreWithin}
+use Rattle.oram_kept.specs.Text.{Parts}
+use Rattle.std.proofs.lemmas.List.Elements.{All-append, All-cons}
+use Rattle.oram_kept.proofs.Tables.{length-page-within}
+use Rattle.oram_kept.proofs.Written.{all_one}
+use Rattle.oram_redo.specs.Content.{Agrees, Content, Has, put}
+use Rattle.oram_redo.specs.FilePair.{Contents, FileModel, LeavesOnly}
+use Rattle.oram_redo.specs.Redo.{IsCrashConsistent, bounds_of}
+use Rattle.oram_redo.specs.declared.bounds.Bounds.{Bounds}
+use Rattle.oram_redo.specs.declared.file_pair.FileKind.TheVariants.{Records}
+use Rattle.oram_redo.specs.Log.{Fits, Patch, StandsFor, check_bytes, put_all}
+use Rattle.oram_redo.proofs.Bytes.{has-put, has_same, put_outside}
+use Rattle.oram_redo.proofs.Consistent.{keeps_now}
+use Rattle.oram_redo.proofs.Heal.{put_all-append}
+use Rattle.oram_redo.proofs.Logs.{length-check_bytes}
+use Rattle.oram_redo.proofs.Moments.{same_content, started}
+
+pub length-eight : (n : ℕ) → length (eight_bytes n) ≡ 8
+unfolding eight_bytes
+length-eight n = refl
+
+length-eights : (ns : List ℕ) → length (flat_map eight_bytes ns) ≡ 8 * length ns
+length-eights [] = refl
+length-eights (n ∷ ns) = omega (arith, length-append (eight_bytes n) (flat_map eight_bytes ns), length-eight n, length-eights ns)
+
+pub length-head : (p : Parts) → length (head_of p) ≡ 40
+length-head p =
+    let said = length-eights (length p.before ∷ length p.table ∷ length p.after ∷ check_of p.before p.after ∷ []) in
+    omega (arith, length-append (lengths p) (check_bytes (lengths p)), length-check_bytes (lengths p), said)
+
+-- the batch of a keeping
+abbrev pub batch_of : List Patch → Parts → List ℕ → List Patch
+batch_of pages p head = pages ++ (before_at p, p.before) ∷ (after_at p, p.after) ∷ (4096, head) ∷ []
+
+-- Once the batch is put, the text is held.
+pub held : (old : List ℕ) (p : Parts) (pages : List Patch) (head : List ℕ) (c : Content) → HaveRoom p → head ≡ head_of p
+    → ((d : Content) → HasTable old d → HasTable p.table (put_all pages d)) → HasTable old c
+    → Holds p (put_all (batch_of pages p head) c)
+held old p pages head c room is written has =
+    subst (λ (e : Content). Holds p e) (sym whole)
+    (record {
+      room = room;
+      head = subst (λ (l : List ℕ). Has l 4096 (put head 4096 d3)) is (has-put head 4096 d3);
+      table = λ i within.
+          has_same (page_of (numbers_on p.table i)) (page_at i) d1 d4
+          (λ x from to. unchanged x (omega arith) (omega (arith, within, to, length-page-within p.table i)))
+          (written c has i within);
+      before = has_same p.before (before_at p) d2 d4 (λ x from to. put_outside head 4096 d3 x (inr (omega (arith, long))) ∙ put_outside p.after (after_at p) d2 x (inl to)) (has-put p.before (before_at p) d1);
+      after = has_same p.after (after_at p) d3 d4 (λ x from to. put_outside head 4096 d3 x (inr (omega (arith, long)))) (has-put p.after (after_at p) d2);
+    })
+  where
+    d1 : Content
+    d1 = put_all pages c
+
+    d2 : Content
+    d2 = put p.before (before_at p) d1
+
+    d3 : Content
+    d3 = put p.after (after_at p) d2
+
+    d4 : Content
+    d4 = put head 4096 d3
+
+    long : length head ≡ 40
+    long = ap length is ∙ length-head p
+
+    whole : put_all (batch_of pages p head) c ≡ put head 4096 (put p.after (after_at p) (put p.before (before_at p) (put_all pages c)))
+    whole = put_all-append pages ((before_at p, p.before) ∷ (after_at p, p.after) ∷ (4096, head) ∷ []) c
+
+    unchanged : (x : ℕ) → 8192 ≤ x → x < before_at p → put head 4096 d3 x ≡ d1 x
+    unchanged x from to =
+        put_outside head 4096 d3 x (inr (omega (arith, long))) ∙ put_outside p.after (after_at p) d2 x (inl (omega arith)) ∙ put_outside p.before (before_at p) d1 x (inl to)
+
+-- the batch fits
+pub batch_fits : (p : Parts) (pages : List Patch) (head : List ℕ) → HaveRoom p → length head ≡ 40 → AreWithin (pages_for (length p.table)) pages
+    → All (Fits bounds) (batch_of pages p head)
+batch_fits p pages head room long within =
+    All-append (Fits bounds) pages ((before_at p, p.before) ∷ (after_at p, p.after) ∷ (4096, head) ∷ [])
+    (λ k d below. let ends = within.ends k d below in record { within = omega (arith, ends.before, room.table); place_fits = omega (arith, ends.before, room.table); length_fits = omega (arith, ends.short) })
+    (All-cons (Fits bounds) (before_at p, p.before) ((after_at p, p.after) ∷ (4096, head) ∷ []) (record { within = omega (arith, room.before, room.table); place_fits = omega (arith, room.table); length_fits = room.before })
+    (All-cons (Fits bounds) (after_at p, p.after) ((4096, head) ∷ []) (record { within = omega (arith, room.before, room.table, room.after); place_fits = omega (arith, room.table, room.before); length_fits = room.after })
+    (all_one (Fits bounds) (4096, head) (record { within = omega (arith, long); place_fits = omega arith; length_fits = omega (arith, long) }))))
+
+-- a text that was kept is found in files that stand for its records
+pub found : (p : Parts) (r : Content) (c : Contents) → Holds p r → StandsFor bounds [] r c → Finds bounds p c
+found p r c holds stands = record { records = r; stands = stands; holds = holds }
+
+pub found_either : (p q : Parts) (r s : Content) (c : Contents) → Holds p r → Holds q s → StandsEither bounds r s c → FindsEither bounds p q c
+found_either p q r s c holds_p holds_q (inl stands) = inl (found p r c holds_p stands)
+found_either p q r s c holds_p holds_q (inr stands) = inr (found q s c holds_q stands)
+
+pub stands_along : (a b : Bounds) (r s : Content) (c : Contents) → a ≡ b → r ≡ s → StandsFor a [] r c → StandsFor b [] s c
+stands_along a b r s c same_bounds same stands =
+    subst (λ (e : Bounds). StandsFor e [] s c) same_bounds (subst (λ (t : Content). StandsFor a [] t c) same stands)
+
+-- between two calls, whatever a crash leaves has the text
+pub kept_found : {F : Type 0} (model : FileModel F) (p : Parts) (k : KeptValue F) → bounds_of k.redo ≡ bounds → Keeps model p k
+    → (c : Contents) → model.may_leave k.files c → Finds bounds p c
+kept_found model p k bounded keeps c left =
+    let seen : Content = model.seen k.files Records in
+    let now = keeps_now k.redo [] (model.seen k.files) (model.may_leave k.files) keeps.consistent c left in
+    found p seen c keeps.holds (stands_along (bounds_of k.redo) bounds seen seen c bounded refl now.stands)
+
+-- a call that did nothing to the files
+pub nothing_done : {F : Type 0} (model : FileModel F) (p q : Parts) (k : KeptValue F) → bounds_of k.redo ≡ bounds → Keeps model p k
+    → ((c : Contents) → model.left_since k.files (model.moment k.files) c → model.may_leave k.files c) → LeavesOnly model k.files k.files (FindsEither bounds p q)
+nothing_done model p q k bounded keeps only_now =
+    started model k.files (FindsEither bounds p q) (λ c left. inl (kept_found model p k bounded keeps c (only_now c left)))
+
+-- the text is kept, once the batch is committed
+pub kept_after : {F T E : Type 0} (model : FileModel F) (q : Parts) (k : KeptValue F) (result : Result T E) (c : Content)
+    → Holds q c → k.table ≡ q.table
+    → OnOk result (IsCrashConsistent model k.redo [] k.files) → OnOk result (Agrees (model.seen k.files Records) c) → OnOk result (Keeps model q k)
+kept_after model q k (Ok x) c holds table consistent same = record {
+  consistent = consistent;
+  holds = subst (λ (d : Content). Holds q d) (sym (same_content (model.seen k.files Records) c same)) holds;
+  table = table;
+}
+kept_after model q k (Err e) c holds table consistent same = tt

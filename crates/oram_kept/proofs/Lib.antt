@@ -1,0 +1,5 @@
+pub mod Tables
+pub mod Written
+pub mod Held
+pub mod One
+pub mod WorkedRows

@@ -1,0 +1,83 @@
+use Rattle.std.proofs.Common.{◌≡◌, ℕ, ◌∷◌, [], ◌++◌, List, length, ap, sym, subst, ◌∙◌}
+use Rattle.std.specs.Prelude.{All}
+use Rattle.oram_redo.specs.Batch.{patches_of}
+use Rattle.oram_redo.specs.Content.{Content}
+use Rattle.oram_redo.specs.FilePair.{LeavesOnly}
+use Rattle.oram_redo.specs.Log.{Fits, Patch, put_all}
+use Rattle.oram_redo.specs.Redo.{IsCrashConsistent}
+use Rattle.oram_redo.specs.declared.bounds.Bounds.{Bounds}
+use Rattle.oram_redo.specs.declared.file_pair.FileKind.TheVariants.{Records}
+use Rattle.oram_redo.proofs.Moments.{leads_to}
+use Rattle.oram_kept.specs.Kept.{FindsEither, Keeps, KeptValue, StandsEither, bounds}
+use Rattle.oram_kept.specs.Layout.{HasTable, Holds}
+use Rattle.oram_kept.specs.Pages.{parts_of, patches_of as pages_of}
+use Rattle.oram_kept.specs.Text.{Parts}
+use Rattle.oram_kept.proofs.Held.{batch_fits, batch_of, found_either, held, kept_after, length-head, nothing_done}
+use Rattle.oram_kept.proofs.kept_text.KeptText.put.Goals as goal
+
+pub returns-in_err-change-clause-any_moment : goal.returns-in_err-change-clause-any_moment
+returns-in_err-change-clause-any_moment g c p keeps =
+    let model = g.F.FilePair.model in
+    let inside : KeptValue g.row.F.Denot = record { files = c.self.inside.files; redo = c.self.inside.redo; table = c.self.inside.table.items; has_stopped = c.self.inside.has_stopped } in
+    let kept : Keeps model p inside = subst (λ (v : KeptValue g.row.F.Denot). Keeps model p v) (sym c.self.view_is) keeps in
+    let q : Parts = parts_of c.args.text.now in
+    subst (λ (v : KeptValue g.row.F.Denot). LeavesOnly model v.files c.self.inside.files (FindsEither bounds p q)) c.self.view_is
+    (nothing_done model p q inside c.self.invariant kept (λ d left. g.met.F.FilePair.only_now c.self.inside.files d left))
+
+pub returns-in_err-batch-clause-any_moment : goal.returns-in_err-batch-clause-any_moment
+returns-in_err-batch-clause-any_moment g c p keeps =
+    let model = g.F.FilePair.model in
+    let inside : KeptValue g.row.F.Denot = record { files = c.self.inside.files; redo = c.self.inside.redo; table = c.self.inside.table.items; has_stopped = c.self.inside.has_stopped } in
+    let kept : Keeps model p inside = subst (λ (v : KeptValue g.row.F.Denot). Keeps model p v) (sym c.self.view_is) keeps in
+    let q : Parts = parts_of c.args.text.now in
+    subst (λ (v : KeptValue g.row.F.Denot). LeavesOnly model v.files c.self.inside.files (FindsEither bounds p q)) c.self.view_is
+    (nothing_done model p q inside c.self.invariant kept (λ d left. g.met.F.FilePair.only_now c.self.inside.files d left))
+
+pub commit-requires : goal.commit-requires
+commit-requires g c =
+    let q : Parts = parts_of c.args.text.now in
+    let change = c.in_ok-change.change in
+    let batch : patches_of c.deref-3.result.now ≡ batch_of (pages_of change.pages.items) q change.head.items =
+    ap patches_of c.deref-3.ensures.value ∙ c.in_ok-batch.ensures
+    ∙ (λ i. pages_of (c.deref-2.ensures.value i) ++ (c.before_at.ensures i, q.before) ∷ (c.after_at.ensures i, q.after) ∷ (4096, c.deref.ensures.value i) ∷ []) in
+    let fits : All (Fits bounds) (batch_of (pages_of change.pages.items) q change.head.items) =
+    batch_fits q (pages_of change.pages.items) change.head.items c.in_ok-change.ensures.room (ap length c.in_ok-change.ensures.head ∙ length-head q) c.in_ok-change.ensures.within in
+    subst (λ (b : Bounds). All (Fits b) (patches_of c.deref-3.result.now)) (sym c.self.invariant) (subst (λ (ps : List Patch). All (Fits bounds) ps) (sym batch) fits)
+
+pub returns-clause-ok : goal.returns-clause-ok
+returns-clause-ok g c consistent has =
+    let model = g.F.FilePair.model in
+    let inside : KeptValue g.row.F.Denot = record { files = c.self.inside.files; redo = c.self.inside.redo; table = c.self.inside.table.items; has_stopped = c.self.inside.has_stopped } in
+    let q : Parts = parts_of c.args.text.now in
+    let change = c.in_ok-change.change in
+    let seen : Content = model.seen c.self.inside.files Records in
+    let batch : patches_of c.deref-3.result.now ≡ batch_of (pages_of change.pages.items) q change.head.items =
+    ap patches_of c.deref-3.ensures.value ∙ c.in_ok-batch.ensures
+    ∙ (λ i. pages_of (c.deref-2.ensures.value i) ++ (c.before_at.ensures i, q.before) ∷ (c.after_at.ensures i, q.after) ∷ (4096, c.deref.ensures.value i) ∷ []) in
+    let has_inside : HasTable c.self.inside.table.items seen = subst (λ (v : KeptValue g.row.F.Denot). HasTable v.table (model.seen v.files Records)) (sym c.self.view_is) has in
+    let sure : IsCrashConsistent model c.self.inside.redo [] c.self.inside.files = subst (λ (v : KeptValue g.row.F.Denot). IsCrashConsistent model v.redo [] v.files) (sym c.self.view_is) consistent in
+    let holds : Holds q (put_all (patches_of c.deref-3.result.now) seen) =
+    subst (λ (ps : List Patch). Holds q (put_all ps seen)) (sym batch)
+    (held c.self.inside.table.items q (pages_of change.pages.items) change.head.items seen c.in_ok-change.ensures.room c.in_ok-change.ensures.head c.in_ok-change.ensures.pages has_inside) in
+    kept_after model q _ c.commit.result (put_all (patches_of c.deref-3.result.now) seen) holds c.in_ok-change.ensures.table
+    (c.commit.ensures.consistent sure) c.commit.ensures.records
+
+pub returns-clause-any_moment : goal.returns-clause-any_moment
+returns-clause-any_moment g c p keeps =
+    let model = g.F.FilePair.model in
+    let inside : KeptValue g.row.F.Denot = record { files = c.self.inside.files; redo = c.self.inside.redo; table = c.self.inside.table.items; has_stopped = c.self.inside.has_stopped } in
+    let kept : Keeps model p inside = subst (λ (v : KeptValue g.row.F.Denot). Keeps model p v) (sym c.self.view_is) keeps in
+    let q : Parts = parts_of c.args.text.now in
+    let change = c.in_ok-change.change in
+    let seen : Content = model.seen c.self.inside.files Records in
+    let batch : patches_of c.deref-3.result.now ≡ batch_of (pages_of change.pages.items) q change.head.items =
+    ap patches_of c.deref-3.ensures.value ∙ c.in_ok-batch.ensures
+    ∙ (λ i. pages_of (c.deref-2.ensures.value i) ++ (c.before_at.ensures i, q.before) ∷ (c.after_at.ensures i, q.after) ∷ (4096, c.deref.ensures.value i) ∷ []) in
+    let has : HasTable c.self.inside.table.items seen = subst (λ (t : List ℕ). HasTable t seen) (sym kept.table) kept.holds.table in
+    let holds : Holds q (put_all (patches_of c.deref-3.result.now) seen) =
+    subst (λ (ps : List Patch). Holds q (put_all ps seen)) (sym batch)
+    (held c.self.inside.table.items q (pages_of change.pages.items) change.head.items seen c.in_ok-change.ensures.room c.in_ok-change.ensures.head c.in_ok-change.ensures.pages has) in
+    subst (λ (v : KeptValue g.row.F.Denot). LeavesOnly model v.files c.commit.new.files (FindsEither bounds p q)) c.self.view_is
+    (leads_to model c.self.inside.files c.commit.new.files _ (FindsEither bounds p q) (c.commit.ensures.any_moment kept.consistent)
+    (λ d stands. found_either p q seen (put_all (patches_of c.deref-3.result.now) seen) d kept.holds holds
+    (subst (λ (b : Bounds). StandsEither b seen (put_all (patches_of c.deref-3.result.now) seen) d) c.self.invariant stands)))

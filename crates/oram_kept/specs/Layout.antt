@@ -1,0 +1,65 @@
+-- Where the parts of a text stand in a file.
+use Rattle.std.specs.Prelude.{◌<◌, ℕ, ◌+◌, ◌*◌, ◌/◌, ◌^◌, List, [], ◌∷◌, ◌++◌, length, take, drop, All}
+use Rattle.std.specs.Hash.DefaultHasher as sip
+use Rattle.std.specs.Int.{w64, to_le_bytes}
+use Rattle.std.specs.List.{flat_map}
+use Rattle.oram_redo.specs.Content.{Content, Has}
+use Rattle.oram_redo.specs.Log.{check_bytes}
+use Rattle.oram_kept.specs.Text.{Parts, number_bytes}
+
+-- The table stands in pages of 1,024 bytes, from byte 8,192 on. A page has room for 254 numbers and a checksum.
+abbrev pub page_at : ℕ → ℕ
+page_at i = 8192 + i * 1024
+
+-- the number of pages that a table of n numbers takes
+abbrev pub pages_for : ℕ → ℕ
+pages_for n = (n + 253) / 254
+
+-- the numbers on the page with this index
+abbrev pub numbers_on : List ℕ → ℕ → List ℕ
+numbers_on table i = take 254 (drop (i * 254) table)
+
+-- a page: the numbers, and the checksum of their bytes
+abbrev pub page_of : List ℕ → List ℕ
+page_of numbers = flat_map number_bytes numbers ++ check_bytes (flat_map number_bytes numbers)
+
+-- the content has each page of this table
+abbrev pub HasTable : List ℕ → Content → Type 0
+HasTable table c = (i : ℕ) → i < pages_for (length table) → Has (page_of (numbers_on table i)) (page_at i) c
+
+-- The text before the table stands behind the last page, and the text behind the table after it.
+abbrev pub before_at : Parts → ℕ
+before_at p = page_at (pages_for (length p.table))
+
+abbrev pub after_at : Parts → ℕ
+after_at p = before_at p + length p.before
+
+-- SipHash-1-3 with keys of zeros, over the text before the table and then the one behind it
+unfoldable pub check_of : List ℕ → List ℕ → ℕ
+check_of before after = sip.finish (sip.write (sip.write sip.initial before) after)
+
+unfoldable pub eight_bytes : ℕ → List ℕ
+eight_bytes number = to_le_bytes w64 number
+
+-- the lengths of the three parts, and the checksum of the two texts, in eight bytes each
+abbrev pub lengths : Parts → List ℕ
+lengths p = flat_map eight_bytes (length p.before ∷ length p.table ∷ length p.after ∷ check_of p.before p.after ∷ [])
+
+-- the head, at byte 4,096: the lengths, and a checksum of them
+abbrev pub head_of : Parts → List ℕ
+head_of p = lengths p ++ check_bytes (lengths p)
+
+-- The parts have room: each has fewer than 2^32 bytes or numbers, and each number has room in four bytes.
+pub record HaveRoom (p : Parts) : Type 0 where
+  pub before : length p.before < 2 ^ 32
+  pub table : length p.table < 2 ^ 32
+  pub after : length p.after < 2 ^ 32
+  pub numbers : All (λ n. n < 2 ^ 32) p.table
+
+-- the content holds a text with these parts
+pub record Holds (p : Parts) (c : Content) : Type 0 where
+  pub room : HaveRoom p
+  pub head : Has (head_of p) 4096 c
+  pub table : HasTable p.table c
+  pub before : Has p.before (before_at p) c
+  pub after : Has p.after (after_at p) c

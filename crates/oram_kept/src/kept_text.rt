@@ -1,0 +1,241 @@
+//! A text that is kept in a pair of files.
+ghost use Rattle.std.specs.Prelude.{◌≡◌, ◌<◌, ◌^◌, ◌++◌, ◌∷◌, [], ℕ, All, IfOk, IsErr, OnErr, OnOk, false, length, true};
+ghost use Rattle.oram_kept.specs.Kept.{FindsEither, Keeps, StandsEither, bounds};
+ghost use Rattle.oram_kept.specs.Layout.{HasTable, HaveRoom, head_of, pages_for};
+ghost use Rattle.oram_kept.specs.Text.{Parts};
+ghost use Rattle.oram_kept.specs.Pages.{AreWithin, parts_of, patches_of as pages_of};
+ghost use Rattle.oram_redo.specs.Batch.{patch_of, patches_of};
+ghost use Rattle.oram_redo.specs.Content.{Agrees, Content};
+ghost use Rattle.oram_redo.specs.FilePair.{ComesAfter, Contents, LeavesOnly};
+ghost use Rattle.oram_redo.specs.Log.{Fits, StandsFor, put_all};
+ghost use Rattle.oram_redo.specs.Redo.{IsCrashConsistent, bounds_of};
+ghost use Rattle.oram_redo.specs.declared.file_pair.FileKind.TheVariants.{Records};
+
+use crate::pages::{Page, all_pages, changed_pages};
+use crate::text::{HEAD_AT, TextParts};
+use oram_redo::{Bounds, FileKind, FilePair, Patch, Redo, RedoError, SHUT, recover};
+use std::alloc::{AllocError, Global};
+use std::marker::Model;
+
+/// Where the log and the text stand in their files.
+pub const BOUNDS: Bounds = Bounds {
+    log_start: 1 << 12,
+    log_end: 1 << 40,
+    records_end: 1 << 62,
+};
+
+/// How long the log's entries may be before a keeping, in bytes. A longer log is emptied first.
+const LONG: u64 = 1 << 26;
+
+/// A text that is kept in a pair of files.
+#[derive(Drop)]
+pub struct KeptText<F: FilePair> {
+    alloc: Global,
+    files: F,
+    redo: Redo,
+    /// The table as it was kept last.
+    table: Vec<u32>,
+    /// Whether a call has failed, so that the files have to be opened again.
+    has_stopped: bool,
+}
+
+impl<F: FilePair> Model for KeptText<F> {
+    ghost use Rattle.std.specs.Prelude.{◌≡◌};
+    ghost use Rattle.oram_kept.specs.Kept.{KeptValue, bounds};
+    ghost use Rattle.oram_redo.specs.Redo.{bounds_of};
+
+    ghost Value = { KeptValue F };
+
+    ghost view = { λ k. record { files = k.files; redo = k.redo; table = k.table.items; has_stopped = k.has_stopped } };
+
+    ghost invariant = { λ k. bounds_of k.redo ≡ bounds };
+}
+
+/// Puts the numbers of `new` into a table, and returns the pages that this changes: all of them if the table had another length.
+fn pages_to_write(alloc: Global, table: &mut Vec<u32>, new: &[u32]) -> Result<Vec<Page>, AllocError>
+    requires { length new.now < 2 ^ 32 }
+    ensures table { IfOk result (λ pages. table.new.items ≡ new.now) }
+    ensures pages { IfOk result (λ pages. (c : Content) → HasTable table.old.items c → HasTable new.now (put_all (pages_of pages.items) c)) }
+    ensures within { IfOk result (λ pages. AreWithin (pages_for (length new.now)) (pages_of pages.items)) }
+{
+    if table.len() == new.len() {
+        return changed_pages(alloc, table, new);
+    }
+    let pages = all_pages(alloc, new)?;
+    table.clear();
+    table.extend_from_slice(new)?;
+    Ok(pages)
+}
+
+/// What a keeping changes besides the two texts around the table.
+#[derive(Drop)]
+struct Change {
+    pages: Vec<Page>,
+    head: Vec<u8>,
+}
+
+/// Puts the numbers of a text's table into a table, and returns what this changes in the file.
+fn change_for(
+    alloc: Global,
+    table: &mut Vec<u32>,
+    text: &TextParts<'_>,
+) -> Result<Change, RedoError>
+    ensures room { OnOk result (HaveRoom (parts_of text.now)) }
+    ensures table { OnOk result (table.new.items ≡ text.now.table.now) }
+    ensures pages { IfOk result (λ change. (c : Content) → HasTable table.old.items c → HasTable text.now.table.now (put_all (pages_of change.pages.items) c)) }
+    ensures within { IfOk result (λ change. AreWithin (pages_for (length text.now.table.now)) (pages_of change.pages.items)) }
+    ensures head { IfOk result (λ change. change.head.items ≡ head_of (parts_of text.now)) }
+{
+    if !text.have_room() {
+        return Err(RedoError::LogFull);
+    }
+    let pages = pages_to_write(alloc, table, text.table)?;
+    let head = text.head(alloc)?;
+    Ok(Change { pages, head })
+}
+
+/// Returns the batch of a keeping: the pages that change, and behind them the patches of the two texts around the table and of the head.
+fn batch_of<'a>(
+    alloc: Global,
+    pages: &'a [Page],
+    before: Patch<'a>,
+    after: Patch<'a>,
+    head: Patch<'a>,
+) -> Result<Vec<Patch<'a>>, AllocError>
+    ensures { IfOk result (λ batch. patches_of batch.items ≡ pages_of pages.now ++ patch_of before.entry ∷ patch_of after.entry ∷ patch_of head.entry ∷ []) }
+{
+    let mut batch = Vec::with_capacity(alloc, pages.len().saturating_add(3))?;
+    for page in pages {
+        batch.push(Patch {
+            at: page.at,
+            bytes: &page.bytes,
+        })?;
+    }
+    batch.push(before)?;
+    batch.push(after)?;
+    batch.push(head)?;
+    Ok(batch)
+}
+
+/// Empties the log if it is long.
+fn shorten<F: FilePair>(files: &mut F, redo: &mut Redo) -> Result<(), RedoError>
+    ensures consistent { IsCrashConsistent F.model redo.old [] files.old → OnOk result (IsCrashConsistent F.model redo.new [] files.new) }
+    ensures records { Agrees (F.model.seen files.new Records) (F.model.seen files.old Records) }
+    ensures any_moment { IsCrashConsistent F.model redo.old [] files.old
+        → LeavesOnly F.model files.old files.new (StandsFor (bounds_of redo.old) [] (F.model.seen files.old Records)) }
+    ensures bounds { bounds_of redo.new ≡ bounds_of redo.old }
+    ensures after { ComesAfter F.model files.old files.new }
+{
+    if redo.log_len() <= LONG {
+        return Ok(());
+    }
+    redo.restart(files)
+}
+
+/// Commits a batch, after it has emptied a log that is long. A crash at any moment leaves all of the batch or nothing of it.
+fn commit<F: FilePair>(
+    alloc: Global,
+    files: &mut F,
+    redo: &mut Redo,
+    batch: &[Patch],
+) -> Result<(), RedoError>
+    requires { All (Fits (bounds_of redo.old)) (patches_of batch.now) }
+    ensures consistent { IsCrashConsistent F.model redo.old [] files.old → OnOk result (IsCrashConsistent F.model redo.new [] files.new) }
+    ensures records { OnOk result (Agrees (F.model.seen files.new Records) (put_all (patches_of batch.now) (F.model.seen files.old Records))) }
+    ensures any_moment { IsCrashConsistent F.model redo.old [] files.old
+        → LeavesOnly F.model files.old files.new (StandsEither (bounds_of redo.old) (F.model.seen files.old Records) (put_all (patches_of batch.now) (F.model.seen files.old Records))) }
+    ensures bounds { bounds_of redo.new ≡ bounds_of redo.old }
+    ensures after { ComesAfter F.model files.old files.new }
+{
+    shorten(files, redo)?;
+    redo.commit(alloc, files, batch)
+}
+
+impl<F: FilePair + Drop> KeptText<F> {
+    /// Makes two empty files those of a text. After an error they are to be made again.
+    pub fn create(
+        alloc: Global,
+        mut files: F,
+        text: &TextParts<'_>,
+    ) -> Result<KeptText<F>, RedoError>
+        requires empty { (file : _) (i : ℕ) → F.model.seen files file i ≡ 0 }
+        ensures kept { IfOk result (λ kept. F.model.is_honest kept.files → Keeps F.model (parts_of text.now) kept) }
+        ensures goes_on { IfOk result (λ kept. kept.has_stopped ≡ false) }
+        ensures after { IfOk result (λ kept. ComesAfter F.model files kept.files) }
+    {
+        files.write_at(FileKind::Log, BOUNDS.log_start, &[SHUT])?;
+        let redo = recover(alloc, &mut files, BOUNDS)?;
+        let mut kept = KeptText {
+            alloc,
+            files,
+            redo,
+            table: Vec::new(alloc),
+            has_stopped: false,
+        };
+        kept.put(text)?;
+        Ok(kept)
+    }
+}
+
+impl<F: FilePair> KeptText<F> {
+    /// Returns whether a call has failed, so that nothing more is kept until the files are opened again.
+    pub fn has_stopped(&self) -> bool
+        ensures { result ≡ self.now.has_stopped }
+    {
+        self.has_stopped
+    }
+
+    /// Writes a text over the one before.
+    fn put(&mut self, text: &TextParts<'_>) -> Result<(), RedoError>
+        ensures ok { IsCrashConsistent F.model self.old.redo [] self.old.files → HasTable self.old.table (F.model.seen self.old.files Records)
+            → OnOk result (Keeps F.model (parts_of text.now) self.new) }
+        ensures any_moment { (p : Parts) → Keeps F.model p self.old
+            → LeavesOnly F.model self.old.files self.new.files (FindsEither bounds p (parts_of text.now)) }
+        ensures after { ComesAfter F.model self.old.files self.new.files }
+        ensures stopped { self.new.has_stopped ≡ self.old.has_stopped }
+    {
+        let alloc = self.alloc;
+        let change = change_for(alloc, &mut self.table, text)?;
+        let before = Patch {
+            at: text.before_at(),
+            bytes: text.before,
+        };
+        let after = Patch {
+            at: text.after_at(),
+            bytes: text.after,
+        };
+        let head = Patch {
+            at: HEAD_AT,
+            bytes: &change.head,
+        };
+        let batch = batch_of(alloc, &change.pages, before, after, head)?;
+        commit(alloc, &mut self.files, &mut self.redo, &batch)
+    }
+
+    /// Keeps a text in place of the one before. Writes what has changed of the table, and the texts around it.
+    ///
+    /// A crash at any moment leaves files with the text of before or with this one, and once this returns `Ok`, only with this one. After an
+    /// error nothing more is kept: the files have to be opened again, and hold one of the two.
+    pub fn keep(&mut self, text: &TextParts<'_>) -> Result<(), RedoError>
+        ensures ok { (p : Parts) → Keeps F.model p self.old → OnOk result (Keeps F.model (parts_of text.now) self.new) }
+        ensures any_moment { (p : Parts) → Keeps F.model p self.old
+            → LeavesOnly F.model self.old.files self.new.files (FindsEither bounds p (parts_of text.now)) }
+        // After an error, too, a crash leaves one of the two.
+        ensures either { (p : Parts) → Keeps F.model p self.old → (c : Contents) → F.model.may_leave self.new.files c → FindsEither bounds p (parts_of text.now) c }
+        ensures goes_on { OnOk result (self.new.has_stopped ≡ false) }
+        ensures stops { OnErr result (self.new.has_stopped ≡ true) }
+        ensures stays { self.old.has_stopped ≡ true → IsErr result × (self.new ≡ self.old) }
+        ensures after { ComesAfter F.model self.old.files self.new.files }
+    {
+        if self.has_stopped {
+            return Err(RedoError::Failed);
+        }
+        match self.put(text) {
+            Ok(()) => Ok(()),
+            Err(error) => {
+                self.has_stopped = true;
+                Err(error)
+            }
+        }
+    }
+}

@@ -1,0 +1,16 @@
+//! Keeps a text with a table of numbers in it, in a file that is changed in place: a keeping costs what has changed of the table, and
+//! the two texts around it.
+//!
+//! The file has a head at byte 4,096, the pages of the table from byte 8,192 on, and behind the last page the text before the table and
+//! the one behind it (`specs/Layout.antt`). A keeping is one batch of a redo log, so a crash at any moment leaves the text that was kept
+//! before or the new one, whole.
+#![tactic(auto)]
+
+mod kept_text;
+mod laws;
+mod pages;
+mod text;
+
+pub use kept_text::{BOUNDS, KeptText};
+pub use laws::{one_text, rows};
+pub use text::{TextParts, check_of};

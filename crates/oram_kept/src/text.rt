@@ -1,0 +1,86 @@
+//! A text with a table of numbers in it, and what the file's head says of it.
+ghost use Rattle.std.specs.Prelude.{◌≡◌, ◌<◌, ◌^◌, All, IfOk, IsTrue, length};
+ghost use Rattle.oram_kept.specs.Layout.{HaveRoom, after_at, before_at, check_of, head_of};
+ghost use Rattle.oram_kept.specs.Pages.{parts_of};
+
+use crate::pages::{page_at, pages_for};
+use std::alloc::{AllocError, Global};
+use std::hash::{DefaultHasher, Hasher};
+
+/// Where the head begins.
+pub(crate) const HEAD_AT: u64 = 4_096;
+
+/// The length of the head in bytes.
+pub(crate) const HEAD_LEN: usize = 40;
+
+/// The parts of a text: what stands before its table, the numbers of the table, and what stands behind it.
+#[derive(Clone, Copy, Debug)]
+pub struct TextParts<'a> {
+    pub before: &'a [u8],
+    pub table: &'a [u32],
+    pub after: &'a [u8],
+}
+
+/// Returns the checksum of the text before a table and the one behind it.
+#[tactic(auto, unfolding(crate::specs::Layout::check_of))]
+pub fn check_of(before: &[u8], after: &[u8]) -> u64
+    ensures value { result ≡ check_of before.now after.now }
+    ensures small { result < 2 ^ 64 }
+{
+    let mut hasher = DefaultHasher::new();
+    hasher.write(before);
+    hasher.write(after);
+    hasher.finish()
+}
+
+/// Each number of a table has room in four bytes.
+fn fit(_table: &[u32])
+    ensures { All (λ n. n < 2 ^ 32) _table.now }
+{}
+
+impl TextParts<'_> {
+    /// Returns whether each part has fewer than 2^32 bytes or numbers, as the file has room for.
+    pub(crate) fn have_room(&self) -> bool
+        ensures { IsTrue result → HaveRoom (parts_of self.now) }
+    {
+        fit(self.table);
+        let most = u32::MAX as usize;
+        self.before.len() <= most && self.table.len() <= most && self.after.len() <= most
+    }
+
+    /// Returns the place of the text before the table.
+    pub(crate) fn before_at(&self) -> u64
+        requires { HaveRoom (parts_of self.now) }
+        ensures { result ≡ before_at (parts_of self.now) }
+    {
+        page_at(pages_for(self.table.len()))
+    }
+
+    /// Returns the place of the text behind the table.
+    pub(crate) fn after_at(&self) -> u64
+        requires { HaveRoom (parts_of self.now) }
+        ensures { result ≡ after_at (parts_of self.now) }
+    {
+        self.before_at() + self.before.len() as u64
+    }
+
+    /// Returns the bytes of the head.
+    #[tactic(auto, unfolding(crate::specs::Layout::eight_bytes))]
+    pub(crate) fn head(&self, alloc: Global) -> Result<Vec<u8>, AllocError>
+        ensures { IfOk result (λ head. head.items ≡ head_of (parts_of self.now)) }
+    {
+        let numbers = [
+            self.before.len() as u64,
+            self.table.len() as u64,
+            self.after.len() as u64,
+            check_of(self.before, self.after),
+        ];
+        let mut head = Vec::with_capacity(alloc, HEAD_LEN)?;
+        for number in &numbers {
+            head.extend_from_slice(&number.to_le_bytes())?;
+        }
+        let sum = oram_redo::check_of(&head);
+        head.extend_from_slice(&sum)?;
+        Ok(head)
+    }
+}

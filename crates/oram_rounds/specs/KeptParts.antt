@@ -1,0 +1,7 @@
+-- The text that is kept of a process, in three parts.
+use Rattle.std.specs.Prelude.{ℕ, List}
+use Rattle.oram_state.specs.StateBytes.{with_table}
+use Rattle.oram_rounds.specs.declared.keeper.KeptParts.{KeptParts}
+
+abbrev pub text_of : KeptParts → List ℕ
+text_of text = with_table text.before.now text.table.now text.after.now

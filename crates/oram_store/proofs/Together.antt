@@ -1,0 +1,148 @@
+-- STOREs that are committed together.
+use Rattle.std.proofs.Common.{◌≡◌, ◌⊎◌, inl, inr, ⊎_elim, ℕ, suc, ◌+◌, ◌≤◌, true, List, [], ◌∷◌, Option, refl, sym, ◌∙◌, ap, subst, Result, Ok, Err, arith}
+use Rattle.std.specs.Prelude.{All, IsErr, MatchResult, map}
+use Rattle.oram_host.specs.Refusals.{code_of}
+use Rattle.oram_host.specs.declared.refusals.HostRefusal.{HostRefusal}
+use Rattle.oram_host.specs.declared.refusals.HostRefusal.TheVariants.{OutOfMemory}
+use Rattle.oram_layout.specs.BucketFile.{IsBucketFile}
+use Rattle.oram_layout.specs.Changes.{path_patches}
+use Rattle.oram_layout.specs.Records.{AreKept, Records as RecordsOf, records_in}
+use Rattle.oram_layout.specs.Trees.{Trees, shape_of, sizes_of}
+use Rattle.oram_layout.proofs.Changes.{path_put}
+use Rattle.oram_layout.proofs.Contents.{content_is}
+use Rattle.oram_redo.specs.Content.{Agrees, Content}
+use Rattle.oram_redo.specs.FilePair.{Contents, FileModel}
+use Rattle.oram_redo.specs.Log.{put_all}
+use Rattle.oram_redo.proofs.Heal.{put_all-append}
+use Rattle.oram_store.specs.Answers.{Answers, answer_by}
+use Rattle.oram_store.specs.Crashes.{CommitsPuts, IsCarriedOut, MayBeFound, MayHold, Serves}
+use Rattle.oram_store.specs.Groups.{AnswersInTurn, AreCarriedOut, FitsTree, IsOfTrees, ServesGroup, group_patches, message_of}
+use Rattle.oram_store.specs.KeptRecords.{Changes, IsSound, StoreValue, records_of, sure_records}
+use Rattle.oram_store.specs.RecordFile.{OnlyIf}
+use Rattle.oram_store.specs.declared.faults.StoreFault.{StoreFault}
+use Rattle.oram_store.specs.declared.groups.PathStore.{PathStore}
+use Rattle.oram_wire.specs.declared.host_messages.HostAnswer.{HostAnswer}
+use Rattle.oram_wire.specs.declared.host_messages.HostAnswer.TheVariants as answer
+use Rattle.oram_wire.specs.declared.host_messages.HostRequest.{HostRequest}
+use Rattle.oram_wire.specs.declared.host_messages.HostRequest.TheVariants as request
+use Rattle.oram_store.proofs.Crashes.{found_leads}
+use Rattle.oram_store.proofs.Served.{answers_keep, kept_then, refused_kept}
+use Rattle.oram_store.proofs.ServedBy.{ServesBy, by_after, by_change, by_committed, by_failure, by_no_change}
+
+-- the answers stay right if the records before them are the same
+pub in_turn_keeps : (trees : Trees) (one two three : RecordsOf) (messages : List HostRequest) (given : HostAnswer) → AreKept one two → AnswersInTurn trees two messages given three → AnswersInTurn trees one messages given three
+in_turn_keeps trees one two three [] given same said = kept_then one two three same said
+in_turn_keeps trees one two three (message ∷ rest) given same said = (said.0, answers_keep trees one two said.0 message given same said.1, said.2)
+
+-- messages that are refused for lack of room change nothing
+pub in_turn_refused : (trees : Trees) (old new : RecordsOf) (messages : List HostRequest) → AreKept old new → AnswersInTurn trees old messages (answer.Refused 8) new
+in_turn_refused trees old new [] kept = kept
+in_turn_refused trees old new (message ∷ rest) kept =
+    (old, refused_kept trees old old message 8 (λ six. absurd (omega arith)) (λ tree node. refl), in_turn_refused trees old new rest kept)
+
+-- the paths of a group are put, one after the other
+pub group_put : (trees : Trees) (stores : List PathStore) (c new : Content) → IsBucketFile trees c → All FitsTree stores → All (IsOfTrees trees) stores → Agrees new (put_all (group_patches stores) c)
+    → IsBucketFile trees new × AnswersInTurn trees (records_in trees c) (map message_of stores) answer.Done (records_in trees new)
+group_put trees [] c new is fits of same =
+    let e : new ≡ c = content_is c new same in
+    (subst (λ (d : Content). IsBucketFile trees d) (sym e) is, λ tree node. ap (λ (d : Content). records_in trees d tree node) e)
+group_put trees (store ∷ rest) c new is fits of same =
+    let here : FitsTree store = fits 0 store (omega arith) in
+    let there : IsOfTrees trees store = of 0 store (omega arith) in
+    let first = path_patches store.tree store.leaf store.records.now 0 (store.tree.shape.depth + 1) in
+    let mid : Content = put_all first c in
+    let put = path_put trees c mid store.number store.tree store.leaf store.records.now is there here.leaf here.whole (λ i. refl) in
+    let later = group_put trees rest mid new put.is_file (λ k d h. fits (suc k) d (omega arith)) (λ k d h. of (suc k) d (omega arith))
+    (λ i. same i ∙ ap (λ (d : Content). d i) (put_all-append first (group_patches rest) c)) in
+    (later.0, (records_in trees mid, (sizes_of store.tree.shape, ap shape_of there, (put.path, put.others)), later.1))
+
+-- a STORE's answer stays right if the records after it are the same
+store_then : (trees : Trees) (one two three : RecordsOf) (tree leaf : ℕ) (records : List ℕ) (given : HostAnswer) → Answers trees one (request.Store tree leaf records) given two → AreKept two three
+    → Answers trees one (request.Store tree leaf records) given three
+store_then trees one two three tree leaf records (answer.Payload bytes) said kept = said
+store_then trees one two three tree leaf records answer.Done said kept = (
+  said.0,
+  said.1,
+  (record { whole = said.2.0.whole; each = λ level below. kept tree _ ∙ said.2.0.each level below }, λ other node differ. kept other node ∙ said.2.1 other node differ),
+)
+store_then trees one two three tree leaf records (answer.Refused code) said kept = kept_then one two three said kept
+
+-- what follows from each outcome of a call
+pub match_leads : {T E : Type 0} (r : Result T E) (P P' : T → Type 0) (Q Q' : E → Type 0) → MatchResult r P Q → ((x : T) → P x → P' x) → ((e : E) → Q e → Q' e) → MatchResult r P' Q'
+match_leads (Ok x) P P' Q Q' held ok err = ok x held
+match_leads (Err e) P P' Q Q' held ok err = err e held
+
+module _ {F : Type 0} (model : FileModel F) where
+  abbrev ByGroup : List HostRequest → HostAnswer → StoreValue F → StoreValue F → Type 0
+  ByGroup messages given = ServesBy model (λ trees one two. AnswersInTurn trees one messages given two) (λ trees one c. AreCarriedOut trees one messages c) (MayBeFound given)
+
+  group_served : (messages : List HostRequest) (given : HostAnswer) (old new : StoreValue F) → ByGroup messages given old new → ServesGroup model messages given old new
+  group_served messages given old new serves = record { sound = serves.sound; records = serves.records; any_moment = serves.any_moment }
+
+  -- PUTs should have been committed
+  pub group_err : (messages : List HostRequest) (result : Result Unit StoreFault) (old new : StoreValue F) → IsErr result → CommitsPuts model old new
+      → ServesGroup model messages (answer_by result) old new
+  group_err messages (Ok x) old new is commits_puts = absurd (not_err is)
+    where
+      not_err : IsErr {E = StoreFault} (Ok x) → ⊥
+      not_err h = cc
+  group_err messages (Err e) old new is commits_puts =
+      group_served messages (answer.Refused 8) old new
+      (by_committed model (λ trees one two. AnswersInTurn trees one messages (answer.Refused 8) two) (λ trees one c. AreCarriedOut trees one messages c) (MayBeFound (answer.Refused 8)) old new
+      (λ one two kept. in_turn_refused old.trees one two messages kept) commits_puts)
+
+  -- the STOREs are carried out, after the pending PUTs are committed
+  pub group_made : (messages : List HostRequest) (old mid new : StoreValue F) (result : Result Unit StoreFault)
+      → CommitsPuts model old mid → mid.pending ≡ [] → mid.trees ≡ old.trees → new.trees ≡ mid.trees → new.pending ≡ mid.pending
+      → (IsSound model mid → Changes model mid.trees (λ one two. AnswersInTurn mid.trees one messages answer.Done two) result mid.file new.file) → (mid.file.has_stopped ≡ true → new.file ≡ mid.file)
+      → ((t : ℕ) (c : Contents) → t ≤ model.moment mid.file.files → model.may_leave mid.file.files c → model.left_since mid.file.files t c) → model.may_leave mid.file.files (model.seen mid.file.files)
+      → ServesGroup model messages (answer_by result) old new
+  group_made messages old mid new (Ok x) commits_puts none same trees_same still makes stays counts_now whole =
+      let answered = λ (trees : Trees) (one two : RecordsOf). AnswersInTurn trees one messages answer.Done two in
+      let carried = λ (trees : Trees) (one : RecordsOf) (c : Content). AreCarriedOut trees one messages c in
+      group_served messages answer.Done old new
+      (by_after model answered carried (MayBeFound answer.Done) old mid new
+      (λ trees one two three kept said. in_turn_keeps trees one two three messages answer.Done kept said) (λ trees one two c kept out. (out.0, in_turn_keeps trees one two (records_in trees c) messages answer.Done kept out.1))
+      commits_puts none same
+      (λ sound. by_change model answered carried (MayBeFound answer.Done) (λ one two. AnswersInTurn mid.trees one messages answer.Done two) mid new none trees_same (still ∙ none) (λ c file made. (file, made)) x tt (λ one two made. made) (makes sound))
+      stays counts_now whole)
+  group_made messages old mid new (Err e) commits_puts none same trees_same still makes stays counts_now whole =
+      let answered = λ (trees : Trees) (one two : RecordsOf). AnswersInTurn trees one messages (answer.Refused 8) two in
+      let carried = λ (trees : Trees) (one : RecordsOf) (c : Content). AreCarriedOut trees one messages c in
+      group_served messages (answer.Refused 8) old new
+      (by_after model answered carried (MayBeFound (answer.Refused 8)) old mid new
+      (λ trees one two three kept said. in_turn_keeps trees one two three messages (answer.Refused 8) kept said) (λ trees one two c kept out. (out.0, in_turn_keeps trees one two (records_in trees c) messages answer.Done kept out.1))
+      commits_puts none same
+      (λ sound. by_no_change model answered carried (MayBeFound (answer.Refused 8)) (λ one two. AnswersInTurn mid.trees one messages answer.Done two) mid new none trees_same (still ∙ none) (λ c file made. (file, made)) e (λ stopped. stopped)
+      (λ one two kept. in_turn_refused mid.trees one two messages kept) (makes sound))
+      stays counts_now whole)
+
+  -- a refusal with its reason kept
+  pub group_refused : (messages : List HostRequest) (old mid new : StoreValue F) (why : HostRefusal) (failure : Option StoreFault) → why ≡ OutOfMemory
+      → new ≡ record { file = mid.file; trees = mid.trees; pending = mid.pending; failure = failure }
+      → (model.is_honest mid.file.files → ServesGroup model messages (answer.Refused 8) old mid) → model.is_honest new.file.files
+      → ServesGroup model messages (answer.Refused (code_of why)) old new
+  group_refused messages old mid new why failure is kept serves honest =
+      let was = serves (subst (λ (v : StoreValue F). model.is_honest v.file.files) kept honest) in
+      let mid' : StoreValue F = record { file = mid.file; trees = mid.trees; pending = mid.pending; failure = failure } in
+      subst (λ (w : HostRefusal). ServesGroup model messages (answer.Refused (code_of w)) old new) (sym is)
+      (subst (λ (v : StoreValue F). ServesGroup model messages (answer.Refused 8) old v) (sym kept)
+      (group_served messages (answer.Refused 8) old mid'
+      (by_failure model (λ trees one two. AnswersInTurn trees one messages (answer.Refused 8) two) (λ trees one c. AreCarriedOut trees one messages c) (MayBeFound (answer.Refused 8)) old mid failure
+      (record { sound = was.sound; records = was.records; any_moment = was.any_moment }))))
+
+  -- a group of one STORE
+  pub group_of_one : (tree leaf : ℕ) (records : List ℕ) (given : HostAnswer) (old new : StoreValue F) → ServesGroup model (request.Store tree leaf records ∷ []) given old new
+      → Serves model (request.Store tree leaf records) given old new
+  group_of_one tree leaf records given old new serves = record {
+    sound = serves.sound;
+    records = λ running. let said = serves.records running in store_then old.trees (records_of model old) said.0 (records_of model new) tree leaf records given said.1 said.2;
+    any_moment = found_leads model old.file.files new.file.files
+        (λ c. MayHold old.trees (sure_records model old) (records_of model old) c ⊎ OnlyIf (MayBeFound given new.file.has_stopped) (AreCarriedOut old.trees (records_of model old) (request.Store tree leaf records ∷ []) c))
+        (λ c. MayHold old.trees (sure_records model old) (records_of model old) c ⊎ OnlyIf (MayBeFound given new.file.has_stopped) (IsCarriedOut old.trees (records_of model old) (request.Store tree leaf records) c)) serves.any_moment
+        (λ c either. ⊎_elim (λ may. inl may)
+        (λ made.
+        let said = made.holds.1 in
+        let out = store_then old.trees (records_of model old) said.0 (records_in old.trees c) tree leaf records answer.Done said.1 said.2 in
+        inr (record { allowed = made.allowed; holds = (made.holds.0, out.0, out.1, out.2) })) either);
+  }

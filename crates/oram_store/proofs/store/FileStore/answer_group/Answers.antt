@@ -1,0 +1,83 @@
+use Rattle.std.proofs.Common.{◌≡◌, ◌<◌, ◌∷◌, ◌∙◌, [], List, ℕ, inl, inr, length, take, refl, rules, sym, ap, subst, arith}
+use Rattle.std.specs.Global.{Vec}
+use Rattle.std.specs.Prelude.{All, map}
+use Rattle.std.proofs.lemmas.List.{get_or-map, length-map, take_more}
+use Rattle.oram_host.specs.Refusals.{code_of}
+use Rattle.oram_host.specs.declared.refusals.HostRefusal.{HostRefusal}
+use Rattle.oram_store.specs.Groups.{IsOfTrees, ServesGroup, message_of}
+use Rattle.oram_store.specs.declared.groups.PathStore.{PathStore}
+use Rattle.oram_wire.specs.HostMessages.{request_body}
+use Rattle.oram_wire.specs.ListOfBodies.{bodies_in}
+use Rattle.oram_wire.specs.declared.host_messages.HostAnswer.TheVariants.{Done, Refused}
+use Rattle.oram_store.proofs.Responses.{code_is}
+use Rattle.oram_store.proofs.store.FileStore.answer_group.Goals.{in-Ok+in_ok-extend_from_slice-in-Ok, in-Err+in_ok-extend_from_slice-in-Err}
+use Rattle.oram_store.proofs.store.FileStore.answer_group.Goals as goal
+
+-- one message alone
+pub returns-then-len-lt2-clause-ok : goal.returns-then-len-lt2-clause-ok
+returns-then-len-lt2-clause-ok g c =
+    let call = c.in_ok-answer.ensures in
+    let bodies : List (List ℕ) = bodies_in c.args.bodies.now in
+    let body : List ℕ = c.deref.result.now in
+    let some : 0 < length bodies = omega (arith, c.requires, length-map c.args.bodies.now (λ (v : Vec ℕ). v.items)) in
+    let one : take 1 bodies ≡ body ∷ [] =
+    take_more bodies 0 [] some
+    ∙ ap (λ (b : List ℕ). b ∷ []) (get_or-map (λ (v : Vec ℕ). v.items) c.args.bodies.now 0 c.index-bodies-0.result [] c.requires ∙ ap (λ (v : Vec ℕ). v.items) (sym c.index-bodies-0.is) ∙ sym c.deref.ensures.value) in (
+      call.ok.0,
+      call.ok.1,
+      call.ok.2,
+      inl (
+        body,
+        one,
+        record {
+          request = λ message numbers is. let t = call.ok.3 message numbers is in record { responds = t.0; committed = t.1; goes_on = t.2; full = t.3; serves = t.4 };
+          records = call.ok.4;
+          op = λ h other. sym call.ok.2 ∙ call.op h other;
+          misfit = λ h. sym call.ok.2 ∙ call.misfit h;
+          records_misfit = λ h. let refused = call.records_misfit h in (sym call.ok.2 ∙ refused.0, refused.1);
+        },
+      ),
+    )
+
+-- STOREs together
+pub returns-clause-ok : goal.returns-clause-ok
+returns-clause-ok g c =
+    let stores : List PathStore = c.in_ok-stores.stores.items in
+    let bodies : List (List ℕ) = bodies_in c.args.bodies.now in
+    let long : length stores ≡ c.len-2.result = omega (arith, c.len-2.ensures, c.in_ok-stores.stores.ok.0) in
+    let are : map request_body (map message_of stores) ≡ take c.len-2.result bodies = c.in_ok-stores.ensures.bodies ∙ ap (λ (n : ℕ). take n bodies) long in
+    let of : All (IsOfTrees c.args.self.now.trees) c.deref-2.result.now = subst (λ (ss : List PathStore). All (IsOfTrees c.args.self.now.trees) ss) (sym c.deref-2.ensures.value) c.in_ok-stores.ensures.of in
+    elim c.match-store_together.branch [
+      | in-Ok+in_ok-extend_from_slice-in-Ok w ↦ (
+        Done,
+        tt,
+        search rules,
+        inr (record {
+          messages = map message_of stores;
+          are = are;
+          accepted = c.in_ok-stores.ensures.accepted;
+          either = inl refl;
+          trees = c.store_together.ensures.trees;
+          committed = λ granted. w.in-Ok.ensures.none_pending;
+          goes_on = λ granted. w.in-Ok.ensures.running;
+          full = λ full. cc;
+          serves = λ honest s. subst (λ (ss : List PathStore). ServesGroup g.F.FilePair.model (map message_of ss) Done c.args.self.now c.store_together.new.self) c.deref-2.ensures.value (w.in-Ok.ensures.serves of honest s);
+        }),
+      )
+      | in-Err+in_ok-extend_from_slice-in-Err w ↦ (
+        Refused (code_of w.in-Err.why),
+        code_is w.in-Err.why,
+        search rules,
+        inr (record {
+          messages = map message_of stores;
+          are = are;
+          accepted = c.in_ok-stores.ensures.accepted;
+          either = inr (ap (λ (why : HostRefusal). Refused (code_of why)) w.in-Err.ensures.refused);
+          trees = c.store_together.ensures.trees;
+          committed = λ granted. absurd granted;
+          goes_on = λ granted. absurd granted;
+          full = λ full. w.in-Err.ensures.failure;
+          serves = λ honest s. subst (λ (ss : List PathStore). ServesGroup g.F.FilePair.model (map message_of ss) (Refused (code_of w.in-Err.why)) c.args.self.now c.store_together.new.self) c.deref-2.ensures.value (w.in-Err.ensures.serves of honest s);
+        }),
+      )
+    ]
