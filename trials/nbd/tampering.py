@@ -16,7 +16,8 @@ STAMP_TREE, IDENTITY_TREE = 254, 255
 
 
 def tamper(file, level=None):
-    """Changes a bit of each record of a disk's trees in a host's file, or of those at one level of tree 0."""
+    """Changes a bit of each record of a disk's trees in a host's file, or of those at one level of tree 0. Returns the file's records after
+    that."""
     buckets = BucketFile(file)
     buckets.replay()
     for tree, (depth, _, _) in buckets.trees().items():
@@ -24,6 +25,17 @@ def tamper(file, level=None):
             at = (node + 1).bit_length() - 1
             if tree < STAMP_TREE and (level is None or (tree, at) == (0, level)):
                 buckets.flip(tree, node)
+    return buckets.records()
+
+
+def mend(file, changed):
+    """Changes back each record of a disk's trees in a host's file that is still the one that `tamper` left. The others were stored since: the
+    disk may have carried out some commands before it came to a record that had been changed."""
+    buckets = BucketFile(file)
+    buckets.replay()
+    for (tree, node), record in buckets.records().items():
+        if tree < STAMP_TREE and record == changed[tree, node]:
+            buckets.flip(tree, node)
 
 
 def is_failure(reason, tree=r"\d+", level=r"\d+"):
@@ -49,15 +61,14 @@ def try_tampered(trial):
     client = disk.serve().client()
     make_requests(trial, client, array, 10)
     disk.end(client)
-    before = disk.host_files()
-    tamper(disk.host.path())
+    changed = tamper(disk.host.path())
     reason = fail_disk(trial, disk, array)
     failed = disk.state_file.read_bytes()
     refused = "oramdisk: the disk of tampered/disk.state has failed, and oramdisk status says why: see that its own host is reached, with its own file, and then say oramdisk retry; oramdisk check says what is lost at the host, and oramdisk export --salvage saves the rest"
     trial.ends("tampered: served again", disk.start("serve"), DISK_FAILED, refused)
     trial.check("tampered: its state is left as it is", disk.state_file.read_bytes() == failed and disk.status().get("state") == reason)
     disk.host.stop()
-    disk.put_host_files(before)
+    mend(disk.host.path(), changed)
     disk.start_host()
     check_that_retry_works(trial, disk)
     sound = "oramdisk: the disk of tampered/disk.state has not failed, and is left as it is: oramdisk serve serves it"

@@ -14,7 +14,7 @@ from trials.disk import BLOCK, SMALL, Disk
 from trials.disk_array import DiskArray, check_and_end, check_disk, make_requests, write_block
 from trials.host.full_disk import mount_disk
 from trials.nbd.kills import TABLES
-from trials.nbd.tampering import tamper
+from trials.nbd.tampering import mend, tamper
 from trials.nbd_client import READ, WRITE, ZEROES, Request
 from trials.processes import end_of
 from trials.statuses import BAD_FILE, IN_USE, OTHER_ANSWER, OTHER_DISK, OUT_OF_REACH, RECORDS_LOST
@@ -198,11 +198,10 @@ def try_salvage(trial):
     trial.check("salvage: some blocks were lost", lost_blocks > 0)
     check_salvage(trial, disk)
     disk.put_host_files(before)
-    # The waiting commands fail at once, so nothing is stored that the host's own files lack.
-    tamper(disk.host.path())
+    changed = tamper(disk.host.path())
     fail_whole(trial, disk)
     end_image(trial, disk, "failed.img", RECORDS_LOST, "--salvage")
-    disk.put_host_files(before)
+    mend(disk.host.path(), changed)
     trial.check("salvage: the image of a failed disk over its own records", end_image(trial, disk, "again.img", 0) == sound)
     disk.start_host()
     trial.check("salvage: retry", end_of(disk.start("retry")).status == 0)
