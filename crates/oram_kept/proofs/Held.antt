@@ -1,10 +1,10 @@
 -- What the files hold after a keeping, and whenever a crash comes.
-use Rattle.std.proofs.Common.{◌≡◌, inl, inr, ℕ, ◌*◌, ◌<◌, ◌≤◌, List, [], ◌∷◌, ◌++◌, length, refl, sym, ap, ◌∙◌, subst, arith, length-append}
+use Rattle.std.proofs.Common.{◌≡◌, inl, inr, ℕ, ◌+◌, ◌*◌, ◌^◌, ◌<◌, ◌≤◌, List, [], ◌∷◌, ◌++◌, length, refl, sym, ap, ◌∙◌, subst, arith, length-append}
 use Rattle.std.specs.Prelude.{All, Result, Ok, Err, OnOk}
 use Rattle.std.specs.List.{flat_map}
 use Rattle.oram_kept.specs.Kept.{Finds, FindsEither, Keeps, KeptValue, StandsEither, bounds}
 use Rattle.oram_kept.specs.Layout.{HasTable, HaveRoom, Holds, after_at, before_at, eight_bytes, head_of, lengths, numbers_on, page_at, page_of, pages_for, check_of}
-use Rattle.oram_kept.specs.Pages.{AreWithin}
+use Rattle.oram_kept.specs.Pages.{AreWithin, Ends, batch_for}
 use Rattle.oram_kept.specs.Text.{Parts}
 use Rattle.std.proofs.lemmas.List.Elements.{All-append, All-cons}
 use Rattle.oram_kept.proofs.Tables.{length-page-within}
@@ -14,11 +14,11 @@ use Rattle.oram_redo.specs.FilePair.{Contents, FileModel, LeavesOnly}
 use Rattle.oram_redo.specs.Redo.{IsCrashConsistent, bounds_of}
 use Rattle.oram_redo.specs.declared.bounds.Bounds.{Bounds}
 use Rattle.oram_redo.specs.declared.file_pair.FileKind.TheVariants.{Records}
-use Rattle.oram_redo.specs.Log.{Fits, Patch, StandsFor, check_bytes, put_all}
+use Rattle.oram_redo.specs.Log.{Fits, Patch, StandsFor, check_bytes, entries, entry, put_all}
 use Rattle.oram_redo.proofs.Bytes.{has-put, has_same, put_outside}
 use Rattle.oram_redo.proofs.Consistent.{keeps_now}
 use Rattle.oram_redo.proofs.Heal.{put_all-append}
-use Rattle.oram_redo.proofs.Logs.{length-check_bytes}
+use Rattle.oram_redo.proofs.Logs.{all_first, all_rest, entries-append, length-check_bytes, length-entry}
 use Rattle.oram_redo.proofs.Moments.{same_content, started}
 
 pub length-eight : (n : ℕ) → length (eight_bytes n) ≡ 8
@@ -34,14 +34,10 @@ length-head p =
     let said = length-eights (length p.before ∷ length p.table ∷ length p.after ∷ check_of p.before p.after ∷ []) in
     omega (arith, length-append (lengths p) (check_bytes (lengths p)), length-check_bytes (lengths p), said)
 
--- the batch of a keeping
-abbrev pub batch_of : List Patch → Parts → List ℕ → List Patch
-batch_of pages p head = pages ++ (before_at p, p.before) ∷ (after_at p, p.after) ∷ (4096, head) ∷ []
-
 -- Once the batch is put, the text is held.
 pub held : (old : List ℕ) (p : Parts) (pages : List Patch) (head : List ℕ) (c : Content) → HaveRoom p → head ≡ head_of p
     → ((d : Content) → HasTable old d → HasTable p.table (put_all pages d)) → HasTable old c
-    → Holds p (put_all (batch_of pages p head) c)
+    → Holds p (put_all (batch_for pages p head) c)
 held old p pages head c room is written has =
     subst (λ (e : Content). Holds p e) (sym whole)
     (record {
@@ -70,16 +66,21 @@ held old p pages head c room is written has =
     long : length head ≡ 40
     long = ap length is ∙ length-head p
 
-    whole : put_all (batch_of pages p head) c ≡ put head 4096 (put p.after (after_at p) (put p.before (before_at p) (put_all pages c)))
+    whole : put_all (batch_for pages p head) c ≡ put head 4096 (put p.after (after_at p) (put p.before (before_at p) (put_all pages c)))
     whole = put_all-append pages ((before_at p, p.before) ∷ (after_at p, p.after) ∷ (4096, head) ∷ []) c
 
     unchanged : (x : ℕ) → 8192 ≤ x → x < before_at p → put head 4096 d3 x ≡ d1 x
     unchanged x from to =
         put_outside head 4096 d3 x (inr (omega (arith, long))) ∙ put_outside p.after (after_at p) d2 x (inl (omega arith)) ∙ put_outside p.before (before_at p) d1 x (inl to)
 
+-- the batch, put together from its parts
+pub spelled : (p : Parts) (lent pages : List Patch) (before after : ℕ) (head_lent head : List ℕ) → lent ≡ pages → before ≡ before_at p → after ≡ after_at p → head_lent ≡ head
+    → lent ++ (before, p.before) ∷ (after, p.after) ∷ (4096, head_lent) ∷ [] ≡ batch_for pages p head
+spelled p lent pages before after head_lent head same first second third = λ i. same i ++ (first i, p.before) ∷ (second i, p.after) ∷ (4096, third i) ∷ []
+
 -- the batch fits
 pub batch_fits : (p : Parts) (pages : List Patch) (head : List ℕ) → HaveRoom p → length head ≡ 40 → AreWithin (pages_for (length p.table)) pages
-    → All (Fits bounds) (batch_of pages p head)
+    → All (Fits bounds) (batch_for pages p head)
 batch_fits p pages head room long within =
     All-append (Fits bounds) pages ((before_at p, p.before) ∷ (after_at p, p.after) ∷ (4096, head) ∷ [])
     (λ k d below. let ends = within.ends k d below in record { within = omega (arith, ends.before, room.table); place_fits = omega (arith, ends.before, room.table); length_fits = omega (arith, ends.short) })
@@ -100,26 +101,58 @@ stands_along a b r s c same_bounds same stands =
     subst (λ (e : Bounds). StandsFor e [] s c) same_bounds (subst (λ (t : Content). StandsFor a [] t c) same stands)
 
 -- between two calls, whatever a crash leaves has the text
-pub kept_found : {F : Type 0} (model : FileModel F) (p : Parts) (k : KeptValue F) → bounds_of k.redo ≡ bounds → Keeps model p k
+pub kept_found : {F : Type 0} (model : FileModel F) (p : Parts) (k : KeptValue F) → Keeps model p k
     → (c : Contents) → model.may_leave k.files c → Finds bounds p c
-kept_found model p k bounded keeps c left =
+kept_found model p k keeps c left =
     let seen : Content = model.seen k.files Records in
     let now = keeps_now k.redo [] (model.seen k.files) (model.may_leave k.files) keeps.consistent c left in
-    found p seen c keeps.holds (stands_along (bounds_of k.redo) bounds seen seen c bounded refl now.stands)
+    found p seen c keeps.holds (stands_along (bounds_of k.redo) bounds seen seen c keeps.bounded refl now.stands)
 
 -- a call that did nothing to the files
-pub nothing_done : {F : Type 0} (model : FileModel F) (p q : Parts) (k : KeptValue F) → bounds_of k.redo ≡ bounds → Keeps model p k
+pub nothing_done : {F : Type 0} (model : FileModel F) (p q : Parts) (k : KeptValue F) → Keeps model p k
     → ((c : Contents) → model.left_since k.files (model.moment k.files) c → model.may_leave k.files c) → LeavesOnly model k.files k.files (FindsEither bounds p q)
-nothing_done model p q k bounded keeps only_now =
-    started model k.files (FindsEither bounds p q) (λ c left. inl (kept_found model p k bounded keeps c (only_now c left)))
+nothing_done model p q k keeps only_now =
+    started model k.files (FindsEither bounds p q) (λ c left. inl (kept_found model p k keeps c (only_now c left)))
 
 -- the text is kept, once the batch is committed
 pub kept_after : {F T E : Type 0} (model : FileModel F) (q : Parts) (k : KeptValue F) (result : Result T E) (c : Content)
-    → Holds q c → k.table ≡ q.table
+    → Holds q c → k.table ≡ q.table → bounds_of k.redo ≡ bounds
     → OnOk result (IsCrashConsistent model k.redo [] k.files) → OnOk result (Agrees (model.seen k.files Records) c) → OnOk result (Keeps model q k)
-kept_after model q k (Ok x) c holds table consistent same = record {
+kept_after model q k (Ok x) c holds table bounded consistent same = record {
   consistent = consistent;
   holds = subst (λ (d : Content). Holds q d) (sym (same_content (model.seen k.files Records) c same)) holds;
   table = table;
+  bounded = bounded;
 }
-kept_after model q k (Err e) c holds table consistent same = tt
+kept_after model q k (Err e) c holds table bounded consistent same = tt
+
+-- the entries of patches of at most 1,024 bytes each
+entries_short : (ps : List Patch) (k : ℕ) → All (Ends k) ps → length (entries ps) ≤ 1045 * length ps
+entries_short [] k each = omega arith
+entries_short (p ∷ ps) k each =
+    omega (arith, (all_first (Ends k) p ps each).short, entries_short ps k (all_rest (Ends k) p ps each), length-append (entry p) (entries ps), length-entry p)
+
+-- the log has room for each batch of a text that has room
+pub batch_has_room : (p : Parts) (pages : List Patch) (head : List ℕ) → HaveRoom p → length head ≡ 40 → AreWithin (pages_for (length p.table)) pages → length pages ≤ pages_for (length p.table)
+    → 4096 + 2 ^ 26 + length (entries (batch_for pages p head)) < 2 ^ 40
+batch_has_room p pages head room long within few =
+    let last : List Patch = (4096, head) ∷ [] in
+    let after : List Patch = (after_at p, p.after) ∷ last in
+    let before : List Patch = (before_at p, p.before) ∷ after in
+    omega (
+      arith,
+      room.before,
+      room.table,
+      room.after,
+      long,
+      few,
+      entries_short pages (pages_for (length p.table)) within.ends,
+      ap length (entries-append pages before),
+      length-append (entries pages) (entries before),
+      length-append (entry (before_at p, p.before)) (entries after),
+      length-entry (before_at p, p.before),
+      length-append (entry (after_at p, p.after)) (entries last),
+      length-entry (after_at p, p.after),
+      length-append (entry (4096, head)) (entries []),
+      length-entry (4096, head),
+    )

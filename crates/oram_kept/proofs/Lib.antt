@@ -2,4 +2,10 @@ pub mod Tables
 pub mod Written
 pub mod Held
 pub mod One
+pub mod Heads
+pub mod Numbers
+pub mod Texts
+pub mod Opened
+pub mod Created
+pub mod Known
 pub mod WorkedRows

@@ -15,7 +15,7 @@ use Rattle.oram_redo.specs.Log.{check_bytes}
 use Rattle.oram_redo.proofs.Bytes.{has_along, has_one}
 use Rattle.oram_redo.proofs.Logs.{all_first, all_rest, length-check_bytes}
 
-eight_one : (a b : ℕ) → a < 2 ^ 64 → b < 2 ^ 64 → eight_bytes a ≡ eight_bytes b → a ≡ b
+pub eight_one : (a b : ℕ) → a < 2 ^ 64 → b < 2 ^ 64 → eight_bytes a ≡ eight_bytes b → a ≡ b
 unfolding eight_bytes
 eight_one a b fits_a fits_b same = sym (from_le_bytes-to_le_bytes_8 a fits_a) ∙ ap (from_le_bytes w64) same ∙ from_le_bytes-to_le_bytes_8 b fits_b
 
@@ -24,13 +24,13 @@ unfolding number_bytes
 number_one a b fits_a fits_b same = sym (from_be_bytes-to_be_bytes_4 a fits_a) ∙ ap (from_be_bytes w32) same ∙ from_be_bytes-to_be_bytes_4 b fits_b
 
 -- two texts that begin with equally long parts
-front_one : (a b xs ys : List ℕ) → length a ≡ length b → a ++ xs ≡ b ++ ys → a ≡ b
+pub front_one : (a b xs ys : List ℕ) → length a ≡ length b → a ++ xs ≡ b ++ ys → a ≡ b
 front_one a b xs ys long same = sym (take_at a xs (length a) refl) ∙ ap (take (length a)) same ∙ take_at b ys (length a) (sym long)
 
-back_one : (a b xs ys : List ℕ) → length a ≡ length b → a ++ xs ≡ b ++ ys → xs ≡ ys
+pub back_one : (a b xs ys : List ℕ) → length a ≡ length b → a ++ xs ≡ b ++ ys → xs ≡ ys
 back_one a b xs ys long same = sym (drop_at a xs (length a) refl) ∙ ap (drop (length a)) same ∙ drop_at b ys (length a) (sym long)
 
-numbers_one : (xs ys : List ℕ) → length xs ≡ length ys → All (λ n. n < 2 ^ 32) xs → All (λ n. n < 2 ^ 32) ys → flat_map number_bytes xs ≡ flat_map number_bytes ys → xs ≡ ys
+pub numbers_one : (xs ys : List ℕ) → length xs ≡ length ys → All (λ n. n < 2 ^ 32) xs → All (λ n. n < 2 ^ 32) ys → flat_map number_bytes xs ≡ flat_map number_bytes ys → xs ≡ ys
 numbers_one [] [] long fits_x fits_y same = refl
 numbers_one [] (y ∷ ys) long fits_x fits_y same = absurd (omega arith)
 numbers_one (x ∷ xs) [] long fits_x fits_y same = absurd (omega arith)
@@ -49,7 +49,7 @@ all_on table i fits j d below =
     subst (λ (n : ℕ). n < 2 ^ 32) (sym (get_or-take 254 (drop (i * 254) table) j d (omega (arith, below, long)) ∙ get_or-drop (i * 254) table j d))
     (fits (i * 254 + j) d (omega (arith, below, long, left)))
 
-length-lengths : (p : Parts) → length (lengths p) ≡ 32
+pub length-lengths : (p : Parts) → length (lengths p) ≡ 32
 length-lengths p = omega (arith, length-head p, length-append (lengths p) (check_bytes (lengths p)), length-check_bytes (lengths p))
 
 module _ (p q : Parts) (c : Content) (a : Holds p c) (b : Holds q c) where

@@ -1,5 +1,5 @@
 -- The pages that a keeping writes, page after page.
-use Rattle.std.proofs.Common.{◌≡◌, ◌⊎◌, inl, inr, ℕ, ◌+◌, ◌<◌, ◌≤◌, List, [], ◌∷◌, ◌++◌, length, sym, ap, subst, arith}
+use Rattle.std.proofs.Common.{◌≡◌, ◌⊎◌, inl, inr, ℕ, ◌+◌, ◌<◌, ◌≤◌, List, [], ◌∷◌, ◌++◌, length, sym, ap, subst, arith, length-append}
 use Rattle.std.specs.Prelude.{All}
 use Rattle.std.proofs.lemmas.Bool.{cases_eq}
 use Rattle.std.proofs.lemmas.List.Elements.{All-append, All-cons}
@@ -24,6 +24,9 @@ none_written old new = record {
 
 pub all_one : {X : Type 0} (P : X → Type 0) (x : X) → P x → All P (x ∷ [])
 all_one P x is = All-cons P x [] is (λ k d below. absurd (omega arith))
+
+pub one_longer : {X : Type 0} (xs ys : List X) (x : X) (n : ℕ) → ys ≡ xs ++ x ∷ [] → length xs ≤ n → length ys ≤ n + 1
+one_longer xs ys x n grown few = omega (arith, few, ap length grown, length-append xs (x ∷ []))
 
 spares_more : (ps : List Patch) (p : Patch) (x : ℕ) → Spares ps x → (x < p.0 ⊎ p.0 + length p.1 ≤ x) → Spares (ps ++ p ∷ []) x
 spares_more [] p x spared out = (out, tt)

@@ -3,7 +3,7 @@ use Rattle.std.specs.Prelude.{◌≡◌, ◌⊎◌, ℕ, ◌^◌, Bool, List, []
 use Rattle.oram_redo.specs.Content.{Content}
 use Rattle.oram_redo.specs.FilePair.{Contents, FileModel}
 use Rattle.oram_redo.specs.Log.{StandsFor}
-use Rattle.oram_redo.specs.Redo.{IsCrashConsistent}
+use Rattle.oram_redo.specs.Redo.{IsCrashConsistent, bounds_of}
 use Rattle.oram_redo.specs.declared.bounds.Bounds.{Bounds}
 use Rattle.oram_redo.specs.declared.file_pair.FileKind.TheVariants.{Records}
 use Rattle.oram_redo.specs.declared.redo.Redo.{Redo}
@@ -35,6 +35,7 @@ pub record Keeps {F : Type 0} (model : FileModel F) (p : Parts) (k : KeptValue F
   pub consistent : IsCrashConsistent model k.redo [] k.files
   pub holds : Holds p (model.seen k.files Records)
   pub table : k.table ≡ p.table
+  pub bounded : bounds_of k.redo ≡ bounds
 
 -- a crash leaves files with one of these two texts
 abbrev pub FindsEither : Bounds → Parts → Parts → Contents → Type 0

@@ -2,5 +2,8 @@ pub mod Text
 pub mod Layout
 pub mod Kept
 pub mod Pages
+pub mod Reading
+pub mod Opening
+pub mod Keeper
 pub mod Examples
 pub mod Laws

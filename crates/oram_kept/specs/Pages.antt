@@ -1,6 +1,6 @@
 -- The program's texts and pages, as the definitions speak of them.
-use Rattle.std.specs.Prelude.{◌≡◌, ◌≢◌, ◌⊎◌, ◌<◌, ◌≤◌, ℕ, ◌+◌, List, length, map, All}
-use Rattle.oram_kept.specs.Layout.{numbers_on, page_at}
+use Rattle.std.specs.Prelude.{◌≡◌, ◌≢◌, ◌⊎◌, ◌<◌, ◌≤◌, ℕ, ◌+◌, List, [], ◌∷◌, ◌++◌, length, map, All}
+use Rattle.oram_kept.specs.Layout.{after_at, before_at, numbers_on, page_at}
 use Rattle.oram_kept.specs.Text.{Parts}
 use Rattle.oram_kept.specs.declared.pages.Page.{Page}
 use Rattle.oram_kept.specs.declared.text.TextParts.{TextParts}
@@ -15,6 +15,10 @@ patch_of page = (page.at, page.bytes.items)
 
 abbrev pub patches_of : List Page → List Patch
 patches_of pages = map patch_of pages
+
+-- the batch of a keeping: the pages that change, the texts around the table, and the head
+abbrev pub batch_for : List Patch → Parts → List ℕ → List Patch
+batch_for pages p head = pages ++ (before_at p, p.before) ∷ (after_at p, p.after) ∷ (4096, head) ∷ []
 
 -- the patch is for a page whose numbers differ in two tables
 abbrev pub IsOfChange : List ℕ → List ℕ → Patch → Type 0

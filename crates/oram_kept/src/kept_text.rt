@@ -1,18 +1,21 @@
 //! A text that is kept in a pair of files.
-ghost use Rattle.std.specs.Prelude.{◌≡◌, ◌<◌, ◌^◌, ◌++◌, ◌∷◌, [], ℕ, All, IfOk, IsErr, OnErr, OnOk, false, length, true};
+ghost use Rattle.std.specs.Prelude.{◌≡◌, ◌⊎◌, ◌<◌, ◌≤◌, ◌+◌, ◌^◌, ◌++◌, ◌∷◌, [], ℕ, All, IfErr, IfOk, IsErr, IsErrOf, OnErr, OnOk, false, length, true};
 ghost use Rattle.oram_kept.specs.Kept.{FindsEither, Keeps, StandsEither, bounds};
 ghost use Rattle.oram_kept.specs.Layout.{HasTable, HaveRoom, head_of, pages_for};
+ghost use Rattle.oram_kept.specs.Opening.{IsNotCreated};
 ghost use Rattle.oram_kept.specs.Text.{Parts};
 ghost use Rattle.oram_kept.specs.Pages.{AreWithin, parts_of, patches_of as pages_of};
 ghost use Rattle.oram_redo.specs.Batch.{patch_of, patches_of};
 ghost use Rattle.oram_redo.specs.Content.{Agrees, Content};
-ghost use Rattle.oram_redo.specs.FilePair.{ComesAfter, Contents, LeavesOnly};
-ghost use Rattle.oram_redo.specs.Log.{Fits, StandsFor, put_all};
-ghost use Rattle.oram_redo.specs.Redo.{IsCrashConsistent, bounds_of};
+ghost use Rattle.oram_redo.specs.FilePair.{ComesAfter, Contents, HasFailed, LeavesOnly, Rises};
+ghost use Rattle.oram_redo.specs.Log.{Fits, StandsFor, entries, put_all};
+ghost use Rattle.oram_redo.specs.Redo.{IsCrashConsistent, bounds_of, end_of};
 ghost use Rattle.oram_redo.specs.declared.file_pair.FileKind.TheVariants.{Records};
 
+use crate::head::HEAD_AT;
 use crate::pages::{Page, all_pages, changed_pages};
-use crate::text::{HEAD_AT, TextParts};
+use crate::reading::{Around, Text};
+use crate::text::TextParts;
 use oram_redo::{Bounds, FileKind, FilePair, Patch, Redo, RedoError, SHUT, recover};
 use std::alloc::{AllocError, Global};
 use std::marker::Model;
@@ -57,6 +60,7 @@ fn pages_to_write(alloc: Global, table: &mut Vec<u32>, new: &[u32]) -> Result<Ve
     ensures table { IfOk result (λ pages. table.new.items ≡ new.now) }
     ensures pages { IfOk result (λ pages. (c : Content) → HasTable table.old.items c → HasTable new.now (put_all (pages_of pages.items) c)) }
     ensures within { IfOk result (λ pages. AreWithin (pages_for (length new.now)) (pages_of pages.items)) }
+    ensures few { IfOk result (λ pages. length pages.items ≤ pages_for (length new.now)) }
 {
     if table.len() == new.len() {
         return changed_pages(alloc, table, new);
@@ -84,7 +88,10 @@ fn change_for(
     ensures table { OnOk result (table.new.items ≡ text.now.table.now) }
     ensures pages { IfOk result (λ change. (c : Content) → HasTable table.old.items c → HasTable text.now.table.now (put_all (pages_of change.pages.items) c)) }
     ensures within { IfOk result (λ change. AreWithin (pages_for (length text.now.table.now)) (pages_of change.pages.items)) }
+    ensures few { IfOk result (λ change. length change.pages.items ≤ pages_for (length text.now.table.now)) }
     ensures head { IfOk result (λ change. change.head.items ≡ head_of (parts_of text.now)) }
+    ensures errors { IfErr result (λ e. (e ≡ RedoError.Memory) ⊎ (e ≡ RedoError.LogFull)) }
+    ensures full { IsErrOf result RedoError.LogFull → HaveRoom (parts_of text.now) → ⊥ }
 {
     if !text.have_room() {
         return Err(RedoError::LogFull);
@@ -124,6 +131,8 @@ fn shorten<F: FilePair>(files: &mut F, redo: &mut Redo) -> Result<(), RedoError>
     ensures any_moment { IsCrashConsistent F.model redo.old [] files.old
         → LeavesOnly F.model files.old files.new (StandsFor (bounds_of redo.old) [] (F.model.seen files.old Records)) }
     ensures bounds { bounds_of redo.new ≡ bounds_of redo.old }
+    ensures short { OnOk result (end_of redo.new ≤ (bounds_of redo.old).log_start + 2 ^ 26) }
+    ensures failed { IfErr result (λ e. (e ≡ RedoError.Failed) × HasFailed F.model files.old files.new) }
     ensures after { ComesAfter F.model files.old files.new }
 {
     if redo.log_len() <= LONG {
@@ -145,6 +154,10 @@ fn commit<F: FilePair>(
     ensures any_moment { IsCrashConsistent F.model redo.old [] files.old
         → LeavesOnly F.model files.old files.new (StandsEither (bounds_of redo.old) (F.model.seen files.old Records) (put_all (patches_of batch.now) (F.model.seen files.old Records))) }
     ensures bounds { bounds_of redo.new ≡ bounds_of redo.old }
+    ensures failed { IsErrOf result RedoError.Failed → HasFailed F.model files.old files.new }
+    ensures no_room { IsErrOf result RedoError.NoRoom → Rises F.model.shortages files.old files.new }
+    ensures damaged { IsErrOf result RedoError.Damaged → ⊥ }
+    ensures full { IsErrOf result RedoError.LogFull → (bounds_of redo.old).log_end ≤ (bounds_of redo.old).log_start + 2 ^ 26 + length (entries (patches_of batch.now)) }
     ensures after { ComesAfter F.model files.old files.new }
 {
     shorten(files, redo)?;
@@ -162,6 +175,7 @@ impl<F: FilePair + Drop> KeptText<F> {
         ensures kept { IfOk result (λ kept. F.model.is_honest kept.files → Keeps F.model (parts_of text.now) kept) }
         ensures goes_on { IfOk result (λ kept. kept.has_stopped ≡ false) }
         ensures after { IfOk result (λ kept. ComesAfter F.model files kept.files) }
+        ensures err { IfErr result (λ why. (last : F) × IsNotCreated F.model (parts_of text.now) why files last) }
     {
         files.write_at(FileKind::Log, BOUNDS.log_start, &[SHUT])?;
         let redo = recover(alloc, &mut files, BOUNDS)?;
@@ -174,6 +188,30 @@ impl<F: FilePair + Drop> KeptText<F> {
         };
         kept.put(text)?;
         Ok(kept)
+    }
+}
+
+impl<F: FilePair> KeptText<F> {
+    /// Makes what keeps a text of opened files and of the text that was read from them, and returns what stands around its table, too.
+    pub(crate) fn over(alloc: Global, files: F, redo: Redo, text: Text) -> (KeptText<F>, Around)
+        requires { bounds_of redo ≡ bounds }
+        ensures { result ≡ (record { files = files; redo = redo; table = text.table.items; has_stopped = false }, text.around) }
+    {
+        let kept = KeptText {
+            alloc,
+            files,
+            redo,
+            table: text.table,
+            has_stopped: false,
+        };
+        (kept, text.around)
+    }
+
+    /// Returns the table of the text, as it was kept last.
+    pub fn table(&self) -> &[u32]
+        ensures { result.now ≡ self.now.table }
+    {
+        &self.table
     }
 }
 
@@ -191,6 +229,10 @@ impl<F: FilePair> KeptText<F> {
             → OnOk result (Keeps F.model (parts_of text.now) self.new) }
         ensures any_moment { (p : Parts) → Keeps F.model p self.old
             → LeavesOnly F.model self.old.files self.new.files (FindsEither bounds p (parts_of text.now)) }
+        ensures failed { IsErrOf result RedoError.Failed → HasFailed F.model self.old.files self.new.files }
+        ensures no_room { IsErrOf result RedoError.NoRoom → Rises F.model.shortages self.old.files self.new.files }
+        ensures damaged { IsErrOf result RedoError.Damaged → ⊥ }
+        ensures full { IsErrOf result RedoError.LogFull → HaveRoom (parts_of text.now) → ⊥ }
         ensures after { ComesAfter F.model self.old.files self.new.files }
         ensures stopped { self.new.has_stopped ≡ self.old.has_stopped }
     {
@@ -225,6 +267,12 @@ impl<F: FilePair> KeptText<F> {
         ensures goes_on { OnOk result (self.new.has_stopped ≡ false) }
         ensures stops { OnErr result (self.new.has_stopped ≡ true) }
         ensures stays { self.old.has_stopped ≡ true → IsErr result × (self.new ≡ self.old) }
+
+        // An error of the files comes only if a call of them has failed, then or before, or found no room.
+        ensures failed { IsErrOf result RedoError.Failed → (self.old.has_stopped ≡ true) ⊎ HasFailed F.model self.old.files self.new.files }
+        ensures no_room { IsErrOf result RedoError.NoRoom → Rises F.model.shortages self.old.files self.new.files }
+        ensures damaged { IsErrOf result RedoError.Damaged → ⊥ }
+        ensures full { IsErrOf result RedoError.LogFull → HaveRoom (parts_of text.now) → ⊥ }
         ensures after { ComesAfter F.model self.old.files self.new.files }
     {
         if self.has_stopped {

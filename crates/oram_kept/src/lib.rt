@@ -6,11 +6,19 @@
 //! before or the new one, whole.
 #![tactic(auto)]
 
+mod head;
+mod keeper;
 mod kept_text;
 mod laws;
+mod opening;
 mod pages;
+mod reading;
 mod text;
+mod text_history;
 
+pub use keeper::TextKeeper;
 pub use kept_text::{BOUNDS, KeptText};
-pub use laws::{one_text, rows};
+pub use laws::{first_life, one_text, rows};
+pub use opening::OpenError;
+pub use reading::Around;
 pub use text::{TextParts, check_of};

@@ -3,19 +3,19 @@ ghost use Rattle.std.specs.Prelude.{◌≡◌, ◌≢◌, ◌⊎◌, ◌↔◌, 
 ghost use Rattle.oram_kept.specs.Layout.{HasTable, numbers_on, page_at, page_of, pages_for};
 ghost use Rattle.oram_kept.specs.Pages.{AreWithin, IsOfChange, patches_of};
 ghost use Rattle.oram_redo.specs.Content.{Content};
-ghost use Rattle.oram_redo.specs.Log.{put_all};
+ghost use Rattle.oram_redo.specs.Log.{check_bytes, put_all};
 
 use oram_redo::check_of;
 use std::alloc::{AllocError, Global};
 
 /// How many numbers a page has room for.
-const NUMBERS: usize = 254;
+pub(crate) const NUMBERS: usize = 254;
 
 /// The length of a page in bytes.
-const PAGE_LEN: usize = 1_024;
+pub(crate) const PAGE_LEN: usize = 1_024;
 
 /// Where the first page begins.
-const TABLE_AT: u64 = 8_192;
+pub(crate) const TABLE_AT: u64 = 8_192;
 
 /// A page of a table, and its place in the file.
 #[derive(Drop)]
@@ -48,6 +48,13 @@ fn numbers_on(table: &[u32], index: usize) -> &[u32]
         Some(rest) => &rest[..rest.len().min(NUMBERS)],
         None => &[],
     }
+}
+
+/// Returns whether these bytes are the checksum of a text.
+pub(crate) fn is_check_of(check: &[u8], text: &[u8]) -> bool
+    ensures { IsTrue result ↔ (check.now ≡ check_bytes text.now) }
+{
+    check == &check_of(text)[..]
 }
 
 /// Returns the bytes of a page with these numbers.
@@ -94,6 +101,7 @@ pub(crate) fn changed_pages(
     ensures table { IfOk result (λ pages. table.new ≡ new.now) }
     // A content with the table of before has the new one once these pages are put.
     ensures pages { IfOk result (λ pages. (c : Content) → HasTable table.old c → HasTable new.now (put_all (patches_of pages.items) c)) }
+    ensures few { IfOk result (λ pages. length pages.items ≤ pages_for (length new.now)) }
     // Each is of a page whose numbers are others than before.
     ensures changed { IfOk result (λ pages. All (IsOfChange table.old new.now) (patches_of pages.items)) }
     ensures within { IfOk result (λ pages. AreWithin (pages_for (length new.now)) (patches_of pages.items)) }
@@ -114,6 +122,7 @@ pub(crate) fn changed_pages(
 /// Returns all pages of a table.
 pub(crate) fn all_pages(alloc: Global, table: &[u32]) -> Result<Vec<Page>, AllocError>
     requires { length table.now < 2 ^ 32 }
+    ensures few { IfOk result (λ pages. length pages.items ≤ pages_for (length table.now)) }
     ensures pages { IfOk result (λ pages. (c : Content) → HasTable table.now (put_all (patches_of pages.items) c)) }
     ensures within { IfOk result (λ pages. AreWithin (pages_for (length table.now)) (patches_of pages.items)) }
 {

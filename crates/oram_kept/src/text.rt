@@ -1,17 +1,12 @@
 //! A text with a table of numbers in it, and what the file's head says of it.
-ghost use Rattle.std.specs.Prelude.{◌≡◌, ◌<◌, ◌^◌, All, IfOk, IsTrue, length};
+ghost use Rattle.std.specs.Prelude.{◌≡◌, ◌↔◌, ◌<◌, ◌^◌, All, IfOk, IsTrue, length};
 ghost use Rattle.oram_kept.specs.Layout.{HaveRoom, after_at, before_at, check_of, head_of};
 ghost use Rattle.oram_kept.specs.Pages.{parts_of};
 
+use crate::head::Head;
 use crate::pages::{page_at, pages_for};
 use std::alloc::{AllocError, Global};
 use std::hash::{DefaultHasher, Hasher};
-
-/// Where the head begins.
-pub(crate) const HEAD_AT: u64 = 4_096;
-
-/// The length of the head in bytes.
-pub(crate) const HEAD_LEN: usize = 40;
 
 /// The parts of a text: what stands before its table, the numbers of the table, and what stands behind it.
 #[derive(Clone, Copy, Debug)]
@@ -34,14 +29,14 @@ pub fn check_of(before: &[u8], after: &[u8]) -> u64
 }
 
 /// Each number of a table has room in four bytes.
-fn fit(_table: &[u32])
+pub(crate) fn fit(_table: &[u32])
     ensures { All (λ n. n < 2 ^ 32) _table.now }
 {}
 
 impl TextParts<'_> {
     /// Returns whether each part has fewer than 2^32 bytes or numbers, as the file has room for.
     pub(crate) fn have_room(&self) -> bool
-        ensures { IsTrue result → HaveRoom (parts_of self.now) }
+        ensures { IsTrue result ↔ HaveRoom (parts_of self.now) }
     {
         fit(self.table);
         let most = u32::MAX as usize;
@@ -65,22 +60,15 @@ impl TextParts<'_> {
     }
 
     /// Returns the bytes of the head.
-    #[tactic(auto, unfolding(crate::specs::Layout::eight_bytes))]
     pub(crate) fn head(&self, alloc: Global) -> Result<Vec<u8>, AllocError>
         ensures { IfOk result (λ head. head.items ≡ head_of (parts_of self.now)) }
     {
-        let numbers = [
-            self.before.len() as u64,
-            self.table.len() as u64,
-            self.after.len() as u64,
-            check_of(self.before, self.after),
-        ];
-        let mut head = Vec::with_capacity(alloc, HEAD_LEN)?;
-        for number in &numbers {
-            head.extend_from_slice(&number.to_le_bytes())?;
-        }
-        let sum = oram_redo::check_of(&head);
-        head.extend_from_slice(&sum)?;
-        Ok(head)
+        let head = Head {
+            before: self.before.len() as u64,
+            table: self.table.len() as u64,
+            after: self.after.len() as u64,
+            check: check_of(self.before, self.after),
+        };
+        head.encode(alloc)
     }
 }

@@ -7,7 +7,7 @@ use Rattle.oram_kept.specs.declared.pages.Page.{Page}
 use Rattle.oram_kept.specs.Layout.{numbers_on, page_at, page_of}
 use Rattle.oram_kept.specs.Pages.{IsOfChange, patch_of, patches_of}
 use Rattle.oram_kept.proofs.Tables.{same_tables}
-use Rattle.oram_kept.proofs.Written.{AreWritten, all_one, page_put, page_stays}
+use Rattle.oram_kept.proofs.Written.{AreWritten, all_one, one_longer, page_put, page_stays}
 use Rattle.oram_redo.specs.Log.{Patch}
 use Rattle.oram_kept.proofs.pages.changed_pages.Goals as goal
 use Rattle.oram_kept.proofs.pages.changed_pages.Goals.{then-change_page+in_ok-page_of+in_ok-push, else-change_page}
@@ -53,6 +53,11 @@ loop-index-preserved c =
       ];
       old_pages = λ j from. c.change_page.ensures.others j (λ e. omega (arith, e)) ∙ c.loop-index.invariant.old_pages j (omega arith);
       long = c.change_page.ensures.len ∙ c.loop-index.invariant.long;
+      few = elim c.if-change_page.branch [
+        | then-change_page+in_ok-page_of+in_ok-push w ↦
+            one_longer c.loop-index.pages.items c.if-change_page.pages.items _ i (ap (λ (v : Vec Page Global). v.items) w.pages-is ∙ w.in_ok-push.ensures.items) c.loop-index.invariant.few
+        | else-change_page w ↦ omega (arith, c.loop-index.invariant.few, ap (λ (v : Vec Page Global). length v.items) w.pages-is)
+      ];
     }
 
 pub returns-clause-table : goal.returns-clause-table

@@ -12,4 +12,5 @@ invariant-loop-index l = record {
   new_pages : (j : ℕ) → j < l.index → numbers_on l.table j ≡ numbers_on l.new j;
   old_pages : (j : ℕ) → l.index ≤ j → numbers_on l.table j ≡ numbers_on l.initial.table j;
   long : length l.table ≡ length l.new;
+  few : length l.pages.items ≤ l.index;
 }

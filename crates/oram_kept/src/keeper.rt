@@ -1,0 +1,103 @@
+//! Keeps one text after the other, with a note of those that may be found.
+ghost use Rattle.std.specs.Prelude.{◌≡◌, ◌⊎◌, ◌∷◌, [], ℕ, IfErr, IfOk, IsErrOf, OnErr, OnOk, false, true};
+ghost use Rattle.oram_kept.specs.Keeper.{FindsOneOf, Knows};
+ghost use Rattle.oram_kept.specs.Layout.{HaveRoom};
+ghost use Rattle.oram_kept.specs.Opening.{IsNotCreated, IsNotOpened};
+ghost use Rattle.oram_kept.specs.Pages.{parts_of};
+ghost use Rattle.oram_kept.specs.Reading.{parts_around};
+ghost use Rattle.oram_redo.specs.FilePair.{ComesAfter, Contents, HasFailed, Rises};
+
+use crate::kept_text::KeptText;
+use crate::opening::OpenError;
+use crate::reading::Around;
+use crate::text::TextParts;
+use crate::text_history::TextHistory;
+use oram_redo::{FilePair, RedoError};
+use std::alloc::Global;
+use std::marker::Model;
+
+/// Keeps one text after the other in a pair of files.
+#[derive(Drop)]
+pub struct TextKeeper<F: FilePair> {
+    kept: KeptText<F>,
+    /// Which texts may be found from now on.
+    history: TextHistory,
+}
+
+impl<F: FilePair> Model for TextKeeper<F> {
+    ghost use Rattle.oram_kept.specs.Keeper.{KeeperValue};
+
+    ghost Value = { KeeperValue F };
+
+    ghost view = { λ k. record { kept = k.kept; texts = k.history.texts } };
+}
+
+impl<F: FilePair + Drop> TextKeeper<F> {
+    /// Makes two empty files those of a text, as [`KeptText::create`] does.
+    pub fn create(alloc: Global, files: F, text: &TextParts<'_>) -> Result<TextKeeper<F>, RedoError>
+        requires empty { (file : _) (i : ℕ) → F.model.seen files file i ≡ 0 }
+        ensures texts { IfOk result (λ keeper. keeper.texts ≡ parts_of text.now ∷ []) }
+        ensures knows { IfOk result (λ keeper. F.model.is_honest keeper.kept.files → Knows F.model keeper) }
+        ensures err { IfErr result (λ why. (last : F) × IsNotCreated F.model (parts_of text.now) why files last) }
+    {
+        let kept = KeptText::create(alloc, files, text)?;
+        let mut history = TextHistory::new();
+        history.note(text.before, text.table, text.after);
+        Ok(TextKeeper { kept, history })
+    }
+
+    /// Opens the files of a text, as [`KeptText::open`] does, and reads it. Its table stays in what is returned first.
+    pub fn open(alloc: Global, files: F) -> Result<(TextKeeper<F>, Around), OpenError>
+        ensures texts { IfOk result (λ opened. opened.0.texts ≡ parts_around opened.0.kept.table opened.1 ∷ []) }
+        ensures knows { IfOk result (λ opened. F.model.is_honest opened.0.kept.files → Knows F.model opened.0) }
+        ensures err { IfErr result (λ why. (last : F) × IsNotOpened F.model why files last) }
+    {
+        let (kept, around) = KeptText::open(alloc, files)?;
+        let mut history = TextHistory::new();
+        history.note(&around.before, kept.table(), &around.after);
+        Ok((TextKeeper { kept, history }, around))
+    }
+}
+
+impl<F: FilePair> TextKeeper<F> {
+    /// Returns the table of the text, as it was kept last.
+    pub fn table(&self) -> &[u32]
+        ensures { result.now ≡ self.now.kept.table }
+    {
+        self.kept.table()
+    }
+
+    /// Returns whether a call has failed, so that nothing more is kept until the files are opened again.
+    pub fn has_stopped(&self) -> bool
+        ensures { result ≡ self.now.kept.has_stopped }
+    {
+        self.kept.has_stopped()
+    }
+
+    /// Keeps a text in place of the one before, as [`KeptText::keep`] does. Once it returns `Ok`, this text alone is found. After an error this one
+    /// may be found, or what might have been found before.
+    pub fn keep(&mut self, text: &TextParts<'_>) -> Result<(), RedoError>
+        ensures texts { OnOk result (self.new.texts ≡ parts_of text.now ∷ []) }
+        ensures tried { OnErr result (self.new.texts ≡ parts_of text.now ∷ self.old.texts) }
+        ensures knows { Knows F.model self.old → Knows F.model self.new }
+        ensures goes_on { OnOk result (self.new.kept.has_stopped ≡ false) }
+        ensures stops { OnErr result (self.new.kept.has_stopped ≡ true) }
+        ensures failed { IsErrOf result RedoError.Failed → (self.old.kept.has_stopped ≡ true) ⊎ HasFailed F.model self.old.kept.files self.new.kept.files }
+        ensures no_room { IsErrOf result RedoError.NoRoom → Rises F.model.shortages self.old.kept.files self.new.kept.files }
+        ensures damaged { IsErrOf result RedoError.Damaged → ⊥ }
+        ensures full { IsErrOf result RedoError.LogFull → HaveRoom (parts_of text.now) → ⊥ }
+        ensures after { ComesAfter F.model self.old.kept.files self.new.kept.files }
+    {
+        match self.kept.keep(text) {
+            Ok(()) => {
+                self.history.forget();
+                self.history.note(text.before, text.table, text.after);
+                Ok(())
+            }
+            Err(error) => {
+                self.history.note(text.before, text.table, text.after);
+                Err(error)
+            }
+        }
+    }
+}

@@ -1,0 +1,98 @@
+//! Opens the files of a text.
+ghost use Rattle.std.specs.Prelude.{◌≡◌, ◌⊎◌, [], IfErr, IfOk, IsErrOf, false};
+ghost use Rattle.oram_kept.specs.Kept.{Finds, Keeps, bounds};
+ghost use Rattle.oram_kept.specs.Layout.{Holds};
+ghost use Rattle.oram_kept.specs.Opening.{FindsSame, IsNotOpened, ReadsText};
+ghost use Rattle.oram_kept.specs.Reading.{Says, SaysRoom, head_bytes, parts_around};
+ghost use Rattle.oram_kept.specs.Text.{Parts};
+ghost use Rattle.oram_redo.specs.Content.{Has};
+ghost use Rattle.oram_redo.specs.FilePair.{ComesAfter, LeavesOnly};
+ghost use Rattle.oram_redo.specs.Redo.{IsCrashConsistent};
+ghost use Rattle.oram_redo.specs.declared.file_pair.FileKind.TheVariants.{Records};
+
+use crate::head::{HEAD_AT, HEAD_LEN, Head};
+use crate::kept_text::{BOUNDS, KeptText};
+use crate::pages::TABLE_AT;
+use crate::reading::{Around, Text, text_in};
+use oram_redo::{FilePair, Redo, RedoError, recover};
+use std::alloc::{AllocError, Global};
+use std::fmt;
+
+/// Why no text was opened.
+#[derive(Clone, Copy, Debug, PartialEq, Eq)]
+pub enum OpenError {
+    /// The redo log could not be read, or the records behind it.
+    Files(RedoError),
+    /// The file of records holds no text, as far as its checksums tell: it is something else, or has changed since it was kept.
+    NoText,
+}
+
+impl fmt::Display for OpenError {
+    fn fmt<W: fmt::Write>(&self, f: &mut fmt::Formatter<W>) -> fmt::Result {
+        match self {
+            OpenError::Files(error) => error.fmt(f),
+            OpenError::NoText => f.write_str("the file holds no text that is whole"),
+        }
+    }
+}
+
+impl From<RedoError> for OpenError {
+    ghost use Rattle.oram_kept.specs.declared.opening.OpenError.TheVariants.{Files};
+
+    ghost from_gives = { λ error e. e ≡ Files error };
+
+    fn from(error: RedoError) -> OpenError {
+        OpenError::Files(error)
+    }
+}
+
+impl From<AllocError> for OpenError {
+    ghost use Rattle.oram_kept.specs.declared.opening.OpenError.TheVariants.{Files};
+    ghost use Rattle.oram_redo.specs.declared.faults.RedoError.TheVariants.{Memory};
+
+    ghost from_gives = { λ _ e. e ≡ Files Memory };
+
+    fn from(_error: AllocError) -> OpenError {
+        OpenError::Files(RedoError::Memory)
+    }
+}
+
+/// Reads the text that the records hold.
+fn read_text<F: FilePair>(alloc: Global, files: &mut F, redo: &Redo) -> Result<Text, OpenError>
+    ensures found { IfOk result (λ text. F.model.is_honest files.new → Holds (parts_around text.table.items text.around) (F.model.seen files.old Records)) }
+    ensures none { IsErrOf result OpenError.NoText → F.model.is_honest files.new → (p : Parts) → Holds p (F.model.seen files.old Records) → ⊥ }
+    ensures reads { ReadsText F.model redo.now result files.old files.new }
+{
+    let bytes = redo.read(alloc, files, HEAD_AT, HEAD_LEN)?;
+    let Some(head) = Head::read(&bytes) else {
+        return Err(OpenError::NoText);
+    };
+    let body = redo.read(alloc, files, TABLE_AT, head.body_len())?;
+    let Some(text) = text_in(alloc, &head, &body)? else {
+        return Err(OpenError::NoText);
+    };
+    Ok(text)
+}
+
+impl<F: FilePair + Drop> KeptText<F> {
+    /// Opens the files of a text, as a crash or an end has left them, and reads the text. Its table stays in what is returned first
+    /// ([`KeptText::table`]).
+    pub fn open(alloc: Global, mut files: F) -> Result<(KeptText<F>, Around), OpenError>
+        // It is the text that was kept last, and is kept again from then on.
+        ensures found { IfOk result (λ opened. F.model.is_honest opened.0.files → Finds bounds (parts_around opened.0.table opened.1) (F.model.seen files)) }
+        ensures kept { IfOk result (λ opened. F.model.is_honest opened.0.files → Keeps F.model (parts_around opened.0.table opened.1) opened.0) }
+        ensures goes_on { IfOk result (λ opened. opened.0.has_stopped ≡ false) }
+
+        // A crash at any moment leaves what an earlier one might have left, or files with the same text.
+        ensures any_moment { IfOk result (λ opened. F.model.is_honest opened.0.files
+            → LeavesOnly F.model files opened.0.files (λ c. F.model.may_leave files c ⊎ FindsSame (F.model.seen files) c)) }
+        ensures after { IfOk result (λ opened. ComesAfter F.model files opened.0.files) }
+
+        // On an error, the files are dropped. `NoText` comes only if they are those of no text.
+        ensures err { IfErr result (λ why. (last : F) × IsNotOpened F.model why files last) }
+    {
+        let redo = recover(alloc, &mut files, BOUNDS)?;
+        let text = read_text(alloc, &mut files, &redo)?;
+        Ok(KeptText::over(alloc, files, redo, text))
+    }
+}

@@ -1,0 +1,37 @@
+//! A list of texts that only contracts read.
+ghost use Rattle.std.specs.Prelude.{◌≡◌, ◌∷◌, [], List};
+ghost use Rattle.std.specs.Borrow.{ftrue};
+ghost use Rattle.oram_kept.specs.Text.{Parts};
+
+use std::marker::{Model, PhantomData};
+
+/// The texts that whoever opens the files may find, the newest first. It takes no bytes at run time.
+#[derive(Drop)]
+pub struct TextHistory {
+    marker: PhantomData<u8>,
+    pub ghost texts: { List Parts },
+}
+
+impl Model for TextHistory {
+    ghost also_owns = { λ _. ftrue };
+}
+
+impl TextHistory {
+    pub(crate) fn new() -> TextHistory
+        ensures { result.texts ≡ [] }
+    {
+        TextHistory {
+            marker: PhantomData,
+        }
+    }
+
+    /// Notes that none of these texts may be found any more.
+    pub(crate) fn forget(&mut self)
+        ensures { self.new.texts ≡ [] }
+    {}
+
+    /// Notes a text that may be found.
+    pub(crate) fn note(&mut self, _before: &[u8], _table: &[u32], _after: &[u8])
+        ensures { self.new.texts ≡ (record { before = _before.now; table = _table.now; after = _after.now }) ∷ self.old.texts }
+    {}
+}
