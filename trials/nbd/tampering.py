@@ -34,7 +34,7 @@ def mend(file, changed):
     buckets = BucketFile(file)
     buckets.replay()
     for (tree, node), record in buckets.records().items():
-        if tree < STAMP_TREE and record == changed[tree, node]:
+        if tree < STAMP_TREE and record == changed.get((tree, node)):
             buckets.flip(tree, node)
 
 
