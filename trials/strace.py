@@ -43,6 +43,14 @@ def failing_on(file, calls, error, when):
     return ["strace", "-f", "-o", "/dev/null", *names, "-e", f"trace={calls}", "-e", f"inject={calls}:error={error}:when={when}"]
 
 
+def failing_on_each(file, error, whens):
+    """The words that start a program under strace, which makes calls fail with an error of the system: for each name of a call, the calls with
+    these numbers (as strace writes them, such as 2 or 2..4) among those that are about this file."""
+    names = ["-P", file.name, "-P", str(file)]
+    injects = [word for call, when in whens.items() for word in ("-e", f"inject={call}:error={error}:when={when}")]
+    return ["strace", "-f", "-o", "/dev/null", *names, "-e", f"trace={','.join(whens)}", *injects]
+
+
 def giving_random(known):
     """The words that start a program under strace, which gives it these bytes in place of random ones. The first call for random bytes is
     the C library's own."""

@@ -36,3 +36,27 @@ def try_disk_errors(trial, depth=3, record_len=400):
     # strace and the host are one group.
     os.killpg(host.process.pid, signal.SIGKILL)
     host.wait()
+
+
+def try_lost_file(trial, depth=3, record_len=400):
+    """If a host's disk fails, and its file can't be opened again for a while, the host waits for it, says so once, and then goes on with what
+    was there."""
+    if not strace.is_usable():
+        trial.skip()
+        return
+    host, model = Host(trial.oramdisk, trial.folder / "lost-file").start(), Model()
+    format_tree(trial, host, model, depth, record_len)
+    host.stop()
+    # The file is synced twice when it is opened, and once more when the log is emptied, which is at the end of a connection.
+    host.start(strace.failing_on_each(host.path().resolve(), "EIO", {"fdatasync": "3", "openat": "2..3"}))
+    client = host.client()
+    check_answers(trial, "a STORE before the file is lost", client, model, [random_store(trial.dice, depth, record_len)])
+    client.close()
+    client = host.client()
+    check_answers(trial, "what is there once the file is back", client, model, model.all_fetches())
+    client.close()
+    waiting, listening = f"oramdisk: waiting for {host.file}", f"oramdisk: listening at 127.0.0.1:{host.port}, with the buckets in {host.file}"
+    said = [line for line in host.lines() if line in (waiting, listening)]
+    trial.check("the host says once that it waits, and then that it goes on", said[-3:] == [listening, waiting, listening], host.lines())
+    os.killpg(host.process.pid, signal.SIGKILL)
+    host.wait()

@@ -1,9 +1,11 @@
 """The faults of a host: words and settings, a file and a port that others have, and the folder that `new` makes."""
 
+from trials import strace
 from trials.bucket_host import Host, HostClient
 from trials.bucket_messages import DONE, SHAPE_TAKEN, refused
 from trials.connections import connect
 from trials.host.files import A_SHAPE, check_refused, try_other_files, try_presence, write_settings
+from trials.host.kills import kill_children
 from trials.processes import end_of
 from trials.statuses import BAD_FILE, BAD_WORDS, EXISTS, FILE_HELD, LISTENER_TAKEN
 
@@ -17,6 +19,7 @@ def try_faults(trial):
     try_presence(trial, folder)
     try_taken(trial, folder)
     try_elsewhere(trial, folder)
+    try_accepting(trial, folder)
     try_new(trial)
 
 
@@ -66,6 +69,34 @@ def try_elsewhere(trial, folder):
     process.terminate()
     end_of(process)
     trial.check("its file", (home / "its_buckets").exists() and not (folder / "its_buckets").exists())
+
+
+# The errors of the system for which only one connection isn't accepted.
+ERRORS_OF_ONE = ("ECONNABORTED", "ECONNRESET", "EHOSTUNREACH", "ENETUNREACH", "ENETDOWN", "ETIMEDOUT")
+
+
+def try_accepting(trial, folder):
+    """An error that concerns one connection keeps the host from accepting that one alone; after any other, the host ends."""
+    if not strace.is_usable():
+        trial.skip()
+        return
+    host = Host(trial.oramdisk, folder / "accepting").start()
+    host.client().close()
+    host.stop()
+    for error in ERRORS_OF_ONE:
+        host.start(strace.failing("accept4", error, 1))
+        client = host.client()
+        trial.check(f"a connection after {error}", client.ask(b"") is not None)
+        client.close()
+        kill_children(host.process)
+        host.wait()
+    host.start(strace.failing("accept4", "EMFILE", 1))
+    client = host.client()
+    trial.check("no connection after EMFILE", client.ask(b"") is None)
+    client.close()
+    host.wait()
+    end = (host.process.returncode, host.lines()[-1])
+    trial.check("the host ends then", end == (LISTENER_TAKEN, "oramdisk: can't accept connections: start it again"), end)
 
 
 MADE = """\
