@@ -9,7 +9,7 @@ import tempfile
 from pathlib import Path
 
 from trials import strace
-from trials.bucket_file import log_of
+from trials.bucket_file import BucketFile, log_of
 from trials.bucket_host import Host
 from trials.bucket_messages import NO_ROOM, refused
 from trials.host.kills import kill_children, random_store
@@ -89,12 +89,16 @@ def answers_of(model):
 
 
 def calls_of_life(trial, source, model):
-    """How often a host makes each call while it opens its files and answers the STOREs, and how often before its first answer."""
+    """How often a host makes each call while it opens its files and answers the STOREs, and how often before its first answer; and which of
+    its writes are into the front of a file."""
     with tempfile.NamedTemporaryFile() as found:
         asked = Asked(trial, source, model, strace.noting(",".join([*CALLS, "sendto"]), found.name))
         trial.check("a host without failures", asked.ask_all() and asked.is_kept() and not asked.unanswered)
-        names = re.findall(r"^\d+ +(\w+)\(", Path(found.name).read_text(), re.MULTILINE)
-    return collections.Counter(names), collections.Counter(names[: names.index("sendto")])
+        text = Path(found.name).read_text()
+    names = re.findall(r"^\d+ +(\w+)\(", text, re.MULTILINE)
+    places = re.findall(r"^\d+ +pwrite64\(\d+<(.*)>, .*, (\d+)\) += ", text, re.MULTILINE)
+    fronts = [number for number, (file, at) in enumerate(places, 1) if int(at) < BucketFile.LOG_START and not file.endswith(".unfinished")]
+    return collections.Counter(names), collections.Counter(names[: names.index("sendto")]), fronts
 
 
 def try_failing_calls(trial, of_each=6):
@@ -104,12 +108,15 @@ def try_failing_calls(trial, of_each=6):
         trial.skip()
         return
     source, model = killed_host(trial, "before-failing")
-    in_all, at_first = calls_of_life(trial, source, model)
+    in_all, at_first, fronts = calls_of_life(trial, source, model)
+    trial.check("writes into the fronts", len(fronts) > 2, fronts)
     unanswered, tried = 0, 0
     for call in CALLS:
         # Half of them while it opens its files or before its first answer, and half of them after that, where there are any.
         first, rest = range(1, at_first[call] + 1), range(at_first[call] + 1, in_all[call] + 1)
         whens = [trial.dice.choice(part) for part in (first, rest) if part for _ in range(of_each)]
+        # A front that isn't written shows only once the files are opened again.
+        whens += fronts if call == "pwrite64" else []
         for error, when in ((error, when) for error in ERRORS for when in whens):
             asked = Asked(trial, source, model, strace.failing(call, error, when))
             trial.check(f"{call} {when} fails with {error}", asked.ask_all() and asked.is_kept(), asked.host.lines()[-2:])
