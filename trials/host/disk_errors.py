@@ -11,6 +11,9 @@ from trials.host.kills import format_tree, random_store
 # A host syncs its file and its log when it opens them, and the next sync is that of its first STORE.
 SYNCS_AT_OPENING = 2
 
+# Errors of the system for which a sync may fail, and what the host's line says of them.
+ERRORS = {"EIO": "Input/output error (os error 5)", "ENOSPC": "No space left on device (os error 28)"}
+
 
 def try_disk_errors(trial, depth=3, record_len=400):
     """If a sync fails, the STORE that it is for has no answer: the connection ends, and the host's line says which error the system gave.
@@ -21,13 +24,19 @@ def try_disk_errors(trial, depth=3, record_len=400):
     host, model = Host(trial.oramdisk, trial.folder / "disk-errors").start(), Model()
     format_tree(trial, host, model, depth, record_len)
     host.stop()
-    host.start(under=strace.failing("fdatasync", "EIO", SYNCS_AT_OPENING + 1))
-    client, body = host.client(), random_store(trial.dice, depth, record_len)
+    for error, text in ERRORS.items():
+        try_failing_sync(trial, host, model, error, text, random_store(trial.dice, depth, record_len))
+
+
+def try_failing_sync(trial, host, model, error, text, body):
+    """The first sync of a STORE fails with an error of the system."""
+    host.start(under=strace.failing("fdatasync", error, SYNCS_AT_OPENING + 1))
+    client = host.client()
     answer = client.ask(body)
     trial.check("a STORE whose sync fails has no answer", answer is None, answer and answer.hex())
     client.close()
     line = host.connection_line(client.port)
-    trial.check("the line of that connection", line and line[3] == ", the disk failed: Input/output error (os error 5)", line)
+    trial.check("the line of that connection", line and line[3] == f", the disk failed: {text}", line)
     client = host.client()
     check_answers(trial, "what is there after an error", client, model, model.all_fetches())
     trial.check("the STORE once more", client.ask(body) == model.answer(body) == DONE)
