@@ -45,6 +45,16 @@ class Asked:
                 return False
         return True
 
+    def read_all(self):
+        """Fetches all paths. Returns whether each of them is as the model has it, or had no answer and is so when it is asked for again."""
+        for body in self.model.all_fetches():
+            wanted, answer = self.model.answer(body), self.client.ask(body)
+            if answer is None and not self.is_found(self.model):
+                return False
+            if answer not in (wanted, None):
+                return False
+        return True
+
     def is_found(self, then):
         """After a STORE without an answer: whether the host has what it had, or that and the STORE, whole."""
         self.unanswered += 1
@@ -93,7 +103,7 @@ def calls_of_life(trial, source, model):
     its writes are into the front of a file."""
     with tempfile.NamedTemporaryFile() as found:
         asked = Asked(trial, source, model, strace.noting(",".join([*CALLS, "sendto"]), found.name))
-        trial.check("a host without failures", asked.ask_all() and asked.is_kept() and not asked.unanswered)
+        trial.check("a host without failures", asked.ask_all() and asked.read_all() and asked.is_kept() and not asked.unanswered)
         text = Path(found.name).read_text()
     names = re.findall(r"^\d+ +(\w+)\(", text, re.MULTILINE)
     places = re.findall(r"^\d+ +pwrite64\(\d+<(.*)>, .*, (\d+)\) += ", text, re.MULTILINE)
@@ -119,7 +129,20 @@ def try_failing_calls(trial, of_each=6):
         whens += fronts if call == "pwrite64" else []
         for error, when in ((error, when) for error in ERRORS for when in whens):
             asked = Asked(trial, source, model, strace.failing(call, error, when))
-            trial.check(f"{call} {when} fails with {error}", asked.ask_all() and asked.is_kept(), asked.host.lines()[-2:])
+            holds = asked.ask_all() and asked.read_all() and asked.is_kept()
+            trial.check(f"{call} {when} fails with {error}", holds, asked.host.lines()[-2:])
             unanswered, tried = unanswered + asked.unanswered, tried + 1
-    trial.check("STOREs without an answer", unanswered > tried // 2, (unanswered, tried))
-    print(f"{tried} calls failed, and {unanswered} STOREs had no answer", flush=True)
+    trial.check("requests without an answer", unanswered > tried // 2, (unanswered, tried))
+    print(f"{tried} calls failed, and {unanswered} requests had no answer", flush=True)
+    try_no_room(trial, source, model, at_first["pwrite64"] + 1)
+
+
+def try_no_room(trial, source, model, when):
+    """The first write of a host's second STORE fails. If there is no room for it in the log, the log begins again, and the STORE is done. After
+    another error it has no answer."""
+    for error, is_done in (("ENOSPC", True), ("EDQUOT", True), ("EIO", False)):
+        asked = Asked(trial, source, model, strace.failing("pwrite64", error, when))
+        trial.check(f"a STORE before one whose write fails with {error}", asked.ask_all(1) and not asked.unanswered)
+        holds = asked.ask_all(1) and asked.unanswered == (0 if is_done else 1)
+        trial.check(f"a STORE whose write fails with {error}", holds and asked.read_all(), asked.host.lines()[-2:])
+        asked.end()
