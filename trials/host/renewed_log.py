@@ -1,19 +1,22 @@
 """The copy that takes a log's place whenever a host opens its files."""
 
+import os
 import re
+import signal
 import tempfile
 from pathlib import Path
 
 from trials import strace
 from trials.bucket_file import BucketFile, log_of
 from trials.bucket_host import check_answers
-from trials.host.kills import kill_children
-from trials.host.rot import killed_host
+from trials.host.kills import kill_children, random_store
+from trials.host.rot import DEPTH, RECORD_LEN, killed_host
 from trials.statuses import BAD_FILE
 
 # The calls on a copy that may fail, with their errors, so that the host goes on with the log as it is.
 FAILURES_WITHOUT_COPY = [
     ("openat", "EACCES"),
+    ("openat", "EROFS"),
     ("openat", "ENOSPC"),
     ("pwrite64", "EDQUOT"),
     ("pwrite64", "ENOSPC"),
@@ -36,6 +39,8 @@ def try_renewed_log(trial):
     try_leftovers(trial, host, model, log)
     try_without_copy(trial, host, model, log)
     try_disk_failures(trial, host, model, log)
+    try_failing_reads(trial, host, model, log)
+    try_cut_copy(trial, host, model, log)
 
 
 def try_start(trial, what, host, model, under=()):
@@ -118,3 +123,48 @@ def try_disk_failures(trial, host, model, log):
         host.wait()
         trial.check(f"{call} of the {name} fails: the host ends", host.process.returncode == BAD_FILE, host.process.returncode)
         try_start(trial, f"after {call} of the {name} failed", host, model)
+
+
+def leave_entries(trial, host, model, log):
+    """Leaves a log with entries, and nothing behind them."""
+    client = host.start().client()
+    check_answers(trial, "STOREs before a kill", client, model, [random_store(trial.dice, DEPTH, RECORD_LEN) for _ in range(3)])
+    host.stop(signal.SIGKILL)
+    client.close()
+    found, end = BucketFile(host.path()).entries()
+    trial.check("the log has entries", len(found) == 3 * (DEPTH + 1), found)
+    os.truncate(log, end + 1)
+    return end
+
+
+def try_failing_reads(trial, host, model, log):
+    """A read of the log fails while it is copied: the host ends, and both files are as they were."""
+    if not strace.is_usable():
+        trial.skip()
+        return
+    leave_entries(trial, host, model, log)
+    files = {file: file.read_bytes() for file in (host.path(), log)}
+    with tempfile.NamedTemporaryFile() as found:
+        try_start(trial, "before reads of the log fail", host, model, strace.noting("pread64,rename", found.name))
+        before_renaming = Path(found.name).read_text().partition(" rename(")[0]
+    reads = len(re.findall(rf"pread64\(\d+<{re.escape(str(log.resolve()))}>", before_renaming))
+    trial.check("reads of the log before its copy has its name", reads > 2, reads)
+    for number in range(1, reads + 1):
+        for file, data in files.items():
+            file.write_bytes(data)
+        host.start(strace.failing_on(log.resolve(), "pread64", "EIO", number))
+        host.wait()
+        end = (host.process.returncode, all(file.read_bytes() == data for file, data in files.items()))
+        trial.check(f"read {number} of the log fails: the host ends, and the files are as they were", end == (BAD_FILE, True), end)
+    try_start(trial, "after reads of the log that failed", host, model)
+
+
+def try_cut_copy(trial, host, model, log):
+    """The system takes only a part of the copy, since the host may make no file that long, and then ends the host: the log keeps its
+    entries."""
+    end = leave_entries(trial, host, model, log)
+    kept = log.read_bytes()
+    host.start(["prlimit", f"--fsize={end // 2}:unlimited"])
+    host.wait()
+    trial.check("a copy that is cut short: the log is as it was", log.read_bytes() == kept)
+    try_start(trial, "after a copy that was cut short", host, model)
