@@ -20,5 +20,6 @@ pub mod Blanks
 pub mod BlankLaw
 pub mod SystemReads
 pub mod SystemWrites
+pub mod FrontWrites
 pub mod Renewals
 pub mod Rows

@@ -1,7 +1,8 @@
 -- Writes of any length, by calls of the system that may take less than they are given.
-use Rattle.std.proofs.Common.{◌≡◌, ℕ, zero, suc, ◌+◌, ◌-◌, ◌≤◌, true, false, List, [], ◌∷◌, ◌++◌, length, take, drop, refl, sym, ◌∙◌, ap, subst, arith}
+use Rattle.std.proofs.Common.{◌≡◌, inl, inr, ℕ, zero, suc, ◌+◌, ◌-◌, ◌≤◌, true, false, List, [], ◌∷◌, ◌++◌, length, take, drop, refl, sym, ◌∙◌, ap, subst, arith}
 use Rattle.std.proofs.lemmas.List.{length-take, length-drop, take_all}
 use Rattle.oram_redo.specs.FilePair.{Contents, Wrote}
+use Rattle.oram_redo.specs.Fronts.{HasFailedLast}
 use Rattle.oram_redo.specs.Note.{Call}
 use Rattle.oram_redo.specs.Opened.{Opened}
 use Rattle.oram_redo.specs.System.{Touched, seen_after}
@@ -29,6 +30,15 @@ take_more (suc put) n (b ∷ bytes) low less =
     let moved : suc put + n ≡ suc (put + n) = omega arith in
     ap (λ (k : ℕ). b ∷ (take put bytes ++ take n (take k (drop put bytes)))) step ∙ ap (λ (l : List ℕ). b ∷ l) (take_more put n bytes (omega (arith, low)) (omega (arith, less))) ∙ ap (λ (k : ℕ). take k (b ∷ bytes)) (sym moved)
 
+-- the system took n more bytes
+pub wrote_more : (first : Opened) (old mid later : List Call) (file : FileKind) (at from put : ℕ) (bytes : List ℕ) → from ≡ at + put → put ≤ length bytes → (n : ℕ) → n ≤ length (rest_of put bytes)
+    → later ≡ record { kind = 1; file = file; at = from; is_ok = true; bytes = take n (rest_of put bytes) } ∷ mid
+    → Wrote file at (take put bytes) (seen_after first old) (seen_after first mid) → Wrote file at (take (put + n) bytes) (seen_after first old) (seen_after first later)
+wrote_more first old mid later file at from put bytes here low n less is before =
+    subst (λ (l : List ℕ). Wrote file at l (seen_after first old) (seen_after first later)) (take_more put n bytes low (omega (arith, less, length-rest_of put bytes)))
+    (wrote_then file at (take put bytes) (take n (rest_of put bytes)) (seen_after first old) (seen_after first mid) (seen_after first later) before
+    (subst (λ (k : ℕ). Wrote file k (take n (rest_of put bytes)) (seen_after first mid) (seen_after first later)) (omega (arith, here, low, length-take put bytes)) (wrote_call first mid later file from (take n (rest_of put bytes)) is)))
+
 module _ (first : Opened) (old mid later : List Call) (file : FileKind) (at from put : ℕ) (bytes : List ℕ) (here : from ≡ at + put) (low : put ≤ length bytes)
     (touched : Touched first file at (length bytes) old mid) where
   -- the system took n more bytes
@@ -38,14 +48,15 @@ module _ (first : Opened) (old mid later : List Call) (file : FileKind) (at from
         touched_then first file at (length bytes) old mid later touched
         (touched_write first mid file at (length bytes) from (take n (rest_of put bytes)) (omega (arith, here)) (omega (arith, here, low, less, length-rest_of put bytes, length-take n (rest_of put bytes))) later is)
 
-    pub wrote_more : Wrote file at (take put bytes) (seen_after first old) (seen_after first mid) → Wrote file at (take (put + n) bytes) (seen_after first old) (seen_after first later)
-    wrote_more before =
-        subst (λ (l : List ℕ). Wrote file at l (seen_after first old) (seen_after first later)) (take_more put n bytes low (omega (arith, less, length-rest_of put bytes)))
-        (wrote_then file at (take put bytes) (take n (rest_of put bytes)) (seen_after first old) (seen_after first mid) (seen_after first later) before
-        (subst (λ (k : ℕ). Wrote file k (take n (rest_of put bytes)) (seen_after first mid) (seen_after first later)) (omega (arith, here, low, length-take put bytes)) (wrote_call first mid later file from (take n (rest_of put bytes)) is)))
-
   -- the system took none, and may have written any part of them
   pub touched_stopped : later ≡ record { kind = 1; file = file; at = from; is_ok = false; bytes = rest_of put bytes } ∷ mid → Touched first file at (length bytes) old later
   touched_stopped is =
       touched_then first file at (length bytes) old mid later touched
       (touched_failed first mid file at (length bytes) from (rest_of put bytes) (omega (arith, here)) (omega (arith, here, low, length-rest_of put bytes)) later is)
+
+-- a write into a front that failed, or of which the system took nothing
+pub failed_last : (writes later : List Call) (file : FileKind) (at : ℕ) (bytes : List ℕ) → later ≡ record { kind = 1; file = file; at = at; is_ok = false; bytes = bytes } ∷ writes → HasFailedLast later
+failed_last writes later file at bytes is = subst HasFailedLast (sym is) (inl refl)
+
+pub took_nothing : (writes later : List Call) (file : FileKind) (at n : ℕ) (bytes : List ℕ) → n ≡ 0 → later ≡ record { kind = 1; file = file; at = at; is_ok = true; bytes = take n bytes } ∷ writes → HasFailedLast later
+took_nothing writes later file at n bytes none is = subst HasFailedLast (sym is) (inr (ap (λ (k : ℕ). take k bytes) none))

@@ -1,14 +1,15 @@
 -- What calls of the system do to what a read returns and to what a crash may leave.
-use Rattle.std.proofs.Common.{◌≡◌, ◌⊎◌, inl, ⊎_elim, ℕ, suc, ◌+◌, ◌≤◌, true, false, List, [], ◌∷◌, ◌++◌, length, refl, sym, ◌∙◌, ap, subst, arith}
-use Rattle.std.specs.Prelude.{Bool}
+use Rattle.std.proofs.Common.{◌≡◌, ◌⊎◌, inl, inr, ⊎_elim, ℕ, suc, ◌+◌, ◌≤◌, true, false, List, [], ◌∷◌, ◌++◌, length, refl, sym, ◌∙◌, ap, subst, arith}
+use Rattle.std.specs.Prelude.{Bool, not, if◌then◌else◌}
 use Rattle.std.proofs.lemmas.Bool.Decides.{nat_tests}
 use Rattle.oram_redo.specs.Content.{Content, Agrees, put}
 use Rattle.oram_redo.specs.FilePair.{Contents, Elapses, Torn, Wrote, Same, other_than}
 use Rattle.oram_redo.specs.Memory.{LeavesBut}
 use Rattle.oram_redo.specs.Note.{Call}
 use Rattle.oram_redo.specs.Opened.{Opened}
-use Rattle.oram_redo.specs.System.{put_in, seen_after, ranges_after, IsHonestHistory, LeftSince, MayLeaveAfter, Touched, TouchedNothing}
+use Rattle.oram_redo.specs.System.{put_in, seen_after, ranges_after, IsHonestHistory, LeftSince, MayLeaveAfter, Touched, TouchedNothing, has_failed_sync, ranges_of_other}
 use Rattle.oram_redo.specs.declared.file_pair.FileKind.{FileKind}
+use Rattle.oram_redo.specs.declared.file_pair.FileKind.TheVariants.{Log}
 use Rattle.oram_redo.specs.declared.memory.Range.{Range}
 use Rattle.oram_redo.proofs.Bytes.{put_outside}
 use Rattle.oram_redo.proofs.Recorded.{wrote_put, write_leaves, none_of_file, fewer_ranges, elapses_call, elapses_none, elapses_then}
@@ -36,6 +37,7 @@ touched_none first file at n calls = record {
   keeps = λ c left. left;
   time = elapses_none first calls;
   honest = λ h. h;
+  syncs = refl;
 }
 
 pub touched_then : (first : Opened) (file : FileKind) (at n : ℕ) (old mid new : List Call) → Touched first file at n old mid → Touched first file at n mid new → Touched first file at n old new
@@ -48,24 +50,26 @@ touched_then first file at n old mid new one two = record {
   keeps = λ c left. two.keeps c (one.keeps c left);
   time = elapses_then first old mid new one.time two.time two.keeps;
   honest = λ h. one.honest (two.honest h);
+  syncs = two.syncs ∙ one.syncs;
 }
 
 -- a call that writes nothing
 touched_still : (first : Opened) (file : FileKind) (at n : ℕ) (calls : List Call) (call : Call) → seen_after first (call ∷ calls) ≡ seen_after first calls → ranges_after first (call ∷ calls) ≡ ranges_after first calls
-    → Touched first file at n calls (call ∷ calls)
-touched_still first file at n calls call seen ranges = record {
+    → has_failed_sync (call ∷ calls) ≡ has_failed_sync calls → Touched first file at n calls (call ∷ calls)
+touched_still first file at n calls call seen ranges syncs = record {
   torn = subst (λ (s : Contents). Torn file at n (seen_after first calls) s) (sym seen) (torn_not file at n (seen_after first calls));
   crash = λ c left. (c, subst (λ (r : List Range). LeavesBut r (seen_after first calls) c) ranges (subst (λ (s : Contents). LeavesBut (ranges_after first (call ∷ calls)) s c) seen left), torn_not file at n c);
   keeps = λ c left. subst (λ (r : List Range). LeavesBut r (seen_after first (call ∷ calls)) c) (sym ranges) (subst (λ (s : Contents). LeavesBut (ranges_after first calls) s c) (sym seen) left);
   time = elapses_call first calls call;
   honest = λ h. h.3;
+  syncs = syncs;
 }
 
 pub touched_read : (calls later : List Call) (file : FileKind) (at : ℕ) (bytes : List ℕ) → later ≡ record { kind = 2; file = file; at = at; is_ok = true; bytes = bytes } ∷ calls → TouchedNothing calls later
-touched_read calls later file at bytes is = subst (λ (l : List Call). TouchedNothing calls l) (sym is) (λ first f from n. touched_still first f from n calls (record { kind = 2; file = file; at = at; is_ok = true; bytes = bytes }) refl refl)
+touched_read calls later file at bytes is = subst (λ (l : List Call). TouchedNothing calls l) (sym is) (λ first f from n. touched_still first f from n calls (record { kind = 2; file = file; at = at; is_ok = true; bytes = bytes }) refl refl refl)
 
 pub touched_length : (calls later : List Call) (file : FileKind) (at : ℕ) → later ≡ record { kind = 4; file = file; at = at; is_ok = true; bytes = [] } ∷ calls → TouchedNothing calls later
-touched_length calls later file at is = subst (λ (l : List Call). TouchedNothing calls l) (sym is) (λ first f from n. touched_still first f from n calls (record { kind = 4; file = file; at = at; is_ok = true; bytes = [] }) refl refl)
+touched_length calls later file at is = subst (λ (l : List Call). TouchedNothing calls l) (sym is) (λ first f from n. touched_still first f from n calls (record { kind = 4; file = file; at = at; is_ok = true; bytes = [] }) refl refl refl)
 
 -- a write, whole or failed: what a crash may leave before it, it may leave after it
 write_keeps : (seen new : Contents) (ranges : List Range) (file : FileKind) (at n : ℕ) → Torn file at n seen new → (c : Contents) → LeavesBut ranges seen c → LeavesBut (record { file = file; at = at; len = n } ∷ ranges) new c
@@ -88,6 +92,7 @@ module _ (first : Opened) (calls : List Call) (file : FileKind) (at n from : ℕ
     keeps = write_keeps (seen_after first calls) new (ranges_after first calls) file from (length bytes) torn;
     time = elapses_call first calls (record { kind = 1; file = file; at = from; is_ok = is_ok; bytes = bytes });
     honest = λ h. h.3;
+    syncs = refl;
   }
     where
       new : Contents
@@ -113,31 +118,75 @@ nothing_left first old new nothing c left f i out =
     let before = (nothing first f 0 0).crash c left in
     before.2.after i (omega arith) ∙ before.1 f i out
 
--- a sync of a file, and calls after it that wrote nothing
-module _ (first : Opened) (old mid later : List Call) (file : FileKind) (is : mid ≡ record { kind = 3; file = file; at = 0; is_ok = true; bytes = [] } ∷ old) (nothing : TouchedNothing mid later) where
-  abbrev synced : List Call
-  synced = record { kind = 3; file = file; at = 0; is_ok = true; bytes = [] } ∷ old
+-- Calls after which a read returns what it returned before, and a crash leaves nothing else.
+pub record Stilled (first : Opened) (old new : List Call) : Type 0 where
+  pub seen : Same (seen_after first new) (seen_after first old)
+  pub crash : (c : Contents) → MayLeaveAfter first new c → MayLeaveAfter first old c
+  pub time : Elapses (length old) (length new) (LeftSince first old) (LeftSince first new) (MayLeaveAfter first new)
+  pub honest : IsHonestHistory first new → IsHonestHistory first old
 
-  left_synced : (c : Contents) → MayLeaveAfter first later c → MayLeaveAfter first synced c
-  left_synced c left = subst (λ (l : List Call). MayLeaveAfter first l c) is (nothing_left first mid later nothing c left)
+pub stilled_nothing : (first : Opened) (old new : List Call) → TouchedNothing old new → Stilled first old new
+stilled_nothing first old new nothing = record {
+  seen = nothing_seen first old new nothing;
+  crash = nothing_left first old new nothing;
+  time = (nothing first Log 0 0).time;
+  honest = (nothing first Log 0 0).honest;
+}
 
-  pub synced_seen : Same (seen_after first later) (seen_after first old)
-  synced_seen f i = nothing_seen first mid later nothing f i ∙ ap (λ (l : List Call). seen_after first l f i) is
+pub stilled_then : (first : Opened) (old mid new : List Call) → Stilled first old mid → Stilled first mid new → Stilled first old new
+stilled_then first old mid new one two = record {
+  seen = λ f i. two.seen f i ∙ one.seen f i;
+  crash = λ c left. one.crash c (two.crash c left);
+  time = record {
+    later = omega (arith, one.time.later, two.time.later);
+    nothing_else = λ t c le left. ⊎_elim
+        (λ was. ⊎_elim (λ past. inl past) (λ between. inl (inl (one.crash c between))) (one.time.nothing_else t c le was))
+        (λ now. inr now)
+        (two.time.nothing_else t c (next t le) left);
+    keeps = λ t c le past. two.time.keeps t c (next t le) (one.time.keeps t c le past);
+  };
+  honest = λ h. one.honest (two.honest h);
+}
+  where
+    next : (t : ℕ) → t ≤ length old → t ≤ length mid
+    next t le = omega (arith, le, one.time.later)
 
-  pub synced_sure : (c : Contents) → MayLeaveAfter first later c → Agrees (c file) (seen_after first later file)
-  synced_sure c left i = left_synced c left file i (none_of_file file (ranges_after first old) i) ∙ sym (synced_seen file i)
+abbrev sync_call : FileKind → Bool → Call
+sync_call file ok = record { kind = 3; file = file; at = 0; is_ok = ok; bytes = [] }
 
-  pub synced_crash : (c : Contents) → MayLeaveAfter first later c → MayLeaveAfter first old c
-  synced_crash c left f i out = left_synced c left f i (fewer_ranges file (ranges_after first old) f i out)
+-- a sync after which a crash leaves nothing else, whether it was done or failed
+stilled_call : (first : Opened) (old later : List Call) (file : FileKind) (ok : Bool) → later ≡ sync_call file ok ∷ old
+    → ((c : Contents) → MayLeaveAfter first (sync_call file ok ∷ old) c → MayLeaveAfter first old c) → Stilled first old later
+stilled_call first old later file ok is crash = subst (λ (l : List Call). Stilled first old l) (sym is) (record {
+  seen = λ f i. refl;
+  crash = crash;
+  time = elapses_call first old (sync_call file ok);
+  honest = λ h. h.3;
+})
 
-  pub synced_time : Elapses (length old) (length later) (LeftSince first old) (LeftSince first later) (MayLeaveAfter first later)
-  synced_time =
-      elapses_then first old mid later
-      (subst (λ (l : List Call). Elapses (length old) (length l) (LeftSince first old) (LeftSince first l) (MayLeaveAfter first l)) (sym is) (elapses_call first old (record { kind = 3; file = file; at = 0; is_ok = true; bytes = [] })))
-      (nothing first file 0 0).time (nothing first file 0 0).keeps
+-- one that has failed covers nothing
+pub stilled_failed : (first : Opened) (old later : List Call) (file : FileKind) → later ≡ record { kind = 3; file = file; at = 0; is_ok = false; bytes = [] } ∷ old → Stilled first old later
+stilled_failed first old later file is = stilled_call first old later file false is (λ c left. left)
 
-  pub synced_honest : IsHonestHistory first later → IsHonestHistory first old
-  synced_honest h = (subst (λ (l : List Call). IsHonestHistory first l) is ((nothing first file 0 0).honest h)).3
+-- a sync, if none has failed before
+module _ (first : Opened) (old mid : List Call) (file : FileKind) (none_failed : has_failed_sync old ≡ false) (is : mid ≡ record { kind = 3; file = file; at = 0; is_ok = true; bytes = [] } ∷ old) where
+  covered : ranges_after first (sync_call file true ∷ old) ≡ ranges_of_other file (ranges_after first old)
+  covered = ap (λ (b : Bool). if not b then ranges_of_other file (ranges_after first old) else ranges_after first old) none_failed
+
+  left_synced : (c : Contents) → MayLeaveAfter first (sync_call file true ∷ old) c → LeavesBut (ranges_of_other file (ranges_after first old)) (seen_after first old) c
+  left_synced c left = subst (λ (r : List Range). LeavesBut r (seen_after first old) c) covered left
+
+  pub stilled_synced : Stilled first old mid
+  stilled_synced = stilled_call first old mid file true is (λ c left f i out. left_synced c left f i (fewer_ranges file (ranges_after first old) f i out))
+
+  pub still_none_failed : has_failed_sync mid ≡ false
+  still_none_failed = ap has_failed_sync is ∙ none_failed
+
+  -- a crash after that, and after calls that wrote nothing, leaves what a read returns
+  pub synced_sure : (later : List Call) → TouchedNothing mid later → (c : Contents) → MayLeaveAfter first later c → Agrees (c file) (seen_after first later file)
+  synced_sure later nothing c left i =
+      left_synced c (subst (λ (l : List Call). MayLeaveAfter first l c) is (nothing_left first mid later nothing c left)) file i (none_of_file file (ranges_after first old) i)
+      ∙ sym (nothing_seen first mid later nothing file i ∙ ap (λ (l : List Call). seen_after first l file i) is)
 
 -- two writes, one behind the other
 put_same : (bs : List ℕ) (at : ℕ) (c d : Content) (i : ℕ) → c i ≡ d i → put bs at c i ≡ put bs at d i

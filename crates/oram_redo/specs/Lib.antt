@@ -1,5 +1,6 @@
 pub mod Content
 pub mod FilePair
+pub mod Fronts
 pub mod Log
 pub mod Memory
 pub mod Batch

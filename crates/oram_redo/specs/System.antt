@@ -1,5 +1,5 @@
 -- What a history of calls says about a pair of the system's files, which were as `first` says when the pair was made.
-use Rattle.std.specs.Prelude.{◌≡◌, ◌⊎◌, ◌≤◌, ℕ, zero, suc, ◌-◌, ◌==◌, ◌&&◌, Bool, true, false, if◌then◌else◌, List, [], ◌∷◌, length, ⊤}
+use Rattle.std.specs.Prelude.{◌≡◌, ◌⊎◌, ◌≤◌, ℕ, zero, suc, ◌-◌, ◌==◌, ◌&&◌, not, Bool, true, false, if◌then◌else◌, List, [], ◌∷◌, length, ⊤}
 use mathlib.Core.Logic.{inl, inr}
 use mathlib.Core.Path.{subst}
 use Rattle.std.proofs.Math.Nat.{sub_self}
@@ -35,12 +35,17 @@ abbrev pub ranges_of_other : FileKind → List Range → List Range
 ranges_of_other file [] = []
 ranges_of_other file (r ∷ rs) = if is_same r.file file then ranges_of_other file rs else r ∷ ranges_of_other file rs
 
+-- Whether a sync has failed. What it had to cover may be lost, and no later sync covers it.
+abbrev pub has_failed_sync : List Call → Bool
+has_failed_sync [] = false
+has_failed_sync (call ∷ calls) = if (call.kind == 3) && not call.is_ok then true else has_failed_sync calls
+
 -- the places that no sync has covered
 abbrev pub ranges_after : Opened → List Call → List Range
 ranges_after first [] = first.unsynced
 ranges_after first (call ∷ calls) =
     if call.kind == 1 then record { file = call.file; at = call.at; len = length call.bytes } ∷ ranges_after first calls
-    else (if (call.kind == 3) && call.is_ok then ranges_of_other call.file (ranges_after first calls) else ranges_after first calls)
+    else (if (call.kind == 3) && call.is_ok && not (has_failed_sync calls) then ranges_of_other call.file (ranges_after first calls) else ranges_after first calls)
 
 abbrev pub MayLeaveAfter : Opened → List Call → Contents → Type 0
 MayLeaveAfter first calls c = LeavesBut (ranges_after first calls) (seen_after first calls) c
@@ -74,6 +79,8 @@ pub record Touched (first : Opened) (file : FileKind) (at n : ℕ) (old new : Li
   pub keeps : (c : Contents) → MayLeaveAfter first old c → MayLeaveAfter first new c
   pub time : Elapses (length old) (length new) (LeftSince first old) (LeftSince first new) (MayLeaveAfter first new)
   pub honest : IsHonestHistory first new → IsHonestHistory first old
+  -- no sync was made
+  pub syncs : has_failed_sync new ≡ has_failed_sync old
 
 -- calls were made that wrote nothing
 abbrev pub TouchedNothing : List Call → List Call → Type 0

@@ -62,6 +62,7 @@ pub trait FilePair {
     /// `LENGTH_AT` on. If there is no room for the bytes, any part of them
     /// may be written, and the call may be made again.
     fn write_front(&mut self, file: FileKind, at: u64, bytes: &[u8]) -> Result<(), RedoError>
+        ensures sure { OnOk result (IsSure model file self.new) }
         ensures seen { Same (model.seen self.new) (model.seen self.old) }
         ensures crash { (c : Contents) → model.may_leave self.new c → model.may_leave self.old c }
         ensures time { TimeGoesOn model self.old self.new }

@@ -3,12 +3,15 @@
 //! The pair writes it whenever the caller writes into that front ([`FilePair::write_front`](crate::FilePair::write_front)), which it does while
 //! the log has no entries: by then, a sync has covered how long the file is. A file never gets shorter. So a file that is shorter than its
 //! front says has lost something. Nothing else can be told by a length: the file ends behind the last place that was written so far.
-ghost use Rattle.std.specs.Prelude.{◌↔◌, IsTrue};
-ghost use Rattle.oram_redo.specs.Length.{IsCutShort};
+ghost use Rattle.std.specs.Prelude.{◌≡◌, ◌⊎◌, ◌↔◌, IsTrue, OnOk, length};
+ghost use Rattle.oram_redo.specs.Calls.{calls_of};
+ghost use Rattle.oram_redo.specs.Fronts.{HasFailedLast, SaysLast, front_writes_of};
+ghost use Rattle.oram_redo.specs.Length.{IsCutShort, SaysLength};
+ghost use Rattle.oram_redo.specs.System.{TouchedNothing};
 
 use crate::FileKind;
 use crate::batch::check_of;
-use crate::system_calls::write_front;
+use crate::system_calls::{is_no_room, write_front};
 use crate::system_files::SystemFiles;
 use std::io;
 
@@ -32,11 +35,26 @@ pub fn is_cut_short(field: &[u8], len: u64) -> bool
     len < least
 }
 
-/// Has the front of the records' file say how long the file is.
-pub(crate) fn say_length(files: &SystemFiles) -> io::Result<()> {
-    let said = files.records_len()?.to_le_bytes();
+/// Returns the bytes that say a length.
+fn field_of(len: u64) -> [u8; LENGTH_FIELD_LEN]
+    ensures { SaysLength result len }
+{
+    let said = len.to_le_bytes();
     let mut field = [0; LENGTH_FIELD_LEN];
     field[..8].copy_from_slice(&said);
     field[8..].copy_from_slice(&check_of(&said));
-    write_front(files, FileKind::Records, LENGTH_AT, &field)
+    field
+}
+
+/// Has the front of the records' file say how long the file is. If there is no room for that, the next write into the front says it.
+pub(crate) fn say_length(files: &mut SystemFiles) -> io::Result<()>
+    ensures said { OnOk result (SaysLast (calls_of files.old) (calls_of files.new) (front_writes_of files.old) (front_writes_of files.new)
+        ⊎ HasFailedLast (front_writes_of files.new)) }
+    ensures nothing { TouchedNothing (calls_of files.old) (calls_of files.new) }
+{
+    let len = files.len(FileKind::Records)?;
+    match write_front(files, FileKind::Records, LENGTH_AT, &field_of(len)) {
+        Err(error) if is_no_room(&error) => Ok(()),
+        written => written,
+    }
 }

@@ -234,9 +234,9 @@ impl FilePair for MemoryPair {
         }
     }
 
-    /// A pair in memory has no fronts.
-    fn write_front(&mut self, _file: FileKind, _at: u64, _bytes: &[u8]) -> Result<(), RedoError> {
-        Ok(())
+    /// Only syncs the file: a pair in memory has no fronts.
+    fn write_front(&mut self, file: FileKind, _at: u64, _bytes: &[u8]) -> Result<(), RedoError> {
+        self.sync(file)
     }
 
     fn errno(&self) -> Option<i32> {

@@ -87,6 +87,8 @@ pub fn write_fronts<F: FilePair>(
     log: &[u8],
     records: &[u8],
 ) -> Result<(), RedoError>
+    ensures log { OnOk result (IsSure F.model FileKind.Log files.new) }
+    ensures records { OnOk result (IsSure F.model FileKind.Records files.new) }
     ensures nothing_written { WritesNothing F.model files.old files.new }
     ensures cause { HasCause F.model files.old files.new result }
     ensures errors { IfErr result (λ e. (e ≡ RedoError.NoRoom) ⊎ (e ≡ RedoError.Failed)) }

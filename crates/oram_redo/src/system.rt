@@ -2,17 +2,19 @@
 //!
 //! What the files hold is defined by the calls that were made on them (`system_files.rt`) and by what they held at first, which may be
 //! anything: `is_honest` says that each read has returned what was there.
-ghost use Rattle.std.specs.Prelude.{◌≡◌, ◌⊎◌, length, refl};
+ghost use Rattle.std.specs.Prelude.{◌≡◌, ◌⊎◌, OnOk, length, refl};
 ghost use Rattle.std.proofs.Common.{inl};
+ghost use Rattle.oram_redo.specs.Calls.{calls_of};
 ghost use Rattle.oram_redo.specs.FilePair.{Contents};
+ghost use Rattle.oram_redo.specs.Fronts.{WroteWithLength, front_writes_of};
 ghost use Rattle.oram_redo.specs.Memory.{LeavesBut};
 ghost use Rattle.oram_redo.specs.Opened.{Opened, contents_in};
-ghost use Rattle.oram_redo.specs.System.{IsHonestHistory, LeftSince, MayLeaveAfter, only_after, seen_after};
+ghost use Rattle.oram_redo.specs.System.{IsHonestHistory, LeftSince, MayLeaveAfter, TouchedNothing, has_failed_sync, only_after, seen_after};
 
 use crate::growth::{grow, reach};
 use crate::length::say_length;
 use crate::origin::Origin;
-use crate::system_calls::{read_behind, write_all, write_front};
+use crate::system_calls::{is_no_room, read_behind, write_all, write_front};
 use crate::system_files::SystemFiles;
 use crate::{FileKind, FilePair, RedoError};
 use std::fs::File;
@@ -29,9 +31,11 @@ pub struct SystemPair {
     log_room: u64,
     /// The number of bytes that were written to the records since their last sync.
     put: u64,
+    /// Whether a sync has failed.
     has_failed: bool,
     /// The number of the system's error for which a call failed last.
     errno: Option<i32>,
+    ghost failed: { has_failed_sync (calls_of files) ≡ has_failed },
 }
 
 impl SystemPair {
@@ -68,9 +72,10 @@ fn read_fault(error: &io::Error) -> RedoError
 fn write_fault(error: &io::Error) -> RedoError
     ensures { (result ≡ RedoError.NoRoom) ⊎ (result ≡ RedoError.Failed) }
 {
-    match error.kind() {
-        ErrorKind::StorageFull | ErrorKind::QuotaExceeded => RedoError::NoRoom,
-        _ => RedoError::Failed,
+    if is_no_room(error) {
+        RedoError::NoRoom
+    } else {
+        RedoError::Failed
     }
 }
 
@@ -91,15 +96,19 @@ fn take_put(put: &mut u64, synced: FileKind) -> u64 {
     }
 }
 
-/// Writes into the front of a file, and into that of the records also how long their file is. If there is no room for that alone, the next
-/// write into the front says it.
-fn write_with_length(files: &SystemFiles, file: FileKind, at: u64, bytes: &[u8]) -> io::Result<()> {
+/// Writes into the front of a file, and into that of the records also how long their file is.
+fn write_with_length(
+    files: &mut SystemFiles,
+    file: FileKind,
+    at: u64,
+    bytes: &[u8],
+) -> io::Result<()>
+    ensures written { OnOk result (WroteWithLength file at bytes.now (calls_of files.old) (calls_of files.new) (front_writes_of files.old) (front_writes_of files.new)) }
+    ensures nothing { TouchedNothing (calls_of files.old) (calls_of files.new) }
+{
     write_front(files, file, at, bytes)?;
     match file {
-        FileKind::Records => match say_length(files) {
-            Err(error) if write_fault(&error) == RedoError::NoRoom => Ok(()),
-            said => said,
-        },
+        FileKind::Records => say_length(files),
         FileKind::Log => Ok(()),
     }
 }
@@ -174,7 +183,7 @@ impl FilePair for SystemPair {
         if self.has_failed {
             return Err(RedoError::Failed);
         }
-        if let Err(error) = write_with_length(&self.files, file, at, bytes) {
+        if let Err(error) = write_with_length(&mut self.files, file, at, bytes) {
             self.errno = error.raw_os_error();
             return Err(write_fault(&error));
         }

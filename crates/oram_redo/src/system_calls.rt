@@ -1,14 +1,23 @@
 //! Reads and writes of any length, by calls of the system that may do less than they are asked.
-ghost use Rattle.std.specs.Prelude.{◌≡◌, ◌+◌, ◌<◌, ◌≤◌, ◌∷◌, [], true, length, take, IfOk, OnErr, OnOk};
+ghost use Rattle.std.specs.Prelude.{◌≡◌, ◌⊎◌, ◌+◌, ◌<◌, ◌≤◌, ◌∷◌, [], true, length, take, IfOk, OnErr, OnOk};
 ghost use Rattle.oram_redo.specs.Calls.{calls_of};
 ghost use Rattle.oram_redo.specs.Content.{bytes_at};
 ghost use Rattle.oram_redo.specs.FilePair.{Contents, ReadOnto, Wrote};
+ghost use Rattle.oram_redo.specs.Fronts.{HasFailedLast, WroteFront, front_writes_of};
 ghost use Rattle.oram_redo.specs.Opened.{Opened};
 ghost use Rattle.oram_redo.specs.System.{IsHonestHistory, Touched, TouchedNothing, seen_after};
 
 use crate::FileKind;
 use crate::system_files::{FRONT_LEN, SystemFiles};
 use std::io::{self, ErrorKind};
+
+/// Returns whether a write has failed because there is no room.
+pub(crate) fn is_no_room(error: &io::Error) -> bool {
+    matches!(
+        error.kind(),
+        ErrorKind::StorageFull | ErrorKind::QuotaExceeded
+    )
+}
 
 /// Returns the place `n` bytes behind another.
 fn behind(at: u64, n: usize) -> io::Result<u64>
@@ -82,11 +91,15 @@ pub(crate) fn write_all(
 
 /// Writes bytes into the front of a file. Refuses what reaches past the front. After `Err`, any part of them may be written.
 pub(crate) fn write_front(
-    files: &SystemFiles,
+    files: &mut SystemFiles,
     file: FileKind,
     at: u64,
     bytes: &[u8],
-) -> io::Result<()> {
+) -> io::Result<()>
+    ensures written { OnOk result (WroteFront file at bytes.now (front_writes_of files.old) (front_writes_of files.new)) }
+    ensures calls { calls_of files.new ≡ calls_of files.old }
+    ensures why { OnErr result ((FRONT_LEN < at + length bytes.now) ⊎ HasFailedLast (front_writes_of files.new)) }
+{
     if at > FRONT_LEN || bytes.len() as u64 > FRONT_LEN - at {
         return Err(io::Error::from(ErrorKind::InvalidInput));
     }

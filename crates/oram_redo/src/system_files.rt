@@ -4,12 +4,13 @@
 //! history that only contracts read, and the definitions say what such a history means. The prover can't check that a method really makes
 //! the call that it notes: for that, read this file. Everything that is built on these calls is proved.
 //!
-//! Three calls aren't noted, since they change nothing that a read of the pair returns and nothing that a crash may leave: zeros
-//! that make the log longer, cutting them off again, and a write into the front of a file. Each requires what makes that true. Nor is the
-//! question for the length of the records' file, since nothing that is proved rests on the answer.
-ghost use Rattle.std.specs.Prelude.{◌≡◌, ◌<◌, ◌≤◌, ◌+◌, [], ◌∷◌, true, false, length, take, IfErr, IfOk, OnErr, OnOk};
+//! Two calls aren't noted, since they change nothing that a read of the pair returns and nothing that a crash may leave: zeros
+//! that make the log longer, and cutting them off again. Each requires what makes that true. Nor does a write into the front of a file change
+//! any of that: such writes are noted in a list of their own.
+ghost use Rattle.std.specs.Prelude.{◌≡◌, ◌<◌, ◌≤◌, ◌+◌, [], ◌∷◌, true, false, is_ok, length, take, IfErr, IfOk, OnErr, OnOk};
 ghost use Rattle.oram_redo.specs.Blank.{IsBlankFrom};
 ghost use Rattle.oram_redo.specs.Calls.{calls_of};
+ghost use Rattle.oram_redo.specs.Fronts.{front_writes_of};
 
 use crate::FileKind;
 use crate::call_history::CallHistory;
@@ -33,12 +34,14 @@ const SYNC: u64 = 3;
 
 const LENGTH: u64 = 4;
 
-/// Two files of the system, both open for reading and writing, and the calls that were made on them.
+/// Two files of the system, both open for reading and writing, and the calls that were made on them, those that wrote into their fronts
+/// apart.
 #[derive(Drop)]
 pub(crate) struct SystemFiles {
     records: File,
     log: File,
     history: CallHistory,
+    fronts: CallHistory,
 }
 
 impl SystemFiles {
@@ -49,6 +52,7 @@ impl SystemFiles {
             records,
             log,
             history: CallHistory::new(),
+            fronts: CallHistory::new(),
         }
     }
 
@@ -60,11 +64,22 @@ impl SystemFiles {
     }
 
     fn note(&mut self, kind: u64, file: FileKind, at: u64, is_ok: bool, bytes: &[u8])
-        ensures { calls_of self.new ≡ record { kind = kind; file = file; at = at; is_ok = is_ok; bytes = bytes.now } ∷ calls_of self.old }
+        ensures fronts { front_writes_of self.new ≡ front_writes_of self.old }
+        ensures noted { calls_of self.new ≡ record { kind = kind; file = file; at = at; is_ok = is_ok; bytes = bytes.now } ∷ calls_of self.old }
     {
         match file {
             FileKind::Records => self.history.note(&[kind, 0, at, u64::from(is_ok)], bytes),
             FileKind::Log => self.history.note(&[kind, 1, at, u64::from(is_ok)], bytes),
+        }
+    }
+
+    fn note_front(&mut self, file: FileKind, at: u64, is_ok: bool, bytes: &[u8])
+        ensures calls { calls_of self.new ≡ calls_of self.old }
+        ensures noted { front_writes_of self.new ≡ record { kind = 1; file = file; at = at; is_ok = is_ok; bytes = bytes.now } ∷ front_writes_of self.old }
+    {
+        match file {
+            FileKind::Records => self.fronts.note(&[WRITE, 0, at, u64::from(is_ok)], bytes),
+            FileKind::Log => self.fronts.note(&[WRITE, 1, at, u64::from(is_ok)], bytes),
         }
     }
 
@@ -100,27 +115,22 @@ impl SystemFiles {
 
     /// Syncs a file.
     pub(crate) fn sync(&mut self, file: FileKind) -> io::Result<()>
-        ensures noted { OnOk result (calls_of self.new ≡ record { kind = 3; file = file; at = 0; is_ok = true; bytes = [] } ∷ calls_of self.old) }
-        ensures err { OnErr result (calls_of self.new ≡ calls_of self.old) }
+        ensures { calls_of self.new ≡ record { kind = 3; file = file; at = 0; is_ok = is_ok result; bytes = [] } ∷ calls_of self.old }
     {
-        self.file(file).sync_data()?;
-        self.note(SYNC, file, 0, true, &[]);
-        Ok(())
+        let done = self.file(file).sync_data();
+        self.note(SYNC, file, 0, done.is_ok(), &[]);
+        done
     }
 
     /// Returns the length of a file.
     pub(crate) fn len(&mut self, file: FileKind) -> io::Result<u64>
+        ensures fronts { front_writes_of self.new ≡ front_writes_of self.old }
         ensures noted { IfOk result (λ len. calls_of self.new ≡ record { kind = 4; file = file; at = len; is_ok = true; bytes = [] } ∷ calls_of self.old) }
         ensures err { OnErr result (calls_of self.new ≡ calls_of self.old) }
     {
         let len = self.file(file).metadata()?.len();
         self.note(LENGTH, file, len, true, &[]);
         Ok(len)
-    }
-
-    /// Returns the length of the records' file.
-    pub(crate) fn records_len(&self) -> io::Result<u64> {
-        Ok(self.records.metadata()?.len())
     }
 
     /// Writes zeros into the log behind its end, and returns how many the system took.
@@ -140,10 +150,22 @@ impl SystemFiles {
     }
 
     /// Writes `bytes` into the front of a file, and returns how many of them the system took.
-    pub(crate) fn write_front(&self, file: FileKind, at: u64, bytes: &[u8]) -> io::Result<usize>
+    pub(crate) fn write_front(&mut self, file: FileKind, at: u64, bytes: &[u8]) -> io::Result<usize>
         requires { at + length bytes.now ≤ FRONT_LEN }
-        ensures { IfOk result (λ n. n ≤ length bytes.now) }
+        ensures calls { calls_of self.new ≡ calls_of self.old }
+        ensures count { IfOk result (λ n. n ≤ length bytes.now) }
+        ensures noted { IfOk result (λ n. front_writes_of self.new ≡ record { kind = 1; file = file; at = at; is_ok = true; bytes = take n bytes.now } ∷ front_writes_of self.old) }
+        ensures err { OnErr result (front_writes_of self.new ≡ record { kind = 1; file = file; at = at; is_ok = false; bytes = bytes.now } ∷ front_writes_of self.old) }
     {
-        self.file(file).write_at(bytes, at)
+        match self.file(file).write_at(bytes, at) {
+            Ok(len) => {
+                self.note_front(file, at, true, &bytes[..len]);
+                Ok(len)
+            }
+            Err(error) => {
+                self.note_front(file, at, false, bytes);
+                Err(error)
+            }
+        }
     }
 }

@@ -1,6 +1,12 @@
 use Rattle.oram_redo.proofs.Moments.{nothing_more_written, one_nothing}
-use Rattle.oram_redo.proofs.Outcomes.{after_then, cause_last, cause_passed, if_err_passed}
+use Rattle.oram_redo.proofs.Outcomes.{after_then, cause_last, cause_passed, if_err_passed, on_ok_none}
 use Rattle.oram_redo.proofs.steps.write_fronts.Goals as goal
+
+pub returns-in_err-write_front-clause-log : goal.returns-in_err-write_front-clause-log
+returns-in_err-write_front-clause-log g c = on_ok_none c.from_residual.result _ c.from_residual.ensures.0
+
+pub returns-in_err-write_front-clause-records : goal.returns-in_err-write_front-clause-records
+returns-in_err-write_front-clause-records g c = on_ok_none c.from_residual.result _ c.from_residual.ensures.0
 
 pub returns-in_err-write_front-clause-nothing_written : goal.returns-in_err-write_front-clause-nothing_written
 returns-in_err-write_front-clause-nothing_written g c = one_nothing g.F.FilePair.model c.args.files.now c.write_front.new.self (g.met.F.FilePair.only_now c.args.files.now) c.write_front.ensures.seen c.write_front.ensures.crash c.write_front.ensures.time

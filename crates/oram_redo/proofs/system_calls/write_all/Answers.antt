@@ -27,7 +27,7 @@ loop-put-preserved c =
     let now = c.loop-put in
     let from = c.in_ok-from in (
       omega (arith, now.invariant.0, c.in_ok-n.ensures.count, length-rest_of now.put c.args.bytes.now),
-      (λ first. wrote_more first (calls_of c.args.files.now) (calls_of now.files) (calls_of c.write_at.new.self) c.args.file c.args.at from.from now.put c.args.bytes.now from.ensures now.invariant.0 (now.invariant.2 first) c.in_ok-n.n c.in_ok-n.ensures.count c.in_ok-n.ensures.noted (now.invariant.1 first)),
+      (λ first. wrote_more first (calls_of c.args.files.now) (calls_of now.files) (calls_of c.write_at.new.self) c.args.file c.args.at from.from now.put c.args.bytes.now from.ensures now.invariant.0 c.in_ok-n.n c.in_ok-n.ensures.count c.in_ok-n.ensures.noted (now.invariant.1 first)),
       λ first. touched_more first (calls_of c.args.files.now) (calls_of now.files) (calls_of c.write_at.new.self) c.args.file c.args.at from.from now.put c.args.bytes.now from.ensures now.invariant.0 (now.invariant.2 first) c.in_ok-n.n c.in_ok-n.ensures.count c.in_ok-n.ensures.noted,
     )
 

@@ -1,3 +1,4 @@
+use Rattle.std.proofs.Common.{◌∙◌}
 use Rattle.oram_redo.specs.declared.file_pair.FileKind.TheVariants.{Log}
 use Rattle.oram_redo.proofs.Touched.{nothing_seen, nothing_left}
 use Rattle.oram_redo.proofs.system.SystemPairFilePair.read_onto.Goals as goal
@@ -25,3 +26,9 @@ returns-in-Err-clause-time c = (c.read_behind.ensures.nothing c.args.self.now.or
 
 pub returns-in-Err-clause-after : goal.returns-in-Err-clause-after
 returns-in-Err-clause-after c = record { honest = (c.read_behind.ensures.nothing c.args.self.now.origin.held Log 0 0).honest; failed = λ n so. so; short = λ n so. so }
+
+pub invariant_of-self : goal.invariant_of-self
+invariant_of-self c = record { failed = (c.read_behind.ensures.nothing c.args.self.now.origin.held Log 0 0).syncs ∙ c.args.self.now.failed }
+
+pub invariant_of-self-in-Err : goal.invariant_of-self-in-Err
+invariant_of-self-in-Err c = record { failed = (c.read_behind.ensures.nothing c.args.self.now.origin.held Log 0 0).syncs ∙ c.args.self.now.failed }

@@ -1,5 +1,6 @@
-use Rattle.std.proofs.Common.{length}
+use Rattle.std.proofs.Common.{◌∙◌, length}
 use Rattle.oram_redo.specs.System.{seen_after}
+use Rattle.oram_redo.specs.declared.file_pair.FileKind.TheVariants.{Log}
 use Rattle.oram_redo.proofs.Touched.{nothing_seen, touched_then, wrote_after}
 use Rattle.oram_redo.proofs.system.SystemPairFilePair.write_at.Goals as goal
 
@@ -57,3 +58,9 @@ returns-in-Err-clause-after c =
       failed = λ n so. so;
       short = λ n so. so;
     }
+
+pub invariant_of-self : goal.invariant_of-self
+invariant_of-self c = record { failed = (c.write_all.ensures.touched c.args.self.now.origin.held).syncs ∙ (c.reach.ensures c.args.self.now.origin.held Log 0 0).syncs ∙ c.args.self.now.failed }
+
+pub invariant_of-self-in-Err : goal.invariant_of-self-in-Err
+invariant_of-self-in-Err c = record { failed = (c.write_all.ensures.touched c.args.self.now.origin.held).syncs ∙ (c.reach.ensures c.args.self.now.origin.held Log 0 0).syncs ∙ c.args.self.now.failed }
