@@ -1,5 +1,7 @@
 //! How long a connection may let the host wait, and which connection comes first.
 
+ghost use Rattle.std.specs.Prelude.{◌≡◌, None, IsSome, OnErr, OnOk};
+
 use crate::connection::EarlyEnd;
 use oram_host::ServeFault;
 use oram_sockets::{Attendant, Direction, Marks};
@@ -46,7 +48,10 @@ impl HostAttendant {
     }
 
     /// Returns why the connection ended before its input did, if that is so.
-    pub(crate) fn early_end(&self, served: Result<(), ServeFault>) -> Option<EarlyEnd> {
+    pub(crate) fn early_end(&self, served: Result<(), ServeFault>) -> Option<EarlyEnd>
+        ensures ok { OnOk served (result ≡ None) }
+        ensures err { OnErr served (IsSome result) }
+    {
         match served {
             Ok(()) => None,
             Err(fault) => Some(self.ended.get().unwrap_or(EarlyEnd::Fault(fault))),
