@@ -1,5 +1,6 @@
 pub mod Recovery
 pub mod Lives
+pub mod GroupRuns
 mod NewFiles
 pub mod Close
 pub mod Crashes
@@ -11,6 +12,7 @@ mod Levels
 mod CellReads
 pub mod BatchBytes
 pub mod GroupBytes
+pub mod Fronts
 pub mod CommittedPuts
 pub mod ServedBy
 pub mod Served

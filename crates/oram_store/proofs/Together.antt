@@ -1,26 +1,27 @@
--- STOREs that are committed together.
-use Rattle.std.proofs.Common.{◌≡◌, ◌⊎◌, inl, inr, ⊎_elim, ℕ, suc, ◌+◌, ◌≤◌, true, List, [], ◌∷◌, Option, refl, sym, ◌∙◌, ap, subst, Result, Ok, Err, arith}
+-- STOREs and PUTs that are committed together.
+use Rattle.std.proofs.Common.{◌≡◌, ◌⊎◌, inl, inr, ⊎_elim, ℕ, suc, ◌+◌, ◌≤◌, true, List, [], ◌∷◌, Option, Some, refl, sym, ◌∙◌, ap, subst, Result, Ok, Err, arith}
 use Rattle.std.specs.Prelude.{All, IsErr, MatchResult, map}
 use Rattle.oram_host.specs.Refusals.{code_of}
 use Rattle.oram_host.specs.declared.refusals.HostRefusal.{HostRefusal}
 use Rattle.oram_host.specs.declared.refusals.HostRefusal.TheVariants.{OutOfMemory}
 use Rattle.oram_layout.specs.BucketFile.{IsBucketFile}
-use Rattle.oram_layout.specs.Changes.{path_patches}
+use Rattle.oram_layout.specs.Changes.{path_patches, record_patch}
 use Rattle.oram_layout.specs.Records.{AreKept, Records as RecordsOf, records_in}
-use Rattle.oram_layout.specs.Trees.{Trees, shape_of, sizes_of}
-use Rattle.oram_layout.proofs.Changes.{path_put}
+use Rattle.oram_layout.specs.Trees.{Trees, shape_of, sizes_of, tree_at}
+use Rattle.oram_layout.proofs.Changes.{path_put, record_put}
 use Rattle.oram_layout.proofs.Contents.{content_is}
 use Rattle.oram_redo.specs.Content.{Agrees, Content}
 use Rattle.oram_redo.specs.FilePair.{Contents, FileModel}
-use Rattle.oram_redo.specs.Log.{put_all}
+use Rattle.oram_redo.specs.Log.{Patch, put_all}
 use Rattle.oram_redo.proofs.Heal.{put_all-append}
 use Rattle.oram_store.specs.Answers.{Answers, answer_by}
 use Rattle.oram_store.specs.Crashes.{CommitsPuts, IsCarriedOut, MayBeFound, MayHold, Serves}
-use Rattle.oram_store.specs.Groups.{AnswersInTurn, AreCarriedOut, FitsTree, IsOfTrees, ServesGroup, group_patches, message_of}
+use Rattle.oram_store.specs.Groups.{AnswersInTurn, AreCarriedOut, FitsNode, FitsPath, FitsTree, IsOfTrees, ServesGroup, group_patches, message_of}
 use Rattle.oram_store.specs.KeptRecords.{Changes, IsSound, StoreValue, records_of, sure_records}
 use Rattle.oram_store.specs.RecordFile.{OnlyIf}
 use Rattle.oram_store.specs.declared.faults.StoreFault.{StoreFault}
-use Rattle.oram_store.specs.declared.groups.PathStore.{PathStore}
+use Rattle.oram_store.specs.declared.groups.Change.{Change}
+use Rattle.oram_store.specs.declared.groups.Change.TheVariants as change
 use Rattle.oram_wire.specs.declared.host_messages.HostAnswer.{HostAnswer}
 use Rattle.oram_wire.specs.declared.host_messages.HostAnswer.TheVariants as answer
 use Rattle.oram_wire.specs.declared.host_messages.HostRequest.{HostRequest}
@@ -40,21 +41,30 @@ in_turn_refused trees old new [] kept = kept
 in_turn_refused trees old new (message ∷ rest) kept =
     (old, refused_kept trees old old message 8 (λ six. absurd (omega arith)) (λ tree node. refl), in_turn_refused trees old new rest kept)
 
--- the paths of a group are put, one after the other
-pub group_put : (trees : Trees) (stores : List PathStore) (c new : Content) → IsBucketFile trees c → All FitsTree stores → All (IsOfTrees trees) stores → Agrees new (put_all (group_patches stores) c)
-    → IsBucketFile trees new × AnswersInTurn trees (records_in trees c) (map message_of stores) answer.Done (records_in trees new)
+-- the records of a group are put, one message after the other
+pub group_put : (trees : Trees) (changes : List Change) (c new : Content) → IsBucketFile trees c → All FitsTree changes → All (IsOfTrees trees) changes → Agrees new (put_all (group_patches changes) c)
+    → IsBucketFile trees new × AnswersInTurn trees (records_in trees c) (map message_of changes) answer.Done (records_in trees new)
 group_put trees [] c new is fits of same =
     let e : new ≡ c = content_is c new same in
     (subst (λ (d : Content). IsBucketFile trees d) (sym e) is, λ tree node. ap (λ (d : Content). records_in trees d tree node) e)
-group_put trees (store ∷ rest) c new is fits of same =
-    let here : FitsTree store = fits 0 store (omega arith) in
-    let there : IsOfTrees trees store = of 0 store (omega arith) in
+group_put trees (change.Store store ∷ rest) c new is fits of same =
+    let here : FitsPath store = fits 0 (change.Store store) (omega arith) in
+    let there : tree_at trees store.number ≡ Some store.tree = of 0 (change.Store store) (omega arith) in
     let first = path_patches store.tree store.leaf store.records.now 0 (store.tree.shape.depth + 1) in
     let mid : Content = put_all first c in
     let put = path_put trees c mid store.number store.tree store.leaf store.records.now is there here.leaf here.whole (λ i. refl) in
     let later = group_put trees rest mid new put.is_file (λ k d h. fits (suc k) d (omega arith)) (λ k d h. of (suc k) d (omega arith))
     (λ i. same i ∙ ap (λ (d : Content). d i) (put_all-append first (group_patches rest) c)) in
     (later.0, (records_in trees mid, (sizes_of store.tree.shape, ap shape_of there, (put.path, put.others)), later.1))
+group_put trees (change.Put put ∷ rest) c new is fits of same =
+    let here : FitsNode put = fits 0 (change.Put put) (omega arith) in
+    let there : tree_at trees put.number ≡ Some put.tree = of 0 (change.Put put) (omega arith) in
+    let first : List Patch = record_patch put.tree put.node put.bytes.now ∷ [] in
+    let mid : Content = put_all first c in
+    let made = record_put trees c mid put.number put.tree put.node put.bytes.now is (record { is_there = there; within = here.node }) here.whole (λ i. refl) in
+    let later = group_put trees rest mid new made.is_file (λ k d h. fits (suc k) d (omega arith)) (λ k d h. of (suc k) d (omega arith))
+    (λ i. same i ∙ ap (λ (d : Content). d i) (put_all-append first (group_patches rest) c)) in
+    (later.0, (records_in trees mid, (made.there, made.others), later.1))
 
 -- a STORE's answer stays right if the records after it are the same
 store_then : (trees : Trees) (one two three : RecordsOf) (tree leaf : ℕ) (records : List ℕ) (given : HostAnswer) → Answers trees one (request.Store tree leaf records) given two → AreKept two three
@@ -91,7 +101,7 @@ module _ {F : Type 0} (model : FileModel F) where
       (by_committed model (λ trees one two. AnswersInTurn trees one messages (answer.Refused 8) two) (λ trees one c. AreCarriedOut trees one messages c) (MayBeFound (answer.Refused 8)) old new
       (λ one two kept. in_turn_refused old.trees one two messages kept) commits_puts)
 
-  -- the STOREs are carried out, after the pending PUTs are committed
+  -- the messages are carried out, after the pending PUTs are committed
   pub group_made : (messages : List HostRequest) (old mid new : StoreValue F) (result : Result Unit StoreFault)
       → CommitsPuts model old mid → mid.pending ≡ [] → mid.trees ≡ old.trees → new.trees ≡ mid.trees → new.pending ≡ mid.pending
       → (IsSound model mid → Changes model mid.trees (λ one two. AnswersInTurn mid.trees one messages answer.Done two) result mid.file new.file) → (mid.file.has_stopped ≡ true → new.file ≡ mid.file)

@@ -36,6 +36,6 @@ pub record AnswersBody {F : Type 0} (model : FileModel F)
   pub misfit : IsMisfit body → answer_body given ≡ answer_body (Refused 4)
   pub records_misfit : IsRecordsMisfit body → (answer_body given ≡ answer_body (Refused 4)) × (new ≡ old)
 
--- A store has given this answer to each of these bodies: to one body alone, or to STOREs that it has committed together.
+-- A store has given this answer to each of these bodies: to one body alone, or to STOREs and PUTs that it has committed together.
 abbrev pub AnswersFirst : {F : Type 0} → FileModel F → List (List ℕ) → HostAnswer → StoreValue F → StoreValue F → Type 0
 AnswersFirst model bodies given old new = ((body : List ℕ) × (bodies ≡ body ∷ []) × AnswersBody model body given old new) ⊎ AnswersGroup model bodies given old new

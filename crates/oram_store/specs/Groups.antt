@@ -1,16 +1,17 @@
--- STOREs that are committed together.
-use Rattle.std.specs.Prelude.{◌≡◌, ◌⊎◌, ℕ, ◌+◌, ◌*◌, ◌^◌, ◌<◌, false, Some, None, IsSomeAnd, List, [], ◌∷◌, length, map, All}
+-- STOREs and PUTs that are committed together.
+use Rattle.std.specs.Prelude.{◌≡◌, ◌⊎◌, ℕ, ◌+◌, ◌*◌, ◌^◌, ◌<◌, ◌≤◌, Bool, true, false, Some, None, IsSomeAnd, List, [], ◌∷◌, length, map, take, All}
 use Rattle.std.specs.Global.{Vec}
-use Rattle.std.specs.List.{AllZip, flat_map}
+use Rattle.std.specs.List.{AllZip, flat_map, list_any}
 use Rattle.oram_wire.specs.declared.host_messages.HostAnswer.{HostAnswer}
 use Rattle.oram_wire.specs.declared.host_messages.HostAnswer.TheVariants as answer
 use Rattle.oram_wire.specs.declared.host_messages.HostRequest.{HostRequest}
 use Rattle.oram_wire.specs.declared.host_messages.HostRequest.TheVariants as request
 use Rattle.oram_wire.specs.HostMessages.{request_body}
 use Rattle.oram_layout.specs.BucketFile.{IsBucketFile}
-use Rattle.oram_layout.specs.Changes.{path_patches}
+use Rattle.oram_layout.specs.Changes.{path_patches, record_patch}
+use Rattle.oram_layout.specs.Limits.{nodes_of}
 use Rattle.oram_layout.specs.Records.{AreKept, Records, records_in}
-use Rattle.oram_layout.specs.Trees.{Trees, tree_at}
+use Rattle.oram_layout.specs.Trees.{Trees, sizes_of, tree_at}
 use Rattle.oram_redo.specs.Content.{Content}
 use Rattle.oram_redo.specs.FilePair.{FileModel, LeavesOnly}
 use Rattle.oram_redo.specs.Log.{Patch}
@@ -20,6 +21,9 @@ use Rattle.oram_store.specs.Crashes.{MayBeFound, MayHold}
 use Rattle.oram_store.specs.KeptRecords.{IsSound, StoreValue, records_of, sure_records}
 use Rattle.oram_store.specs.RecordFile.{Finds, IsReason, OnlyIf}
 use Rattle.oram_store.specs.Refusals.{refusal_by}
+use Rattle.oram_store.specs.declared.groups.Change.{Change}
+use Rattle.oram_store.specs.declared.groups.Change.TheVariants as change
+use Rattle.oram_store.specs.declared.groups.NodePut.{NodePut}
 use Rattle.oram_store.specs.declared.groups.PathStore.{PathStore}
 
 -- The records before some messages and after the last of them, if each gets this answer, one after the other.
@@ -46,21 +50,36 @@ pub record ServesGroup {F : Type 0} (model : FileModel F)
   pub records : new.file.has_stopped ≡ false → AnswersInTurn old.trees (records_of model old) messages given (records_of model new)
   pub any_moment : ServesGroupWhole model messages given old new
 
--- a STORE that the trees don't refuse
-abbrev pub IsAcceptedStore : Trees → HostRequest → Type 0
-IsAcceptedStore trees (request.Store tree leaf records) = (leaf < 2 ^ 32) × (refusal_by trees (request.Store tree leaf records) ≡ None)
-IsAcceptedStore trees message = ⊥
+-- a STORE or a PUT that the trees don't refuse
+abbrev pub IsAcceptedChange : Trees → HostRequest → Type 0
+IsAcceptedChange trees (request.Store tree leaf records) = (leaf < 2 ^ 32) × (refusal_by trees (request.Store tree leaf records) ≡ None)
+IsAcceptedChange trees (request.Put tree node bytes) = (node < 2 ^ 32) × (refusal_by trees (request.Put tree node bytes) ≡ None)
+IsAcceptedChange trees message = ⊥
 
--- the answer to STOREs that the trees don't refuse: all are done, or there is no room for them
+abbrev pub is_store : HostRequest → Bool
+is_store (request.Store tree leaf records) = true
+is_store message = false
+
+-- Messages at the front of a list that can be answered together: STOREs and PUTs that the trees don't refuse, at most 32, with a STORE
+-- among them.
+pub record AreAtFront (trees : Trees) (bodies : List (List ℕ)) (messages : List HostRequest) : Type 0 where
+  pub are : map request_body messages ≡ take (length messages) bodies
+  pub accepted : All (IsAcceptedChange trees) messages
+  pub few : length messages ≤ 32
+  pub has_store : list_any is_store messages ≡ true
+
+-- the answer to STOREs and PUTs that the trees don't refuse: all are done, or there is no room for them
 abbrev pub IsDoneOrFull : HostAnswer → Type 0
 IsDoneOrFull given = (given ≡ answer.Done) ⊎ (given ≡ answer.Refused 8)
 
--- A store has given the same answer to these bodies, which are STOREs that its trees don't refuse.
+-- A store has given the same answer to these bodies. They are STOREs and PUTs that its trees don't refuse, with a STORE among them. If
+-- they are done, all of them are durable, the PUTs too.
 pub record AnswersGroup {F : Type 0} (model : FileModel F)
     (bodies : List (List ℕ)) (given : HostAnswer) (old new : StoreValue F) : Type 0 where
   pub messages : List HostRequest
   pub are : map request_body messages ≡ bodies
-  pub accepted : All (IsAcceptedStore old.trees) messages
+  pub accepted : All (IsAcceptedChange old.trees) messages
+  pub has_store : list_any is_store messages ≡ true
   pub either : IsDoneOrFull given
   pub trees : new.trees ≡ old.trees
   pub committed : IsGranted given → new.pending ≡ []
@@ -68,29 +87,48 @@ pub record AnswersGroup {F : Type 0} (model : FileModel F)
   pub full : given ≡ answer.Refused 8 → IsSomeAnd new.failure (IsReason model old.file new.file)
   pub serves : model.is_honest new.file.files → IsSound model old → ServesGroup model messages given old new
 
--- ---- the STOREs of a group, as the program has them
+-- ---- the messages of a group, as the program has them
 
-abbrev pub message_of : PathStore → HostRequest
-message_of store = request.Store store.number store.leaf store.records.now
+abbrev pub message_of : Change → HostRequest
+message_of (change.Store store) = request.Store store.number store.leaf store.records.now
+message_of (change.Put put) = request.Put put.number put.node put.bytes.now
 
 -- the leaf and the records are those of a path of the tree
-pub record FitsTree (store : PathStore) : Type 0 where
+pub record FitsPath (store : PathStore) : Type 0 where
   pub leaf : store.leaf < 2 ^ store.tree.shape.depth
   pub whole : length store.records.now ≡ (store.tree.shape.depth + 1) * store.tree.shape.record_len
 
+-- the node and the record are those of a node of the tree
+pub record FitsNode (put : NodePut) : Type 0 where
+  pub node : put.node < nodes_of (sizes_of put.tree.shape)
+  pub whole : length put.bytes.now ≡ put.tree.shape.record_len
+
+abbrev pub FitsTree : Change → Type 0
+FitsTree (change.Store store) = FitsPath store
+FitsTree (change.Put put) = FitsNode put
+
 -- its tree is that of its number
-abbrev pub IsOfTrees : Trees → PathStore → Type 0
-IsOfTrees trees store = tree_at trees store.number ≡ Some store.tree
+abbrev pub IsOfTrees : Trees → Change → Type 0
+IsOfTrees trees (change.Store store) = tree_at trees store.number ≡ Some store.tree
+IsOfTrees trees (change.Put put) = tree_at trees put.number ≡ Some put.tree
 
--- the patches of all paths
-abbrev pub group_patches : List PathStore → List Patch
-group_patches stores = flat_map (λ store. path_patches store.tree store.leaf store.records.now 0 (store.tree.shape.depth + 1)) stores
+-- the patches of a message, and of all messages
+abbrev pub change_patches : Change → List Patch
+change_patches (change.Store store) = path_patches store.tree store.leaf store.records.now 0 (store.tree.shape.depth + 1)
+change_patches (change.Put put) = record_patch put.tree put.node put.bytes.now ∷ []
 
--- the cells of a STORE: its records, each after the byte that says that it is there
-pub record HoldsCellsOf (cells : Vec ℕ) (store : PathStore) : Type 0 where
-  pub whole : length cells.items ≡ (store.tree.shape.depth + 1) * (store.tree.shape.record_len + 1)
-  pub held : HoldsCells cells.items store.tree.shape.record_len store.records.now (store.tree.shape.depth + 1)
+abbrev pub group_patches : List Change → List Patch
+group_patches changes = flat_map change_patches changes
 
--- each STORE has its cells
-abbrev pub HoldGroupCells : List (Vec ℕ) → List PathStore → Type 0
-HoldGroupCells cells stores = AllZip HoldsCellsOf cells stores
+-- the cells of a message: its records, each after the byte that says that it is there
+abbrev pub HoldsCellsOf : List ℕ → Change → Type 0
+HoldsCellsOf cells (change.Store store) =
+    (length cells ≡ (store.tree.shape.depth + 1) * (store.tree.shape.record_len + 1)) × HoldsCells cells store.tree.shape.record_len store.records.now (store.tree.shape.depth + 1)
+HoldsCellsOf cells (change.Put put) = cells ≡ 1 ∷ put.bytes.now
+
+abbrev pub HoldsCellsIn : Vec ℕ → Change → Type 0
+HoldsCellsIn cells change = HoldsCellsOf cells.items change
+
+-- each message has its cells
+abbrev pub HoldGroupCells : List (Vec ℕ) → List Change → Type 0
+HoldGroupCells cells changes = AllZip HoldsCellsIn cells changes

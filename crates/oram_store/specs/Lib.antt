@@ -17,3 +17,4 @@ pub mod Matching
 pub mod Rows
 pub mod RecordsAnswers
 pub mod FirstAnswers
+pub mod GroupRuns

@@ -1,6 +1,8 @@
 //! The batches that requests commit.
-ghost use Rattle.std.specs.Prelude.{◌≡◌, ◌+◌, ◌*◌, ◌^◌, ◌<◌, length, IfOk};
-ghost use Rattle.oram_layout.specs.Changes.{marks, path_patches};
+ghost use Rattle.std.specs.Prelude.{◌≡◌, ◌+◌, ◌*◌, ◌^◌, ◌<◌, ◌∷◌, [], length, IfOk};
+ghost use Rattle.oram_layout.specs.Changes.{marks, path_patches, record_patch};
+ghost use Rattle.oram_layout.specs.Limits.{nodes_of};
+ghost use Rattle.oram_layout.specs.Trees.{sizes_of};
 ghost use Rattle.oram_redo.specs.Batch.{patches_of};
 ghost use Rattle.oram_store.specs.Batches.{HoldsCells};
 
@@ -8,6 +10,16 @@ use crate::cells::THERE;
 use oram_layout::Tree;
 use oram_redo::Patch;
 use std::alloc::{AllocError, Global};
+
+/// Returns a record after the byte that says that it is there.
+pub(crate) fn cell_of(alloc: Global, bytes: &[u8]) -> Result<Vec<u8>, AllocError>
+    ensures { IfOk result (λ cell. cell.items ≡ 1 ∷ bytes.now) }
+{
+    let mut cell = Vec::with_capacity(alloc, bytes.len() + 1)?;
+    cell.push(THERE)?;
+    cell.extend_from_slice(bytes)?;
+    Ok(cell)
+}
 
 /// Returns the records of a path, each after the byte that says that it is there.
 pub(crate) fn cells_of(alloc: Global, tree: &Tree, records: &[u8]) -> Result<Vec<u8>, AllocError>
@@ -46,6 +58,24 @@ pub(crate) fn path_batch<'a>(
             bytes: &cells[start..start + width],
         })?;
     }
+    Ok(batch)
+}
+
+/// Returns the batch of a PUT, with the patch of its node.
+pub(crate) fn node_batch<'a>(
+    alloc: Global,
+    tree: &Tree,
+    node: u32,
+    cell: &'a [u8],
+) -> Result<Vec<Patch<'a>>, AllocError>
+    requires { node < nodes_of (sizes_of tree.now.shape) }
+    ensures { IfOk result (λ batch. (bytes : _) → cell.now ≡ 1 ∷ bytes → patches_of batch.items ≡ record_patch tree.now node bytes ∷ []) }
+{
+    let mut batch = Vec::with_capacity(alloc, 1)?;
+    batch.push(Patch {
+        at: tree.cell_at(node),
+        bytes: cell,
+    })?;
     Ok(batch)
 }
 

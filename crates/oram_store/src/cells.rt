@@ -96,7 +96,7 @@ pub(crate) fn read_path<F: FilePair>(
 }
 
 /// If a node has no record, writes one into its cell, but doesn't set the byte that will say that it is there.
-fn write_if_missing<F: FilePair>(
+pub(crate) fn write_if_missing<F: FilePair>(
     alloc: Global,
     file: &mut RecordFile<F>,
     tree: &Tree,

@@ -1,67 +1,90 @@
 //! The answers of a store to messages that have arrived together.
-ghost use Rattle.std.specs.Prelude.{◌≡◌, ◌≤◌, ◌<◌, All, IfOk, IfSome, OnErr, length, map, take};
+ghost use Rattle.std.specs.Prelude.{◌≡◌, ◌≤◌, ◌<◌, All, IfOk, IfSome, IsSome, List, OnErr, length, map, take};
 ghost use Rattle.oram_store.specs.FirstAnswers.{AnswersFirst};
-ghost use Rattle.oram_store.specs.Groups.{FitsTree, IsAcceptedStore, IsOfTrees, message_of};
+ghost use Rattle.oram_store.specs.Groups.{AreAtFront, FitsTree, IsAcceptedChange, IsOfTrees, message_of};
 ghost use Rattle.oram_store.specs.RecordFile.{Runs};
 ghost use Rattle.oram_wire.specs.FrameStream.{IsBody};
-ghost use Rattle.oram_wire.specs.HostBodies.{IsAnswer};
+ghost use Rattle.oram_wire.specs.HostBodies.{IsAnswer, request_of};
 ghost use Rattle.oram_wire.specs.HostMessages.{answer_body, request_body};
 ghost use Rattle.oram_wire.specs.ListOfBodies.{bodies_in};
 ghost use Rattle.oram_wire.specs.declared.host_messages.HostAnswer.{HostAnswer};
+ghost use Rattle.oram_wire.specs.declared.host_messages.HostRequest.{HostRequest};
 
-use crate::groups::{MOST_TOGETHER, PathStore};
+use crate::groups::{Change, MOST_TOGETHER, go_together};
 use crate::store::FileStore;
 use oram_redo::FilePair;
 use oram_wire::{GOOD, HostView, REFUSED};
 use std::alloc::{AllocError, Global};
 
 impl<F: FilePair> FileStore<F> {
-    /// Returns the STORE in a body, if the body has one that the trees don't refuse.
-    fn store_in<'a>(&self, body: &'a [u8]) -> Option<PathStore<'a>>
-        ensures body { IfSome result (λ store. body.now ≡ request_body (message_of store)) }
-        ensures fits { IfSome result (λ store. FitsTree store × IsOfTrees self.now.trees store) }
-        ensures accepted { IfSome result (λ store. IsAcceptedStore self.now.trees (message_of store)) }
+    /// Returns the STORE or the PUT that a request is, if the trees don't refuse it.
+    fn accepted<'a>(&self, request: HostView<'a>) -> Option<Change<'a>>
+        ensures message { IfSome result (λ change. message_of change ≡ request_of request.entry) }
+        ensures fits { IfSome result (λ change. FitsTree change × IsOfTrees self.now.trees change) }
+        ensures accepted { IfSome result (λ change. IsAcceptedChange self.now.trees (message_of change)) }
+        ensures all { IsAcceptedChange self.now.trees (request_of request.entry) → IsSome result }
     {
-        match HostView::read(body) {
-            Ok(
-                HostView::Store {
-                    tree,
-                    leaf,
-                    records,
-                },
-            ) => self.accepted(tree, leaf, records).ok(),
-            _ => None,
+        match request {
+            HostView::Store {
+                tree,
+                leaf,
+                records,
+            } => match self.accepted_store(tree, leaf, records) {
+                Ok(store) => Some(Change::Store(store)),
+                Err(_) => None,
+            },
+            HostView::Put { tree, node, bytes } => match self.accepted_put(tree, node, bytes) {
+                Ok(put) => Some(Change::Put(put)),
+                Err(_) => None,
+            },
+            HostView::Fetch { .. } | HostView::Shape { .. } => None,
         }
     }
 
-    /// Returns the STOREs at the front of a list of bodies that can be committed together.
-    fn group_in<'a>(
+    /// Returns the STORE or the PUT in a body, if the body has one that the trees don't refuse.
+    fn change_in<'a>(&self, body: &'a [u8]) -> Option<Change<'a>>
+        ensures body { IfSome result (λ change. body.now ≡ request_body (message_of change)) }
+        ensures fits { IfSome result (λ change. FitsTree change × IsOfTrees self.now.trees change) }
+        ensures accepted { IfSome result (λ change. IsAcceptedChange self.now.trees (message_of change)) }
+        ensures all { (message : HostRequest) → IsAcceptedChange self.now.trees message → body.now ≡ request_body message → IsSome result }
+    {
+        match HostView::read(body) {
+            Ok(request) => self.accepted(request),
+            Err(_) => None,
+        }
+    }
+
+    /// Returns the STOREs and PUTs at the front of a list of bodies that the trees don't refuse, up to 32.
+    fn changes_in<'a>(
         &self,
         alloc: Global,
         bodies: &'a [Vec<u8>],
-    ) -> Result<Vec<PathStore<'a>>, AllocError>
-        ensures few { IfOk result (λ stores. (length stores.items ≤ 32) × (length stores.items ≤ length bodies.now)) }
-        ensures fits { IfOk result (λ stores. All FitsTree stores.items) }
-        ensures of { IfOk result (λ stores. All (IsOfTrees self.now.trees) stores.items) }
-        ensures bodies { IfOk result (λ stores. map request_body (map message_of stores.items) ≡ take (length stores.items) (bodies_in bodies.now)) }
-        ensures accepted { IfOk result (λ stores. All (IsAcceptedStore self.now.trees) (map message_of stores.items)) }
+    ) -> Result<Vec<Change<'a>>, AllocError>
+        ensures few { IfOk result (λ changes. (length changes.items ≤ 32) × (length changes.items ≤ length bodies.now)) }
+        ensures fits { IfOk result (λ changes. All FitsTree changes.items) }
+        ensures of { IfOk result (λ changes. All (IsOfTrees self.now.trees) changes.items) }
+        ensures bodies { IfOk result (λ changes. map request_body (map message_of changes.items) ≡ take (length changes.items) (bodies_in bodies.now)) }
+        ensures accepted { IfOk result (λ changes. All (IsAcceptedChange self.now.trees) (map message_of changes.items)) }
+        ensures all { IfOk result (λ changes. (messages : List HostRequest) → map request_body messages ≡ take (length messages) (bodies_in bodies.now)
+            → All (IsAcceptedChange self.now.trees) messages → length messages ≤ 32 → length messages ≤ length changes.items) }
     {
-        let mut stores = Vec::new(alloc);
+        let mut changes = Vec::new(alloc);
         for body in bodies {
-            if stores.len() >= MOST_TOGETHER {
-                return Ok(stores);
+            if changes.len() >= MOST_TOGETHER {
+                return Ok(changes);
             }
-            let Some(store) = self.store_in(body) else {
-                return Ok(stores);
+            let Some(change) = self.change_in(body) else {
+                return Ok(changes);
             };
-            stores.push(store)?;
+            changes.push(change)?;
         }
-        Ok(stores)
+        Ok(changes)
     }
 
-    /// Answers the first message of a list. If that is a STORE, the STOREs right behind it are carried out with it, in one batch of
-    /// the redo log: up to 32 of them, and only such as the trees don't refuse. All of them are durable then, or none is carried
-    /// out. Returns the number of messages that were answered, and the bytes of the answer, which each of them gets.
+    /// Answers the first message of a list. If that is a STORE or a PUT, the STOREs and PUTs right behind it are carried out with it, in
+    /// one batch of the redo log: up to 32 messages, and only such as the trees don't refuse. All of them are durable then, or none is
+    /// carried out. But PUTs without a STORE among them are answered one by one. Returns the number of messages that were answered, and
+    /// the bytes of the answer, which each of them gets.
     ///
     /// If memory runs out before it serves a message, it serves none.
     pub fn answer_group(
@@ -73,20 +96,22 @@ impl<F: FilePair> FileStore<F> {
         ensures count { IfOk result (λ r. (0 < r.0) × (r.0 ≤ length bodies.now)) }
         ensures ok { IfOk result (λ r. (answer : HostAnswer) × IsAnswer answer × (r.1.items ≡ answer_body answer)
             × AnswersFirst F.model (take r.0 (bodies_in bodies.now)) answer self.old self.new) }
+        // No message that can go with the first ones is left out.
+        ensures all { IfOk result (λ r. (messages : List HostRequest) → AreAtFront self.old.trees (bodies_in bodies.now) messages → length messages ≤ r.0) }
         ensures runs { Runs F.model self.old.file self.new.file }
         // The answer fits in a frame.
         ensures fits { IfOk result (λ r. IsBody r.1.items) }
         ensures err { OnErr result (self.new ≡ self.old) }
     {
-        let stores = self.group_in(alloc, bodies)?;
-        if stores.len() < 2 {
+        let changes = self.changes_in(alloc, bodies)?;
+        if !go_together(&changes) {
             return Ok((1, self.answer(alloc, &bodies[0])?));
         }
         let mut answer = Vec::with_capacity(alloc, 2)?;
-        match self.store_together(&stores) {
+        match self.change_together(&changes) {
             Ok(()) => answer.extend_from_slice(&[GOOD])?,
             Err(why) => answer.extend_from_slice(&[REFUSED, why.code()])?,
         }
-        Ok((stores.len(), answer))
+        Ok((changes.len(), answer))
     }
 }

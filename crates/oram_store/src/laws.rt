@@ -1,12 +1,13 @@
 //! Laws of the definitions, as contracts of functions that do nothing, and one run from empty files, whose promise
 //! rests on no premise that might never hold.
-ghost use Rattle.std.specs.Prelude.{◌≡◌, ℕ, [], false, length, true, IfOk, IfSome};
+ghost use Rattle.std.specs.Prelude.{◌≡◌, ℕ, List, [], false, length, true, IfOk, IfSome};
 ghost use Rattle.oram_layout.specs.Records.{AreKept};
 ghost use Rattle.oram_layout.specs.Trees.{sizes_of};
 ghost use Rattle.oram_redo.specs.FilePair.{Contents};
 ghost use Rattle.oram_store.specs.Answers.{IsKeptAtOnce};
 ghost use Rattle.oram_store.specs.Crashes.{Serves};
-ghost use Rattle.oram_store.specs.KeptRecords.{Holds, IsSound, records_of, sure_records};
+ghost use Rattle.oram_store.specs.GroupRuns.{AnswersGroups, AreRequests, Group, GroupsInTurn};
+ghost use Rattle.oram_store.specs.KeptRecords.{Holds, IsSound, StoreValue, records_of, sure_records};
 ghost use Rattle.oram_store.specs.Laws.{HoldsPath, IdentityStays, no_records};
 ghost use Rattle.oram_store.specs.NewFiles.{NewFilesStand};
 ghost use Rattle.oram_store.specs.RecordFile.{Finds, Runs};
@@ -32,6 +33,13 @@ pub fn found_again<F: FilePair>(store: &FileStore<F>)
 /// Once a disk has its first tree, no request changes the disk's identity, whatever the store answers.
 pub fn identity_stays()
     ensures { IdentityStays }
+{}
+
+/// Messages that a store answers group by group are answered as if each had come alone, one after the other. A crash at any moment finds
+/// the messages of some first groups carried out, and none of the others.
+pub fn groups_in_turn<F: FilePair>(store: &FileStore<F>)
+    ensures { (groups : List Group) (new : StoreValue F) → AreRequests groups → AnswersGroups F.model groups store.now new
+        → F.model.is_honest new.file.files → IsSound F.model store.now → GroupsInTurn F.model groups store.now new }
 {}
 
 /// The files of a new store meet the premises of [`open_pair`](crate::open_pair), and so they do once their log has the entry of a first

@@ -26,5 +26,5 @@ mod store;
 pub use creation::create;
 pub use faults::StoreFault;
 pub use files::{BucketFile, open_pair, open_store};
-pub use laws::{first_life, found_again, identity_stays, new_files_stand};
+pub use laws::{first_life, found_again, groups_in_turn, identity_stays, new_files_stand};
 pub use store::{DISK_IDENTITY_TREE, FileStore};

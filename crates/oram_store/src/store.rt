@@ -9,22 +9,24 @@ ghost use Rattle.oram_layout.specs.Trees.{cell_at, sizes_of, tree_at};
 ghost use Rattle.oram_store.specs.Answers.{answer_by};
 ghost use Rattle.oram_store.specs.Close.{Closes};
 ghost use Rattle.oram_store.specs.Crashes.{CommitsPuts, Serves};
-ghost use Rattle.oram_store.specs.Groups.{FitsTree, IsOfTrees, ServesGroup, message_of};
+ghost use Rattle.oram_store.specs.Groups.{FitsPath, FitsTree, IsOfTrees, ServesGroup, message_of};
 ghost use Rattle.oram_store.specs.KeptRecords.{IsSound};
 ghost use Rattle.oram_store.specs.PendingCells.{AreCells};
 ghost use Rattle.oram_store.specs.Reasons.{IsReasonFor, ReportsWhy};
 ghost use Rattle.oram_store.specs.Refusals.{IsRefused, ChangesTrees, is_fixed, refusal_by};
 ghost use Rattle.oram_redo.specs.Redo.{end_of};
 ghost use Rattle.oram_store.specs.RecordFile.{Calls, Commits, IsReason, Runs, bounds};
+ghost use Rattle.oram_store.specs.declared.groups.Change.{Change};
 ghost use Rattle.oram_wire.specs.declared.host_messages.HostAnswer.{HostAnswer};
 ghost use Rattle.oram_wire.specs.declared.host_messages.HostRequest.{HostRequest};
 
+mod puts;
 mod records;
 
-use crate::batches::marks_of;
-use crate::cells::{THERE, has_record, read_path};
+use crate::batches::{cell_of, marks_of};
+use crate::cells::read_path;
 use crate::faults::StoreFault;
-use crate::groups::{PathStore, store_group};
+use crate::groups::{Change, PathStore, change_group};
 use crate::record_file::RecordFile;
 use oram_host::HostRefusal;
 use oram_layout::{Shape, Tree, entry_place, next_base};
@@ -108,9 +110,7 @@ fn commit_record<F: FilePair>(
     ensures calls { Calls F.model result file.old file.new }
     ensures running { OnOk result (file.new.has_stopped ≡ false) }
 {
-    let mut cell = Vec::with_capacity(alloc, bytes.len() + 1)?;
-    cell.push(THERE)?;
-    cell.extend_from_slice(bytes)?;
+    let cell = cell_of(alloc, bytes)?;
     commit_one(alloc, file, tree.cell_at(node), &cell)
 }
 
@@ -262,50 +262,50 @@ impl<F: FilePair> FileStore<F> {
         }
     }
 
-    /// Commits the pending PUTs, and replaces the records of the paths of a group.
-    fn commit_puts_and_store(&mut self, stores: &[PathStore<'_>]) -> Result<(), StoreFault>
-        requires fits { All FitsTree stores.now }
-        requires few { length stores.now ≤ 32 }
-        ensures serves { All (IsOfTrees self.old.trees) stores.now → F.model.is_honest self.new.file.files → IsSound F.model self.old
-            → ServesGroup F.model (map message_of stores.now) (answer_by result) self.old self.new }
+    /// Commits the pending PUTs, and replaces the records that the messages of a group have.
+    fn commit_puts_and_change(&mut self, changes: &[Change<'_>]) -> Result<(), StoreFault>
+        requires fits { All FitsTree changes.now }
+        requires few { length changes.now ≤ 32 }
+        ensures serves { All (IsOfTrees self.old.trees) changes.now → F.model.is_honest self.new.file.files → IsSound F.model self.old
+            → ServesGroup F.model (map message_of changes.now) (answer_by result) self.old self.new }
         ensures none_pending { OnOk result (self.new.pending ≡ []) }
         ensures trees { self.new.trees ≡ self.old.trees }
         ensures calls { Calls F.model result self.old.file self.new.file }
         ensures running { OnOk result (self.new.file.has_stopped ≡ false) }
     {
         self.commit_puts()?;
-        store_group(self.alloc, &mut self.file, stores)
+        change_group(self.alloc, &mut self.file, changes)
     }
 
-    /// Carries out STOREs that the trees don't refuse: all of them, or none if there is no room.
-    pub(crate) fn store_together(&mut self, stores: &[PathStore<'_>]) -> Result<(), HostRefusal>
-        requires fits { All FitsTree stores.now }
-        requires few { length stores.now ≤ 32 }
+    /// Carries out STOREs and PUTs that the trees don't refuse: all of them, or none if there is no room.
+    pub(crate) fn change_together(&mut self, changes: &[Change<'_>]) -> Result<(), HostRefusal>
+        requires fits { All FitsTree changes.now }
+        requires few { length changes.now ≤ 32 }
         ensures refused { IfErr result (λ why. why ≡ HostRefusal.OutOfMemory) }
         ensures trees { self.new.trees ≡ self.old.trees }
         ensures none_pending { OnOk result (self.new.pending ≡ []) }
-        ensures serves { All (IsOfTrees self.old.trees) stores.now → F.model.is_honest self.new.file.files → IsSound F.model self.old → MatchResult result
-            (λ _. ServesGroup F.model (map message_of stores.now) HostAnswer.Done self.old self.new)
-            (λ why. ServesGroup F.model (map message_of stores.now) (HostAnswer.Refused (code_of why)) self.old self.new) }
+        ensures serves { All (IsOfTrees self.old.trees) changes.now → F.model.is_honest self.new.file.files → IsSound F.model self.old → MatchResult result
+            (λ _. ServesGroup F.model (map message_of changes.now) HostAnswer.Done self.old self.new)
+            (λ why. ServesGroup F.model (map message_of changes.now) (HostAnswer.Refused (code_of why)) self.old self.new) }
         ensures runs { Runs F.model self.old.file self.new.file }
         ensures running { OnOk result (self.new.file.has_stopped ≡ false) }
         ensures failure { OnErr result (IsSomeAnd self.new.failure (IsReason F.model self.old.file self.new.file)) }
     {
-        match self.commit_puts_and_store(stores) {
+        match self.commit_puts_and_change(changes) {
             Ok(()) => Ok(()),
             Err(fault) => Err(self.refuse(fault)),
         }
     }
 
     /// Returns a STORE with its tree, or why the trees refuse it.
-    pub(crate) fn accepted<'a>(
+    pub(crate) fn accepted_store<'a>(
         &self,
         number: u8,
         leaf: u32,
         records: &'a [u8],
     ) -> Result<PathStore<'a>, HostRefusal>
-        ensures message { IfOk result (λ store. message_of store ≡ HostRequest.Store number leaf records.now) }
-        ensures fits { IfOk result (λ store. FitsTree store × IsOfTrees self.now.trees store) }
+        ensures message { IfOk result (λ store. message_of (Change.Store store) ≡ HostRequest.Store number leaf records.now) }
+        ensures fits { IfOk result (λ store. FitsPath store × IsOfTrees self.now.trees (Change.Store store)) }
         ensures allowed { OnOk result (refusal_by self.now.trees (HostRequest.Store number leaf records.now) ≡ None) }
         ensures refused { IfErr result (λ why. refusal_by self.now.trees (HostRequest.Store number leaf records.now) ≡ Some why) }
         ensures code { IfErr result (λ why. code_of why ≢ 6) }
@@ -344,116 +344,8 @@ impl<F: FilePair> FileStore<F> {
         ensures running { OnOk result (self.new.file.has_stopped ≡ false) }
         ensures failure { result ≡ Err HostRefusal.OutOfMemory → IsSomeAnd self.new.failure (IsReason F.model self.old.file self.new.file) }
     {
-        let store = self.accepted(number, leaf, records)?;
-        self.store_together(&[store])
-    }
-
-    pub(crate) fn put(&mut self, number: u8, node: u32, bytes: &[u8]) -> Result<(), HostRefusal>
-        ensures allowed { OnOk result (refusal_by self.old.trees (HostRequest.Put number node bytes.now) ≡ None) }
-        ensures refused { IfErr result (IsRefused self.old.trees (HostRequest.Put number node bytes.now)) }
-        ensures untouched { IsSome (refusal_by self.old.trees (HostRequest.Put number node bytes.now)) → self.new ≡ self.old }
-        ensures trees { self.new.trees ≡ self.old.trees }
-        ensures serves { F.model.is_honest self.new.file.files → IsSound F.model self.old → MatchResult result
-            (λ _. Serves F.model (HostRequest.Put number node bytes.now) HostAnswer.Done self.old self.new)
-            (λ why. Serves F.model (HostRequest.Put number node bytes.now) (HostAnswer.Refused (code_of why)) self.old self.new) }
-        ensures runs { Runs F.model self.old.file self.new.file }
-        ensures running { OnOk result (self.new.file.has_stopped ≡ false) }
-        ensures failure { result ≡ Err HostRefusal.OutOfMemory → IsSomeAnd self.new.failure (IsReason F.model self.old.file self.new.file) }
-    {
-        let Some(tree) = self.tree_of(number) else {
-            return Err(HostRefusal::NoShape);
-        };
-        if self.is_fixed(number) {
-            return Err(HostRefusal::ShapeTaken);
-        }
-        if node >= tree.shape.nodes() {
-            return Err(HostRefusal::BadNode);
-        }
-        if bytes.len() != tree.shape.record_len as usize {
-            return Err(HostRefusal::BadLength);
-        }
-        match self.put_record(&tree, node, bytes) {
-            Ok(()) => Ok(()),
-            Err(fault) => Err(self.refuse(fault)),
-        }
-    }
-
-    /// Commits the pending PUTs if there are too many, or if one of them is for this cell.
-    fn make_room(&mut self, cell: u64) -> Result<(), StoreFault>
-        ensures room { OnOk result (length self.new.pending < 4096) }
-        ensures fresh { OnOk result (Contains self.new.pending cell → ⊥) }
-        ensures stays { OnOk result ((self.new ≡ self.old) ⊎ (self.new.pending ≡ [])) }
-        ensures commits_puts { IsSound F.model self.old → CommitsPuts F.model self.old self.new }
-        ensures trees { self.new.trees ≡ self.old.trees }
-        ensures calls { Calls F.model result self.old.file self.new.file }
-    {
-        if self.pending.len() >= MOST_PENDING || self.pending.contains(&cell) {
-            return self.commit_puts();
-        }
-        Ok(())
-    }
-
-    /// Puts a record. If the node has one already, it commits the new one at once; if not, the new one waits to be
-    /// committed.
-    fn put_record(&mut self, tree: &Tree, node: u32, bytes: &[u8]) -> Result<(), StoreFault>
-        requires node { node < nodes_of (sizes_of tree.now.shape) }
-        requires whole { length bytes.now ≡ tree.now.shape.record_len }
-        ensures serves { (number : ℕ) → tree_at self.old.trees number ≡ Some tree.now → F.model.is_honest self.new.file.files → IsSound F.model self.old → Serves F.model (HostRequest.Put number node bytes.now) (answer_by result) self.old self.new }
-        ensures trees { self.new.trees ≡ self.old.trees }
-        ensures calls { Calls F.model result self.old.file self.new.file }
-        ensures running { OnOk result (self.new.file.has_stopped ≡ false) }
-    {
-        self.make_room(tree.cell_at(node))?;
-        self.put_in_cell(tree, node, bytes)
-    }
-
-    /// Puts a record into a cell for which no record waits.
-    fn put_in_cell(&mut self, tree: &Tree, node: u32, bytes: &[u8]) -> Result<(), StoreFault>
-        requires node { node < nodes_of (sizes_of tree.now.shape) }
-        requires whole { length bytes.now ≡ tree.now.shape.record_len }
-        requires room { length self.old.pending < 4096 }
-        ensures serves { (number : ℕ) → tree_at self.old.trees number ≡ Some tree.now → F.model.is_honest self.new.file.files → IsSound F.model self.old
-            → (Contains self.old.pending (cell_at tree.now node) → ⊥)
-            → Serves F.model (HostRequest.Put number node bytes.now) (answer_by result) self.old self.new }
-        ensures trees { self.new.trees ≡ self.old.trees }
-        ensures calls { Calls F.model result self.old.file self.new.file }
-        ensures running { OnOk result (self.new.file.has_stopped ≡ false) }
-    {
-        if has_record(self.alloc, &mut self.file, tree, node)? {
-            self.replace_record(tree, node, bytes)
-        } else {
-            self.add_record(tree, node, bytes)
-        }
-    }
-
-    /// Replaces the record of a node.
-    fn replace_record(&mut self, tree: &Tree, node: u32, bytes: &[u8]) -> Result<(), StoreFault>
-        requires node { node < nodes_of (sizes_of tree.now.shape) }
-        requires whole { length bytes.now ≡ tree.now.shape.record_len }
-        ensures serves { (number : ℕ) → tree_at self.old.trees number ≡ Some tree.now → IsSound F.model self.old → Serves F.model (HostRequest.Put number node bytes.now) (answer_by result) self.old self.new }
-        ensures trees { self.new.trees ≡ self.old.trees }
-        ensures calls { Calls F.model result self.old.file self.new.file }
-        ensures running { OnOk result (self.new.file.has_stopped ≡ false) }
-    {
-        self.commit_puts()?;
-        commit_record(self.alloc, &mut self.file, tree, node, bytes)
-    }
-
-    /// Writes a record into a cell that has none, and for which none waits. Then this record waits to be committed.
-    fn add_record(&mut self, tree: &Tree, node: u32, bytes: &[u8]) -> Result<(), StoreFault>
-        requires node { node < nodes_of (sizes_of tree.now.shape) }
-        requires whole { length bytes.now ≡ tree.now.shape.record_len }
-        requires room { length self.old.pending < 4096 }
-        ensures serves { (number : ℕ) → tree_at self.old.trees number ≡ Some tree.now → IsSound F.model self.old
-            → (Contains self.old.pending (cell_at tree.now node) → ⊥) → F.model.seen self.old.file.files FileKind.Records (cell_at tree.now node) ≢ 1 → Serves F.model (HostRequest.Put number node bytes.now) (answer_by result) self.old self.new }
-        ensures trees { self.new.trees ≡ self.old.trees }
-        ensures calls { Calls F.model result self.old.file self.new.file }
-        ensures running { OnOk result (self.new.file.has_stopped ≡ false) }
-    {
-        let cell = tree.cell_at(node);
-        self.file.write_loose(cell + 1, bytes)?;
-        self.pending.push(cell)?;
-        Ok(())
+        let store = self.accepted_store(number, leaf, records)?;
+        self.change_together(&[Change::Store(store)])
     }
 
     pub(crate) fn shape(

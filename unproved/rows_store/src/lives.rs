@@ -47,11 +47,10 @@ const CLOSED: Life = Life {
     is_together: false,
 };
 
-/// Writes why a store didn't do what it was asked. Files in memory have no room only if memory ran out, and `Io` means
-/// that they were made to fail.
+/// Writes why a store didn't do what it was asked. `NoRoom` means that the log has no more room, and `Io` that the files were made to fail.
 fn write_fault(page: &mut Page, fault: StoreFault) -> Result<(), RowFault> {
     match fault {
-        StoreFault::OutOfMemory | StoreFault::NoRoom => return Err(RowFault::OutOfMemory),
+        StoreFault::OutOfMemory => return Err(RowFault::OutOfMemory),
         fault => page.show(&fault),
     }
     Ok(())

@@ -12,21 +12,21 @@ use Rattle.oram_store.proofs.groups.commit_group.Goals as goal
 
 pub returns-in_err-cells-clause-commits : goal.returns-in_err-cells-clause-commits
 returns-in_err-cells-clause-commits g c =
-    commits_none g.F.FilePair.model (group_patches c.args.stores.now) c.args.file.now c.from_residual.result c.from_residual.ensures.0 (g.met.F.FilePair.only_now c.args.file.now.files)
+    commits_none g.F.FilePair.model (group_patches c.args.changes.now) c.args.file.now c.from_residual.result c.from_residual.ensures.0 (g.met.F.FilePair.only_now c.args.file.now.files)
 
 pub returns-in_err-batch-clause-commits : goal.returns-in_err-batch-clause-commits
 returns-in_err-batch-clause-commits g c =
-    commits_none g.F.FilePair.model (group_patches c.args.stores.now) c.args.file.now c.from_residual-in_err-batch.result c.from_residual-in_err-batch.ensures.0 (g.met.F.FilePair.only_now c.args.file.now.files)
+    commits_none g.F.FilePair.model (group_patches c.args.changes.now) c.args.file.now c.from_residual-in_err-batch.result c.from_residual-in_err-batch.ensures.0 (g.met.F.FilePair.only_now c.args.file.now.files)
 
 pub commit-requires-clause-fits : goal.commit-requires-clause-fits
 commit-requires-clause-fits g c =
-    let is : patches_of c.deref-2.result.now ≡ group_patches c.args.stores.now = ap patches_of c.deref-2.ensures.value ∙ c.in_ok-batch.ensures in
-    subst (λ (ps : List Patch). All (Fits bounds) ps) (sym is) (group_fits c.args.stores.now c.requires.fits)
+    let is : patches_of c.deref-2.result.now ≡ group_patches c.args.changes.now = ap patches_of c.deref-2.ensures.value ∙ c.in_ok-batch.ensures in
+    subst (λ (ps : List Patch). All (Fits bounds) ps) (sym is) (group_fits c.args.changes.now c.requires.fits)
 
 pub commit-requires-clause-short : goal.commit-requires-clause-short
 commit-requires-clause-short g c =
-    let is : patches_of c.deref-2.result.now ≡ group_patches c.args.stores.now = ap patches_of c.deref-2.ensures.value ∙ c.in_ok-batch.ensures in
-    omega (arith, ap (λ (ps : List Patch). length (entries ps)) is, group_short c.args.stores.now c.requires.fits c.requires.few)
+    let is : patches_of c.deref-2.result.now ≡ group_patches c.args.changes.now = ap patches_of c.deref-2.ensures.value ∙ c.in_ok-batch.ensures in
+    omega (arith, ap (λ (ps : List Patch). length (entries ps)) is, group_short c.args.changes.now c.requires.fits c.requires.few)
 
 pub returns-in_err-cells-clause-calls : goal.returns-in_err-cells-clause-calls
 returns-in_err-cells-clause-calls g c = calls_memory g.F.FilePair.model c.from_residual.result c.args.file.now c.args.file.now c.from_residual.ensures.1 (runs_none g.F.FilePair.model c.args.file.now)
@@ -42,7 +42,7 @@ returns-in_err-batch-clause-running g c = on_ok_none c.from_residual-in_err-batc
 
 pub returns-clause-commits : goal.returns-clause-commits
 returns-clause-commits g c =
-    let is : patches_of c.deref-2.result.now ≡ group_patches c.args.stores.now = ap patches_of c.deref-2.ensures.value ∙ c.in_ok-batch.ensures in
+    let is : patches_of c.deref-2.result.now ≡ group_patches c.args.changes.now = ap patches_of c.deref-2.ensures.value ∙ c.in_ok-batch.ensures in
     subst (λ (ps : List Patch). Commits g.F.FilePair.model ps c.commit.result c.args.file.now c.commit.new.self) is c.commit.ensures.commits
 
 pub returns-clause-calls : goal.returns-clause-calls

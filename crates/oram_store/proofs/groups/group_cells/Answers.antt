@@ -2,16 +2,16 @@ use Rattle.std.proofs.Common.{◌+◌, ◌∷◌, ◌++◌, [], List, ℕ, get_o
 use Rattle.std.specs.Global.{Vec}
 use Rattle.std.proofs.lemmas.List.{take_more}
 use Rattle.std.proofs.lemmas.Slice.Zip.{all_zipped_more}
-use Rattle.oram_store.specs.Groups.{HoldGroupCells, HoldsCellsOf}
-use Rattle.oram_store.specs.declared.groups.PathStore.{PathStore}
+use Rattle.oram_store.specs.Groups.{HoldGroupCells, HoldsCellsIn}
+use Rattle.oram_store.specs.declared.groups.Change.{Change}
 use Rattle.oram_store.proofs.groups.group_cells.Goals as goal
 
-pub loop-store-preserved : goal.loop-store-preserved
-loop-store-preserved c =
-    let stores : List PathStore = c.args.stores.now in
-    let i : ℕ = c.loop-store.store-index in
-    let store : PathStore = c.store-item.result in
-    let here : HoldsCellsOf c.in_ok-cells_of.field-0 store = record { whole = c.in_ok-cells_of.ensures.len; held = c.in_ok-cells_of.ensures.cells } in
-    let more = all_zipped_more HoldsCellsOf c.loop-store.cells.items (take i stores) c.in_ok-cells_of.field-0 (get_or stores i store) c.loop-store.invariant (subst (HoldsCellsOf c.in_ok-cells_of.field-0) c.store-item.is here) in
-    subst (λ (cells : List (Vec ℕ)). HoldGroupCells cells (take (i + 1) stores)) (sym c.in_ok-push.ensures.items)
-    (subst (λ (ss : List PathStore). HoldGroupCells (c.loop-store.cells.items ++ c.in_ok-cells_of.field-0 ∷ []) ss) (sym (take_more stores i store c.loop-store-test.true)) more)
+pub loop-change-preserved : goal.loop-change-preserved
+loop-change-preserved c =
+    let changes : List Change = c.args.changes.now in
+    let i : ℕ = c.loop-change.change-index in
+    let change : Change = c.change-item.result in
+    let here : HoldsCellsIn c.in_ok-change_cells.field-0 change = c.in_ok-change_cells.ensures in
+    let more = all_zipped_more HoldsCellsIn c.loop-change.cells.items (take i changes) c.in_ok-change_cells.field-0 (get_or changes i change) c.loop-change.invariant (subst (HoldsCellsIn c.in_ok-change_cells.field-0) c.change-item.is here) in
+    subst (λ (cells : List (Vec ℕ)). HoldGroupCells cells (take (i + 1) changes)) (sym c.in_ok-push.ensures.items)
+    (subst (λ (some : List Change). HoldGroupCells (c.loop-change.cells.items ++ c.in_ok-change_cells.field-0 ∷ []) some) (sym (take_more changes i change c.loop-change-test.true)) more)

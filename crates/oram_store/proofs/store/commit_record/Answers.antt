@@ -16,28 +16,6 @@ returns-in_err-cell-clause-calls g c = calls_memory g.F.FilePair.model c.from_re
 pub returns-in_err-cell-clause-running : goal.returns-in_err-cell-clause-running
 returns-in_err-cell-clause-running g c = on_ok_none c.from_residual.result _ c.from_residual.ensures.0
 
-pub returns-in_err-push-clause-calls : goal.returns-in_err-push-clause-calls
-returns-in_err-push-clause-calls g c = calls_memory g.F.FilePair.model c.from_residual-in_err-push.result c.args.file.now c.args.file.now c.from_residual-in_err-push.ensures.1 (runs_none g.F.FilePair.model c.args.file.now)
-
-pub returns-in_err-push-clause-running : goal.returns-in_err-push-clause-running
-returns-in_err-push-clause-running g c = on_ok_none c.from_residual-in_err-push.result _ c.from_residual-in_err-push.ensures.0
-
-pub returns-in_err-push-clause-commits : goal.returns-in_err-push-clause-commits
-returns-in_err-push-clause-commits g c =
-    commits_none g.F.FilePair.model (record_patch c.args.tree.now c.args.node c.args.bytes.now ∷ []) c.args.file.now c.from_residual-in_err-push.result
-    c.from_residual-in_err-push.ensures.0 (g.met.F.FilePair.only_now c.args.file.now.files)
-
-pub returns-in_err-extend_from_slice-clause-calls : goal.returns-in_err-extend_from_slice-clause-calls
-returns-in_err-extend_from_slice-clause-calls g c = calls_memory g.F.FilePair.model c.from_residual-in_err-extend_from_slice.result c.args.file.now c.args.file.now c.from_residual-in_err-extend_from_slice.ensures.1 (runs_none g.F.FilePair.model c.args.file.now)
-
-pub returns-in_err-extend_from_slice-clause-running : goal.returns-in_err-extend_from_slice-clause-running
-returns-in_err-extend_from_slice-clause-running g c = on_ok_none c.from_residual-in_err-extend_from_slice.result _ c.from_residual-in_err-extend_from_slice.ensures.0
-
-pub returns-in_err-extend_from_slice-clause-commits : goal.returns-in_err-extend_from_slice-clause-commits
-returns-in_err-extend_from_slice-clause-commits g c =
-    commits_none g.F.FilePair.model (record_patch c.args.tree.now c.args.node c.args.bytes.now ∷ []) c.args.file.now c.from_residual-in_err-extend_from_slice.result
-    c.from_residual-in_err-extend_from_slice.ensures.0 (g.met.F.FilePair.only_now c.args.file.now.files)
-
 pub returns-clause-calls : goal.returns-clause-calls
 returns-clause-calls g c = c.commit_one.ensures.calls
 

@@ -1,48 +1,46 @@
-use Rattle.std.proofs.Common.{ℕ, ◌<◌, Some, inr, sym, ap, subst, ◌∙◌, arith}
-use Rattle.std.specs.Prelude.{IsSomeAnd}
+use Rattle.std.proofs.Common.{Result, Some, inr, sym, ap, subst, ◌∙◌}
+use Rattle.std.specs.Prelude.{IsSomeAnd, MatchResult}
+use Rattle.std.proofs.lemmas.Result.{err_from_is_err_and}
+use Rattle.oram_host.specs.Refusals.{code_of}
+use Rattle.oram_host.specs.declared.refusals.HostRefusal.{HostRefusal}
+use Rattle.oram_wire.specs.declared.host_messages.HostAnswer.TheVariants as answer
+use Rattle.oram_wire.specs.declared.host_messages.HostRequest.{HostRequest}
 use Rattle.oram_wire.specs.declared.host_messages.HostRequest.TheVariants as request
+use Rattle.oram_store.specs.Crashes.{Serves}
 use Rattle.oram_store.specs.KeptRecords.{StoreValue}
 use Rattle.oram_store.specs.RecordFile.{IsReason, Runs}
 use Rattle.oram_store.specs.Refusals.{refusal_by}
-use Rattle.oram_store.proofs.Allowed.{not_refused, put_allowed}
+use Rattle.oram_store.proofs.Allowed.{not_refused}
 use Rattle.oram_store.proofs.Served.{serves_refused, serves_untouched}
 use Rattle.oram_store.proofs.store.FileStore.put.Goals as goal
 
-pub returns-in_default-clause-serves : goal.returns-in_default-clause-serves
-returns-in_default-clause-serves g c honest s =
-    serves_untouched g.F.FilePair.model (request.Put c.args.number c.args.node c.args.bytes.now) 1 c.args.self.now (λ six. absurd (omega arith)) s
-    (g.met.F.FilePair.only_now c.args.self.now.file.files)
+pub returns-in_err-put-clause-serves : goal.returns-in_err-put-clause-serves
+returns-in_err-put-clause-serves g c honest s =
+    let p = err_from_is_err_and c.from_residual.result c.from_residual.ensures.1 in
+    let message = request.Put c.args.number c.args.node c.args.bytes.now in
+    subst (λ (r : Result Unit HostRefusal). MatchResult r (λ _. Serves g.F.FilePair.model message answer.Done c.args.self.now c.args.self.now)
+    (λ why. Serves g.F.FilePair.model message (answer.Refused (code_of why)) c.args.self.now c.args.self.now)) (sym p.1)
+    (serves_untouched g.F.FilePair.model message (code_of p.0) c.args.self.now (λ six. c.in_err-put.ensures.code (ap code_of (sym p.2) ∙ six)) s (g.met.F.FilePair.only_now c.args.self.now.file.files))
 
-pub returns-then-is_fixed-clause-serves : goal.returns-then-is_fixed-clause-serves
-returns-then-is_fixed-clause-serves g c honest s =
-    serves_untouched g.F.FilePair.model (request.Put c.args.number c.args.node c.args.bytes.now) 5 c.args.self.now (λ six. absurd (omega arith)) s
-    (g.met.F.FilePair.only_now c.args.self.now.file.files)
+pub put_record-requires-clause-node : goal.put_record-requires-clause-node
+put_record-requires-clause-node g c = c.in_ok-put.ensures.fits.0.node
 
-pub returns-then-node-nodes-clause-serves : goal.returns-then-node-nodes-clause-serves
-returns-then-node-nodes-clause-serves g c honest s =
-    serves_untouched g.F.FilePair.model (request.Put c.args.number c.args.node c.args.bytes.now) 3 c.args.self.now (λ six. absurd (omega arith)) s
-    (g.met.F.FilePair.only_now c.args.self.now.file.files)
-
-pub returns-then-bytes-tree-clause-serves : goal.returns-then-bytes-tree-clause-serves
-returns-then-bytes-tree-clause-serves g c honest s =
-    serves_untouched g.F.FilePair.model (request.Put c.args.number c.args.node c.args.bytes.now) 4 c.args.self.now (λ six. absurd (omega arith)) s
-    (g.met.F.FilePair.only_now c.args.self.now.file.files)
+pub put_record-requires-clause-whole : goal.put_record-requires-clause-whole
+put_record-requires-clause-whole g c = c.in_ok-put.ensures.fits.0.whole
 
 pub returns-in-Ok-clause-serves : goal.returns-in-Ok-clause-serves
-returns-in-Ok-clause-serves g c honest s = c.in-Ok.ensures.serves c.args.number (sym c.tree_of.ensures ∙ c.in-Some.is) honest s
+returns-in-Ok-clause-serves g c honest s =
+    subst (λ (m : HostRequest). Serves g.F.FilePair.model m answer.Done c.args.self.now c.put_record.new.self) c.in_ok-put.ensures.message
+    (c.in-Ok.ensures.serves c.in_ok-put.put.number c.in_ok-put.ensures.fits.1 honest s)
 
 pub returns-in-Err-clause-serves : goal.returns-in-Err-clause-serves
 returns-in-Err-clause-serves g c honest s =
-    serves_refused g.F.FilePair.model (request.Put c.args.number c.args.node c.args.bytes.now) c.args.self.now c.put_record.new.self c.refuse.new.self c.refuse.result (Some c.in-Err.fault)
-    c.refuse.ensures.why c.refuse.ensures.kept (λ was. c.in-Err.ensures.serves c.args.number (sym c.tree_of.ensures ∙ c.in-Some.is) was s) honest
-
-pub returns-in-Ok-clause-allowed : goal.returns-in-Ok-clause-allowed
-returns-in-Ok-clause-allowed g c =
-    put_allowed c.args.self.now.trees c.args.number c.args.node c.args.bytes.now c.in-Some.tree (sym c.tree_of.ensures ∙ c.in-Some.is) (sym c.is_fixed.ensures ∙ c.if-is_fixed.false) (subst (λ (n : ℕ). c.args.node < n) c.nodes.ensures c.if-node-nodes.false) c.if-bytes-tree.false
+    subst (λ (m : HostRequest). Serves g.F.FilePair.model m (answer.Refused (code_of c.refuse.result)) c.args.self.now c.refuse.new.self) c.in_ok-put.ensures.message
+    (serves_refused g.F.FilePair.model (request.Put c.in_ok-put.put.number c.in_ok-put.put.node c.in_ok-put.put.bytes.now) c.args.self.now c.put_record.new.self c.refuse.new.self c.refuse.result (Some c.in-Err.fault)
+    c.refuse.ensures.why c.refuse.ensures.kept (λ was. c.in-Err.ensures.serves c.in_ok-put.put.number c.in_ok-put.ensures.fits.1 was s) honest)
 
 pub returns-in-Ok-clause-untouched : goal.returns-in-Ok-clause-untouched
-returns-in-Ok-clause-untouched g c =
-    not_refused (refusal_by c.args.self.now.trees (request.Put c.args.number c.args.node c.args.bytes.now)) _ (put_allowed c.args.self.now.trees c.args.number c.args.node c.args.bytes.now c.in-Some.tree (sym c.tree_of.ensures ∙ c.in-Some.is) (sym c.is_fixed.ensures ∙ c.if-is_fixed.false) (subst (λ (n : ℕ). c.args.node < n) c.nodes.ensures c.if-node-nodes.false) c.if-bytes-tree.false)
+returns-in-Ok-clause-untouched g c = not_refused (refusal_by c.args.self.now.trees (request.Put c.args.number c.args.node c.args.bytes.now)) _ c.in_ok-put.ensures.allowed
 
 pub returns-in-Ok-clause-trees : goal.returns-in-Ok-clause-trees
 returns-in-Ok-clause-trees g c = c.put_record.ensures.trees
@@ -54,12 +52,10 @@ pub returns-in-Ok-clause-running : goal.returns-in-Ok-clause-running
 returns-in-Ok-clause-running g c = c.in-Ok.ensures.running
 
 pub returns-in-Err-clause-refused : goal.returns-in-Err-clause-refused
-returns-in-Err-clause-refused g c =
-    inr (put_allowed c.args.self.now.trees c.args.number c.args.node c.args.bytes.now c.in-Some.tree (sym c.tree_of.ensures ∙ c.in-Some.is) (sym c.is_fixed.ensures ∙ c.if-is_fixed.false) (subst (λ (n : ℕ). c.args.node < n) c.nodes.ensures c.if-node-nodes.false) c.if-bytes-tree.false, c.refuse.ensures.why)
+returns-in-Err-clause-refused g c = inr (c.in_ok-put.ensures.allowed, c.refuse.ensures.why)
 
 pub returns-in-Err-clause-untouched : goal.returns-in-Err-clause-untouched
-returns-in-Err-clause-untouched g c =
-    not_refused (refusal_by c.args.self.now.trees (request.Put c.args.number c.args.node c.args.bytes.now)) _ (put_allowed c.args.self.now.trees c.args.number c.args.node c.args.bytes.now c.in-Some.tree (sym c.tree_of.ensures ∙ c.in-Some.is) (sym c.is_fixed.ensures ∙ c.if-is_fixed.false) (subst (λ (n : ℕ). c.args.node < n) c.nodes.ensures c.if-node-nodes.false) c.if-bytes-tree.false)
+returns-in-Err-clause-untouched g c = not_refused (refusal_by c.args.self.now.trees (request.Put c.args.number c.args.node c.args.bytes.now)) _ c.in_ok-put.ensures.allowed
 
 pub returns-in-Err-clause-trees : goal.returns-in-Err-clause-trees
 returns-in-Err-clause-trees g c = ap (λ (v : StoreValue g.row.F.Denot). v.trees) c.refuse.ensures.kept ∙ c.put_record.ensures.trees

@@ -6,6 +6,7 @@ use Rattle.oram_host.specs.Refusals.{code_of}
 use Rattle.oram_host.specs.declared.refusals.HostRefusal.{HostRefusal}
 use Rattle.oram_store.specs.Crashes.{Serves}
 use Rattle.oram_store.specs.Groups.{IsOfTrees, ServesGroup, message_of}
+use Rattle.oram_store.specs.declared.groups.Change.TheVariants as change
 use Rattle.oram_wire.specs.declared.host_messages.HostAnswer.TheVariants as answer
 use Rattle.oram_wire.specs.declared.host_messages.HostRequest.{HostRequest}
 use Rattle.oram_wire.specs.declared.host_messages.HostRequest.TheVariants as request
@@ -26,12 +27,12 @@ returns-clause-serves g c honest s =
     let message = request.Store c.args.number c.args.leaf c.args.records.now in
     let store = c.in_ok-store.store in
     let old = c.args.self.now in
-    let new = c.store_together.new.self in
-    let of : All (IsOfTrees old.trees) (store ∷ []) = All-push (IsOfTrees old.trees) [] store (λ k d h. absurd (omega arith)) c.in_ok-store.ensures.fits.1 in
-    match_leads c.store_together.result
-    (λ _. ServesGroup g.F.FilePair.model (message_of store ∷ []) answer.Done old new) (λ _. Serves g.F.FilePair.model message answer.Done old new)
-    (λ why. ServesGroup g.F.FilePair.model (message_of store ∷ []) (answer.Refused (code_of why)) old new) (λ why. Serves g.F.FilePair.model message (answer.Refused (code_of why)) old new)
-    (c.store_together.ensures.serves of honest s)
+    let new = c.change_together.new.self in
+    let of : All (IsOfTrees old.trees) (change.Store store ∷ []) = All-push (IsOfTrees old.trees) [] (change.Store store) (λ k d h. absurd (omega arith)) c.in_ok-store.ensures.fits.1 in
+    match_leads c.change_together.result
+    (λ _. ServesGroup g.F.FilePair.model (message_of (change.Store store) ∷ []) answer.Done old new) (λ _. Serves g.F.FilePair.model message answer.Done old new)
+    (λ why. ServesGroup g.F.FilePair.model (message_of (change.Store store) ∷ []) (answer.Refused (code_of why)) old new) (λ why. Serves g.F.FilePair.model message (answer.Refused (code_of why)) old new)
+    (c.change_together.ensures.serves of honest s)
     (λ x served. group_of_one g.F.FilePair.model c.args.number c.args.leaf c.args.records.now answer.Done old new
     (subst (λ (m : HostRequest). ServesGroup g.F.FilePair.model (m ∷ []) answer.Done old new) c.in_ok-store.ensures.message served))
     (λ why served. group_of_one g.F.FilePair.model c.args.number c.args.leaf c.args.records.now (answer.Refused (code_of why)) old new

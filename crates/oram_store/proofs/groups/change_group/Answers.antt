@@ -8,22 +8,22 @@ use Rattle.oram_redo.proofs.Outcomes.{on_ok_none}
 use Rattle.oram_store.proofs.Together.{group_put, in_turn_keeps}
 use Rattle.oram_store.proofs.Outcomes.{calls_passed}
 use Rattle.oram_store.proofs.Sound.{changes_err, changes_then, commits_change}
-use Rattle.oram_store.proofs.groups.store_group.Goals as goal
+use Rattle.oram_store.proofs.groups.change_group.Goals as goal
 
 pub returns-in_err-write_missing_of_group-clause-changes : goal.returns-in_err-write_missing_of_group-clause-changes
 returns-in_err-write_missing_of_group-clause-changes g c trees of sound honest =
-    changes_err g.F.FilePair.model trees (λ one two. AnswersInTurn trees one (map message_of c.args.stores.now) Done two) c.from_residual.result
+    changes_err g.F.FilePair.model trees (λ one two. AnswersInTurn trees one (map message_of c.args.changes.now) Done two) c.from_residual.result
     c.args.file.now c.write_missing_of_group.new.file c.from_residual.ensures.0 (c.write_missing_of_group.ensures.kept trees of sound honest)
 
 pub returns-clause-changes : goal.returns-clause-changes
 returns-clause-changes g c trees of sound honest =
     let mid = c.write_missing_of_group.new.file in
-    let change = λ (one two : RecordsOf). AnswersInTurn trees one (map message_of c.args.stores.now) Done two in
+    let change = λ (one two : RecordsOf). AnswersInTurn trees one (map message_of c.args.changes.now) Done two in
     changes_then g.F.FilePair.model trees change c.commit_group.result
-    c.args.file.now mid c.commit_group.new.file (λ one two three kept said. in_turn_keeps trees one two three (map message_of c.args.stores.now) Done kept said)
+    c.args.file.now mid c.commit_group.new.file (λ one two three kept said. in_turn_keeps trees one two three (map message_of c.args.changes.now) Done kept said)
     (c.write_missing_of_group.ensures.kept trees of sound (c.commit_group.ensures.calls.runs.after.honest honest))
-    (λ mid_sound. commits_change g.F.FilePair.model trees change (group_patches c.args.stores.now) c.commit_group.result mid c.commit_group.new.file mid_sound c.commit_group.ensures.commits
-    (λ made agrees. group_put trees c.args.stores.now (g.F.FilePair.model.seen mid.files Records) made mid_sound.file c.requires.fits of agrees))
+    (λ mid_sound. commits_change g.F.FilePair.model trees change (group_patches c.args.changes.now) c.commit_group.result mid c.commit_group.new.file mid_sound c.commit_group.ensures.commits
+    (λ made agrees. group_put trees c.args.changes.now (g.F.FilePair.model.seen mid.files Records) made mid_sound.file c.requires.fits of agrees))
     c.commit_group.ensures.calls.runs.stays (g.met.F.FilePair.counts_now mid.files) (g.met.F.FilePair.whole mid.files)
 
 pub returns-in_err-write_missing_of_group-clause-calls : goal.returns-in_err-write_missing_of_group-clause-calls

@@ -1,6 +1,6 @@
 use Rattle.std.proofs.Common.{ℕ, ◌<◌, sym, subst, ◌∙◌}
 use Rattle.oram_store.proofs.Allowed.{store_allowed}
-use Rattle.oram_store.proofs.store.FileStore.accepted.Goals as goal
+use Rattle.oram_store.proofs.store.FileStore.accepted_store.Goals as goal
 
 pub returns-clause-allowed : goal.returns-clause-allowed
 returns-clause-allowed g c =
