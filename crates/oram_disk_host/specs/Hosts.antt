@@ -22,8 +22,8 @@ is_lost (Some fault.Io) = true
 is_lost (Some fault.Closed) = true
 is_lost (Some _) = false
 
--- The store gives each of these messages this answer, and the tally counts them: the body of one message, or those of STOREs that it
--- has committed together.
+-- The store gives each of these messages this answer, and the tally counts them: the body of one message, or those of STOREs and PUTs that
+-- it has committed together.
 pub record Serves {F : Type 0} (model : FileModel F) (before : HostedValue F) (bodies : List (List ℕ)) (answer : HostAnswer) (after : HostedValue F) : Type 0 where
   pub counts : Counts before.tally bodies (answer_body answer) after.tally
   pub answers : AnswersFirst model bodies answer before.store after.store

@@ -1,7 +1,7 @@
 //! Answers the messages of a connection.
 //!
-//! The store gets the messages that have arrived together as one list, and commits STOREs that stand together in it as one batch. The
-//! answers keep the order of the messages, and are flushed once all messages of the list are answered.
+//! The store gets the messages that have arrived together as one list, and commits STOREs and PUTs that stand together in it as one batch.
+//! The answers keep the order of the messages, and are flushed once all messages of the list are answered.
 
 ghost use Rattle.std.specs.Prelude.{◌≡◌, ◌↔◌, IfErr, IsTrue, OnErr, OnOk};
 ghost use Rattle.std.specs.Io.KnownBytes.{Appends};

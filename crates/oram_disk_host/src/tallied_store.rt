@@ -137,7 +137,7 @@ fn tell<W: DiskWatch>(disk: &W, answer: &[u8], failure: Option<StoreFault>) {
 }
 
 impl<'a, F: FilePair, W: DiskWatch> TalliedStore<'a, F, W> {
-    /// Answers the first message of a list, with the STOREs behind it that are committed with it. Returns how many messages were
+    /// Answers the first message of a list, with the STOREs and PUTs behind it that are committed with it. Returns how many messages were
     /// answered, and the bytes of the answer, which each of them gets. If there is no memory to answer, it serves none of them.
     ///
     /// Once the disk has failed, it answers nothing more, so that the connection ends and the file is opened again. Its last answer
