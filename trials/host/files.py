@@ -94,7 +94,7 @@ def try_cut_short(trial):
     write_settings(folder, "short")
     short = folder / "short"
     log_of(short).write_bytes(log)
-    start, line = lambda: trial.start("host", "host.toml", folder=folder), f"oramdisk: short {NO_HOST}"
+    start, line = lambda: trial.start("host", "host.toml", folder=folder), "oramdisk: short is shorter than it was, and is left as it is: put the whole file back"
     for length in (said - 1, said // 2, 8192, LENGTH_AT + LENGTH_FIELD_LEN):
         short.write_bytes(whole[:length])
         check_refused(trial, f"a file that was cut to {length} bytes", short, start, DAMAGED, line)
@@ -153,7 +153,7 @@ def try_wrong_logs(trial, folder, file, log):
 def try_log_alone(trial, folder, file, log):
     """The file is missing, and only its log is there: no new file is made."""
     file.unlink()
-    alone = "oramdisk: there is no file whole, but its log, the file beside it with -log after its name, holds records of it: put the file back, or take the log away"
+    alone = "oramdisk: there is no file whole, but a log is there, the file beside it with -log after its name: put the file back that the log belongs to, or take the log away"
     start = lambda: trial.start("host", "--new", "host.toml", folder=folder)
     check_refused(trial, "a log without its file", log, start, WRONG_LOG, alone)
 

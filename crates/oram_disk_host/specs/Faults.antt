@@ -33,6 +33,10 @@ file_fault file.OutOfMemory = OutOfMemory
 -- the fault of the program if the store in the file `name` can't be opened, or has stopped
 abbrev pub store_fault : StoreFault → String Global → Fault
 store_fault store.Busy name = About kind.Busy name
+store_fault store.Missing name = About kind.NoFile name
+store_fault store.Exists name = About kind.FileExists name
+store_fault store.NewFileTaken name = About kind.NewFileTaken name
+store_fault store.NewLogTaken name = About kind.NewLogTaken name
 store_fault store.NotABucketFile name = About kind.NotABucketFile name
 store_fault store.OlderVersion name = About kind.OlderFile name
 store_fault store.NewerKind name = About kind.NewerFile name
@@ -41,6 +45,7 @@ store_fault store.LogOfAnotherFile name = About kind.LogOfAnotherFile name
 store_fault store.LogWithoutFile name = About kind.LogWithoutFile name
 store_fault store.LogOlder name = About kind.LogOlder name
 store_fault store.LogNewer name = About kind.LogNewer name
+store_fault store.CutShort name = About kind.CutShort name
 store_fault store.Damaged name = About kind.Damaged name
 store_fault store.LogDamaged name = About kind.LogDamaged name
 store_fault store.NoRoom name = About (kind.File reason.DiskFull) name

@@ -7,7 +7,7 @@ use Rattle.oram_cli.specs.declared.hosts.HostFault.TheVariants as host
 use Rattle.oram_settings.specs.declared.differences.FixedKey.{FixedKey}
 use Rattle.oram_settings.specs.declared.differences.FixedKey.TheVariants as fixed
 use Rattle.oram_disk_host.specs.declared.kinds.FaultKind.{FaultKind}
-use Rattle.oram_disk_host.specs.declared.kinds.FaultKind.TheVariants.{CommandLine, Settings, File, Unformatted, Address, NotABucketFile, OlderFile, NewerFile, WithoutLog, LogOfAnotherFile, LogWithoutFile, LogOlder, LogNewer, Damaged, LogDamaged, Busy, NoFile, FileExists, Exists, Formatted, NotADisk, DamagedState, OlderState, ReplacedState, WrongKey, Changed, Host, OlderHost, NoStamps, StateNotKept, StateNotMade, UsedUp, InUse, Failed, NotFailed, LostRecords, PartialImage, OtherAnswer}
+use Rattle.oram_disk_host.specs.declared.kinds.FaultKind.TheVariants.{CommandLine, Settings, File, Unformatted, Address, NotABucketFile, OlderFile, NewerFile, WithoutLog, LogOfAnotherFile, LogWithoutFile, NewFileTaken, NewLogTaken, LogOlder, LogNewer, CutShort, Damaged, LogDamaged, Busy, NoFile, FileExists, Exists, Formatted, NotADisk, DamagedState, OlderState, ReplacedState, WrongKey, Changed, Host, OlderHost, NoStamps, StateNotKept, StateNotMade, UsedUp, InUse, Failed, NotFailed, LostRecords, PartialImage, OtherAnswer}
 
 -- the text before the name of the settings with a changed value
 abbrev pub changed : FixedKey → List ℕ
@@ -78,9 +78,12 @@ rest OlderFile = codes " is a file of an older version, and is left as it is: se
 rest NewerFile = codes " is a file of buckets of a newer version, and is left as it is: serve it with that version\n"
 rest WithoutLog = codes ", the file beside it with -log after its name, isn't there: put back the one that it was served with last\n"
 rest LogOfAnotherFile = codes ", the file beside it with -log after its name, is another file's: put back the one that it was served with last\n"
-rest LogWithoutFile = codes ", but its log, the file beside it with -log after its name, holds records of it: put the file back, or take the log away\n"
+rest LogWithoutFile = codes ", but a log is there, the file beside it with -log after its name: put the file back that the log belongs to, or take the log away\n"
+rest NewFileTaken = codes ".unfinished is where the new file is made, and something else is there, which is left as it is: take it away\n"
+rest NewLogTaken = codes "-log.unfinished is where the new log is made, and something else is there, which is left as it is: take it away\n"
 rest LogOlder = codes ", the file beside it with -log after its name, is older than the file, and both are left as they are: put back the log that it was served with last\n"
 rest LogNewer = codes " is older than its log, the file beside it with -log after its name, and both are left as they are: put back the file that was served last\n"
+rest CutShort = codes " is shorter than it was, and is left as it is: put the whole file back\n"
 rest Damaged = codes " is damaged, and is left as it is: name another file, and format anew\n"
 rest LogDamaged = codes ", the file beside it with -log after its name, is damaged, and both are left as they are: put back copies of both that belong together, or name another file, and format anew\n"
 rest Busy = codes " is held by another process: end that one first\n"
@@ -107,7 +110,7 @@ rest LostRecords = codes ": oramdisk export --salvage writes the rest of the dis
 rest PartialImage = codes ": what was in them reads as zeros in the image\n"
 rest OtherAnswer = codes " gave an answer that no host of this version gives: have it run the same version of oramdisk\n"
 
--- 2: words or settings; 4: a file; 5: a socket; 6 to 8: a host's file that isn't one, is damaged, or is held; 9: something that
+-- 2: words or settings; 4: a file; 5: a socket; 6 to 8: a host's file that isn't one, is damaged or cut short, or is held; 9: something that
 -- exists already; 10: a state that isn't one, is damaged, or is of an older version; 11, 12: a host that is out of reach, or that refuses;
 -- 13: a state that can't be kept; 14: no access left; 16: a disk in use; 17: a disk that has failed; 18: a disk that hasn't
 -- failed; 19: a host's file that is missing; 20 to 22: a host with another disk, with none, or without room; 23, 24: a key or
@@ -121,10 +124,13 @@ status (File why) = 4
 status Unformatted = 28
 status Address = 5
 status NotABucketFile = 6
+status CutShort = 7
 status Damaged = 7
 status LogDamaged = 7
 status Busy = 8
 status FileExists = 9
+status NewFileTaken = 9
+status NewLogTaken = 9
 status Exists = 9
 status Formatted = 9
 status NotADisk = 10

@@ -52,6 +52,10 @@ pub fn store_fault(name: String, why: StoreFault) -> Fault
 {
     let kind = match why {
         StoreFault::Busy => FaultKind::Busy,
+        StoreFault::Missing => FaultKind::NoFile,
+        StoreFault::Exists => FaultKind::FileExists,
+        StoreFault::NewFileTaken => FaultKind::NewFileTaken,
+        StoreFault::NewLogTaken => FaultKind::NewLogTaken,
         StoreFault::NotABucketFile => FaultKind::NotABucketFile,
         StoreFault::OlderVersion => FaultKind::OlderFile,
         StoreFault::NewerKind => FaultKind::NewerFile,
@@ -60,6 +64,7 @@ pub fn store_fault(name: String, why: StoreFault) -> Fault
         StoreFault::LogWithoutFile => FaultKind::LogWithoutFile,
         StoreFault::LogOlder => FaultKind::LogOlder,
         StoreFault::LogNewer => FaultKind::LogNewer,
+        StoreFault::CutShort => FaultKind::CutShort,
         StoreFault::Damaged => FaultKind::Damaged,
         StoreFault::LogDamaged => FaultKind::LogDamaged,
         StoreFault::NoRoom => FaultKind::File(FileReason::DiskFull),

@@ -11,21 +11,21 @@ use crate::serving::answer_messages;
 use crate::settings_file::{HostSettings, read_host_settings, settings_text};
 use crate::tallied_store::TalliedStore;
 use jiff::Timestamp;
-use oram_cli::{InputFault, SocketFault, call_fault, listen};
+use oram_cli::{InputFault, SocketFault, listen};
 use oram_host::ServeFault;
 use oram_redo::FilePair;
 use oram_settings::{host_complaint, hosting_text, place_beside, relative_to};
 use oram_sockets::{
     Arrived, Connection, Listener, MarkedReader, MarkedWriter, Peer, UNIX, listen_at_path, watch,
 };
-use oram_store::{FileStore, StoreFault, open_store};
+use oram_store::{FileStore, StoreFault, make_store, open_store};
 use std::alloc::{AllocError, Global};
 use std::io::{Error, ErrorKind, Read, Write};
 use std::net::{Net, TcpStream};
 use std::os::fd::AsRawFd;
 use std::rt::{Clock, Files};
+use std::thread;
 use std::time::Duration;
-use std::{fs, thread};
 
 /// How many seconds a host waits before it tries again to open a file whose disk has failed.
 const RETRY_AFTER: u64 = 1;
@@ -254,22 +254,6 @@ fn serve_opened<R: Net + Clock + Eprint + AllocGlobal, F: FilePair + Drop>(
     }
 }
 
-/// Refuses a file that is missing or, if a new one is asked for, a file that exists. So a host that was started in the
-/// wrong folder says so, instead of serving an empty file.
-fn check_presence<R: Files + AllocGlobal>(rt: &R, file: &str, is_new: bool) -> Result<(), Fault> {
-    let alloc = rt.alloc();
-    let is_there = match fs::exists(rt, file) {
-        Ok(is_there) => is_there,
-        Err(error) => return Err(call_fault(alloc, file, &error).into()),
-    };
-    let kind = match (is_there, is_new) {
-        (true, true) => FaultKind::FileExists,
-        (false, false) => FaultKind::NoFile,
-        _ => return Ok(()),
-    };
-    Err(Fault::About(kind, String::from_str(alloc, file)?))
-}
-
 /// Prints that a file was opened: whether it is a new one, and where it is served.
 fn print_opened(rt: &HostRuntime, place: &str, file: &str, is_new: bool) -> Result<(), AllocError> {
     let alloc = rt.alloc();
@@ -282,7 +266,8 @@ fn print_opened(rt: &HostRuntime, place: &str, file: &str, is_new: bool) -> Resu
     Ok(())
 }
 
-/// Opens the file, or makes a new one, and serves it, until it has to be opened again.
+/// Opens the file or, if a new one is asked for, makes it, and serves it until it has to be opened again. A file that is missing is made
+/// only then, so a host that was started in the wrong folder says so, instead of serving an empty file.
 fn serve_file(
     rt: &HostRuntime,
     listener: &Listener,
@@ -290,8 +275,11 @@ fn serve_file(
     file: &str,
     is_new: bool,
 ) -> Result<(), Fault> {
-    check_presence(rt, file, is_new)?;
-    let opened = open_store(rt, rt.alloc(), file);
+    let opened = if is_new {
+        make_store(rt, rt.alloc(), file)
+    } else {
+        open_store(rt, rt.alloc(), file)
+    };
     if opened.is_ok() {
         print_opened(rt, place, file, is_new)?;
     }

@@ -29,11 +29,16 @@ pub enum FaultKind {
     /// The log beside the file of buckets of this name is missing, or belongs to another file.
     WithoutLog,
     LogOfAnotherFile,
-    /// The file of buckets of this name is missing, but its log is there.
+    /// The file of buckets of this name is missing, but something is at its log's name that no making of it has left.
     LogWithoutFile,
+    /// The file of buckets of this name can't be made, since something is at the name under which it is made, or its log.
+    NewFileTaken,
+    NewLogTaken,
     /// The log beside the file of buckets of this name is older than the file, or newer.
     LogOlder,
     LogNewer,
+    /// The file of buckets of this name is shorter than it was.
+    CutShort,
     /// The file of this name holds something that no host writes.
     Damaged,
     /// The log beside the file of buckets of this name isn't as a host writes it.
@@ -191,11 +196,17 @@ impl FaultKind {
             FaultKind::LogOfAnotherFile =>
                 ", the file beside it with -log after its name, is another file's: put back the one that it was served with last\n",
             FaultKind::LogWithoutFile =>
-                ", but its log, the file beside it with -log after its name, holds records of it: put the file back, or take the log away\n",
+                ", but a log is there, the file beside it with -log after its name: put the file back that the log belongs to, or take the log away\n",
+            FaultKind::NewFileTaken =>
+                ".unfinished is where the new file is made, and something else is there, which is left as it is: take it away\n",
+            FaultKind::NewLogTaken =>
+                "-log.unfinished is where the new log is made, and something else is there, which is left as it is: take it away\n",
             FaultKind::LogOlder =>
                 ", the file beside it with -log after its name, is older than the file, and both are left as they are: put back the log that it was served with last\n",
             FaultKind::LogNewer =>
                 " is older than its log, the file beside it with -log after its name, and both are left as they are: put back the file that was served last\n",
+            FaultKind::CutShort =>
+                " is shorter than it was, and is left as it is: put the whole file back\n",
             FaultKind::Damaged =>
                 " is damaged, and is left as it is: name another file, and format anew\n",
             FaultKind::LogDamaged =>
@@ -252,9 +263,13 @@ impl FaultKind {
             FaultKind::File(_) => 4,
             FaultKind::Address => 5,
             FaultKind::NotABucketFile => 6,
-            FaultKind::Damaged | FaultKind::LogDamaged => 7,
+            FaultKind::CutShort | FaultKind::Damaged | FaultKind::LogDamaged => 7,
             FaultKind::Busy => 8,
-            FaultKind::FileExists | FaultKind::Exists | FaultKind::Formatted => 9,
+            FaultKind::FileExists
+            | FaultKind::NewFileTaken
+            | FaultKind::NewLogTaken
+            | FaultKind::Exists
+            | FaultKind::Formatted => 9,
             FaultKind::NotADisk | FaultKind::DamagedState | FaultKind::OlderState => 10,
             FaultKind::Host(HostFault::OutOfReach) => 11,
             FaultKind::Host(HostFault::Taken) | FaultKind::Host(HostFault::Refused) => 12,

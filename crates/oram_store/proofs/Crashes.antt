@@ -274,6 +274,11 @@ module _ {F : Type 0} (model : FileModel F) where
   reason_then old mid new fault.NoRoom runs same reason = λ n h. reason n (runs.after.short n h)
   reason_then old mid new fault.OutOfMemory runs same reason = reason
   reason_then old mid new fault.Busy runs same reason = reason
+  reason_then old mid new fault.Missing runs same reason = reason
+  reason_then old mid new fault.Exists runs same reason = reason
+  reason_then old mid new fault.NewFileTaken runs same reason = reason
+  reason_then old mid new fault.NewLogTaken runs same reason = reason
+  reason_then old mid new fault.CutShort runs same reason = reason
   reason_then old mid new fault.NotABucketFile runs same reason = reason
   reason_then old mid new fault.OlderVersion runs same reason = reason
   reason_then old mid new fault.NewerKind runs same reason = reason

@@ -24,3 +24,4 @@ pub mod Responses
 pub mod RowBytes
 pub mod RowsServed
 mod WorkedRows
+mod Makings

@@ -18,3 +18,6 @@ pub mod Rows
 pub mod RecordsAnswers
 pub mod FirstAnswers
 pub mod GroupRuns
+pub mod Leftovers
+pub mod Notes
+pub mod Making

@@ -12,6 +12,18 @@ pub enum StoreFault {
     /// Another process has the file open, or another store of this process has it.
     #[error("another process has it open")]
     Busy,
+    /// There is no file to open.
+    #[error("it isn't there")]
+    Missing,
+    /// There is something of this name, and a new store was to be made.
+    #[error("it is there already, and is left as it is")]
+    Exists,
+    /// There is something at the name under which the file is made that no making has left.
+    #[error("the file beside it with .unfinished after its name is somebody else's, and is left as it is: move that away")]
+    NewFileTaken,
+    /// There is something at the name under which the log is made that no making has left.
+    #[error("the file beside it with -log.unfinished after its name is somebody else's, and is left as it is: move that away")]
+    NewLogTaken,
     /// The file isn't a file of buckets.
     #[error("it isn't a file of buckets")]
     NotABucketFile,
@@ -27,8 +39,8 @@ pub enum StoreFault {
     /// The log beside the file belongs to another file.
     #[error("the file beside it with -log after its name isn't its log: the two belong together, so put back the log that it was served with last")]
     LogOfAnotherFile,
-    /// There is a log that holds records, but no file of buckets beside it.
-    #[error("it isn't there, but its log is, the file beside it with -log after its name: the two belong together, so put the file back, or move the log away for a new one")]
+    /// There is something at the log's name that no making has left, but no file of buckets beside it.
+    #[error("it isn't there, but a log is, the file beside it with -log after its name: put the file back that the log belongs to, or move the log away for a new one")]
     LogWithoutFile,
     /// The log is older than the file beside it.
     #[error("its log, the file beside it with -log after its name, is older than it, and both are left as they are: put back the log that it was served with last")]
@@ -36,6 +48,9 @@ pub enum StoreFault {
     /// The file is older than the log beside it.
     #[error("it is older than its log, the file beside it with -log after its name, and both are left as they are: put back the file that the log was served with last")]
     LogNewer,
+    /// The file is shorter than it was.
+    #[error("it was cut short, and is left as it is: put the whole file back")]
+    CutShort,
     /// The file holds something that no store writes.
     #[error("it is damaged")]
     Damaged,

@@ -1,6 +1,6 @@
 //! A store in a file of the system, with its log beside it.
 //!
-//! This looks at what is at a path before it writes anything there.
+//! A file that is there is opened, and never made; a new one is made, and never opened ([`make_store`]).
 ghost use Rattle.std.specs.Path.{path_parent};
 ghost use Rattle.std.specs.Prelude.{◌≡◌, ◌≢◌, ◌⊎◌, ◌↔◌, ◌≤◌, ◌++◌, ◌∷◌, [], ℕ, List, length, true, false, take, codes, string_bytes, Err, None, Ok, Some, IfErr, IfOk, IsErrOf, IsOk, IsTrue};
 ghost use Rattle.oram_layout.specs.BucketFile.{IsBucketFile};
@@ -16,10 +16,11 @@ ghost use Rattle.oram_redo.specs.Opened.{Opened, contents_in};
 ghost use Rattle.oram_store.specs.KeptRecords.{IsSound, records_of};
 ghost use Rattle.oram_store.specs.RecordFile.{bounds};
 
-use crate::creation::create;
 use crate::faults::StoreFault;
 use crate::log_copy::renewed;
+use crate::making::make_pair;
 use crate::matching::check_generations;
+use crate::new_pair::NewPair;
 use crate::record_file::BOUNDS;
 use crate::store::FileStore;
 use oram_layout::{
@@ -28,12 +29,11 @@ use oram_layout::{
 };
 use oram_redo::{
     FileKind, FilePair, LENGTH_AT, LENGTH_FIELD_LEN, OPEN, SHUT, SystemPair, is_cut_short,
-    write_fronts,
 };
 use std::alloc::{AllocError, Global};
 use std::fs::{File, OpenFile, OpenOptions, TryLockError};
 use std::io::ErrorKind;
-use std::os::unix::fs::{FileExt, OpenOptionsExt};
+use std::os::unix::fs::FileExt;
 use std::path::Path;
 use std::random::RandomSource;
 use std::{fs, io};
@@ -47,8 +47,8 @@ pub type BucketFile = FileStore<SystemPair>;
 /// The mode of a file that only its owner may read and write.
 pub(crate) const OWNERS_ALONE: u32 = 0o600;
 
-/// Opens the file of a store, or makes it if there is none. Its log is beside it, under the same name with `-log`
-/// appended. The two belong together.
+/// Opens the file of a store. Its log is beside it, under the same name with `-log` appended. The two belong together. It never
+/// makes a file: if there is none, it fails with `Missing`.
 ///
 /// A file that isn't a store's, is damaged, is held by another process, or lies beside a log of another moment is refused and keeps
 /// its bytes. This reads only the header of the file. It puts a copy in the place of the log, which has 64 MiB at most. If the
@@ -62,17 +62,28 @@ pub fn open_store(rt: &HostRuntime, alloc: Global, path: &str) -> Result<BucketF
     ensures { IfOk result (λ store. (store.pending ≡ []) × (store.failure ≡ None) × (store.file.has_stopped ≡ false)) }
 {
     keep_freed_memory(alloc);
-    let mut store = if is_there(rt, path)? {
-        open_old(rt, alloc, path)?
-    } else {
-        let (files, generation) = make_files(rt, alloc, path)?;
-        FileStore::over(alloc, files, generation)?
-    };
+    let mut store = open_old(rt, alloc, path)?;
     // So a copy of the log that was made while no host ran is told from the log that this one goes on with.
     if !store.has_empty_log() {
         store.empty_log()?;
     }
     Ok(store)
+}
+
+/// Makes the file of a new store and its log beside it, and opens them. It never opens or changes a file that is there: if there is
+/// anything at the path, it fails with `Exists`; if there is something else where it makes the two, with `LogWithoutFile`,
+/// `NewFileTaken` or `NewLogTaken` ([`check_place`](crate::check_place)); and if another process is making the same store, with `Busy`.
+///
+/// Whenever the process or the machine ends during this, there is nothing at the path, or the whole store
+/// ([`never_leaves_half`](crate::never_leaves_half)). What is left of a making that was broken off is taken away by the next one.
+pub fn make_store(rt: &HostRuntime, alloc: Global, path: &str) -> Result<BucketFile, StoreFault>
+    ensures { IfOk result (λ store. (store.pending ≡ []) × (store.failure ≡ None) × (store.file.has_stopped ≡ false)) }
+{
+    keep_freed_memory(alloc);
+    let mut pair = NewPair::new(rt, alloc, path)?;
+    let first = Generation::first(new_identity(rt)?);
+    let files = make_pair(&mut pair, &first)?;
+    FileStore::over(alloc, files, first)
 }
 
 /// Makes the C library keep freed memory. Otherwise it returns the memory of each large message to the system and takes
@@ -92,7 +103,7 @@ fn is_there(rt: &HostRuntime, path: &str) -> io::Result<bool> {
 }
 
 /// Returns the name of a file's log.
-fn log_name(alloc: Global, path: &str) -> Result<String, AllocError>
+pub(crate) fn log_name(alloc: Global, path: &str) -> Result<String, AllocError>
     ensures { IfOk result (λ name. string_bytes name ≡ path.now ++ codes "-log") }
 {
     let mut name = String::from_str(alloc, path)?;
@@ -100,8 +111,7 @@ fn log_name(alloc: Global, path: &str) -> Result<String, AllocError>
     Ok(name)
 }
 
-/// Returns the name under which a file is made. What has this name already is replaced, so it is a name that nobody gives to
-/// a file of their own.
+/// Returns the name under which a file is made.
 pub(crate) fn new_name(alloc: Global, path: &str) -> Result<String, AllocError>
     ensures { IfOk result (λ name. string_bytes name ≡ path.now ++ codes ".unfinished") }
 {
@@ -111,7 +121,7 @@ pub(crate) fn new_name(alloc: Global, path: &str) -> Result<String, AllocError>
 }
 
 /// Reads the bytes at a place of a file, as many as there are, and returns their number.
-fn bytes_at(file: &File, at: u64, bytes: &mut [u8]) -> io::Result<usize>
+pub(crate) fn bytes_at(file: &File, at: u64, bytes: &mut [u8]) -> io::Result<usize>
     ensures { IfOk result (λ len. len ≤ length bytes.new) }
 {
     let mut got = 0;
@@ -135,18 +145,27 @@ fn lacks_room(error: &io::Error) -> bool {
     )
 }
 
-/// Opens a regular file for reading and writing. Fails with `not_plain` if the path leads to nothing or to anything
-/// else.
-fn open_plain(rt: &HostRuntime, path: &str, not_plain: StoreFault) -> Result<File, StoreFault> {
+/// Opens a regular file for reading and writing. Fails with `missing` if the path leads to nothing, and with `not_plain` if it leads to
+/// anything else. It never makes a file, also where one is gone between the look and the opening.
+fn open_plain(
+    rt: &HostRuntime,
+    path: &str,
+    missing: StoreFault,
+    not_plain: StoreFault,
+) -> Result<File, StoreFault> {
     match fs::metadata(rt, path) {
         Ok(found) if found.is_file() => {}
         Ok(_) => return Err(not_plain),
-        Err(error) if error.kind() == ErrorKind::NotFound => return Err(not_plain),
+        Err(error) if error.kind() == ErrorKind::NotFound => return Err(missing),
         Err(error) => return Err(error.into()),
     }
     let mut options = OpenOptions::new();
     options.read(true).write(true);
-    Ok(options.open(rt, path)?)
+    match options.open(rt, path) {
+        Ok(file) => Ok(file),
+        Err(error) if error.kind() == ErrorKind::NotFound => Err(missing),
+        Err(error) => Err(error.into()),
+    }
 }
 
 /// Refuses a file of buckets that is shorter than its front says: it was cut short. While it is whole, it may have any length, since it ends
@@ -158,11 +177,11 @@ fn check_length(records: &File) -> Result<(), StoreFault> {
 }
 
 fn check_whole(said: &[u8], len: u64) -> Result<(), StoreFault>
-    ensures cut { IsErrOf result StoreFault.Damaged ↔ IsCutShort said.now len }
-    ensures errors { IfErr result (λ fault. fault ≡ StoreFault.Damaged) }
+    ensures cut { IsErrOf result StoreFault.CutShort ↔ IsCutShort said.now len }
+    ensures errors { IfErr result (λ fault. fault ≡ StoreFault.CutShort) }
 {
     if is_cut_short(said, len) {
-        return Err(StoreFault::Damaged);
+        return Err(StoreFault::CutShort);
     }
     Ok(())
 }
@@ -248,13 +267,6 @@ fn identity_in(front: &[u8]) -> Result<Identity, StoreFault>
     }
 }
 
-/// Returns the identity in the front of a log, if it has one.
-fn identity_of_log(log: &File) -> io::Result<Option<Identity>> {
-    let mut front = [0; FRONT_LEN];
-    let len = bytes_at(log, 0, &mut front)?;
-    Ok(read_log_front(&front[..len]))
-}
-
 /// Refuses a log that doesn't belong to a file with this identity.
 fn check_log(log: &File, identity: &Identity) -> Result<(), StoreFault> {
     let mut front = [0; FRONT_LEN];
@@ -306,7 +318,7 @@ fn open_files(
     alloc: Global,
     path: &str,
 ) -> Result<(File, File, Generation), StoreFault> {
-    let records = open_plain(rt, path, StoreFault::NotABucketFile)?;
+    let records = open_plain(rt, path, StoreFault::Missing, StoreFault::NotABucketFile)?;
     let identity = identity_of(&records)?;
     lock(&records)?;
     check_length(&records)?;
@@ -359,46 +371,14 @@ fn name_of_log(rt: &HostRuntime, alloc: Global, path: &str) -> Result<String, St
 
 /// Opens the log of a file with this identity.
 fn open_log(rt: &HostRuntime, name: &str, identity: &Identity) -> Result<File, StoreFault> {
-    let log = open_plain(rt, name, StoreFault::LogOfAnotherFile)?;
+    let log = open_plain(
+        rt,
+        name,
+        StoreFault::WithoutLog,
+        StoreFault::LogOfAnotherFile,
+    )?;
     check_log(&log, identity)?;
     Ok(log)
-}
-
-/// Opens a file that is being made, for its owner alone. If an earlier attempt has left one, it takes that.
-fn open_new(rt: &HostRuntime, name: &str) -> io::Result<File> {
-    let mut options = OpenOptions::new();
-    options
-        .read(true)
-        .write(true)
-        .create(true)
-        .mode(OWNERS_ALONE);
-    options.open(rt, name)
-}
-
-/// Returns whether a log may hold acknowledged changes.
-fn holds_entries(log: &File) -> io::Result<bool> {
-    let mut gate = [0];
-    let len = bytes_at(log, BOUNDS.log_start, &mut gate)?;
-    Ok(may_be_open(&gate[..len]))
-}
-
-/// Returns whether the first gate of a log is there and isn't shut. A damaged gate may have been an open one.
-fn may_be_open(gate: &[u8]) -> bool
-    ensures { IsTrue result ↔ ((gate.now ≢ []) × (gate.now ≢ SHUT ∷ [])) }
-{
-    !matches!(gate, [] | [SHUT])
-}
-
-/// Refuses a log where a new one would be, unless an attempt to make a store has left it.
-fn check_no_log(rt: &HostRuntime, log_name: &str) -> Result<(), StoreFault> {
-    if !is_there(rt, log_name)? {
-        return Ok(());
-    }
-    let log = open_plain(rt, log_name, StoreFault::LogWithoutFile)?;
-    if identity_of_log(&log)?.is_none() || holds_entries(&log)? {
-        return Err(StoreFault::LogWithoutFile);
-    }
-    Ok(())
 }
 
 fn new_identity(rt: &HostRuntime) -> io::Result<Identity> {
@@ -416,74 +396,4 @@ pub(crate) fn folder_of(path: &str) -> &str
         Some(folder) if folder.as_str() != "" => folder.as_str(),
         _ => ".",
     }
-}
-
-/// Renames a file that was made to its own name, and syncs its folder.
-fn rename_new(rt: &HostRuntime, from: &str, to: &str) -> io::Result<()> {
-    fs::rename(rt, from, to)?;
-    File::open(rt, folder_of(to))?.sync_all()
-}
-
-/// Makes the file of a store and its log, unless there is a log already. Returns the log's generation, too.
-fn make_files(
-    rt: &HostRuntime,
-    alloc: Global,
-    path: &str,
-) -> Result<(SystemPair, Generation), StoreFault> {
-    let log_name = log_name(alloc, path)?;
-    check_no_log(rt, log_name.as_str())?;
-    make_and_rename(rt, alloc, path, log_name.as_str())
-}
-
-/// Makes the file of a store and its log under other names, and renames them, so that nobody ever sees half of one. The
-/// new file is locked before it gets its name.
-fn make_and_rename(
-    rt: &HostRuntime,
-    alloc: Global,
-    path: &str,
-    log_name: &str,
-) -> Result<(SystemPair, Generation), StoreFault> {
-    let (new_file, new_log) = (new_name(alloc, path)?, new_name(alloc, log_name)?);
-    let records = open_new_locked(rt, new_file.as_str(), path)?;
-    let files = make_empty(rt, records, new_log.as_str())?;
-    rename_new(rt, new_log.as_str(), log_name)?;
-    rename_new(rt, new_file.as_str(), path)?;
-    Ok(files)
-}
-
-/// Has the fronts of both files say this generation.
-fn say_both(files: &mut SystemPair, generation: &Generation) -> Result<(), StoreFault> {
-    let (log, records) = (
-        generation.field(FileKind::Log),
-        generation.field(FileKind::Records),
-    );
-    Ok(write_fronts(files, generation.place(), &log, &records)?)
-}
-
-/// Opens the file that is being made for a path, and locks it.
-fn open_new_locked(rt: &HostRuntime, name: &str, path: &str) -> Result<File, StoreFault> {
-    let records = open_new(rt, name)?;
-    lock(&records)?;
-    // Another process may have made the file just now.
-    if is_there(rt, path)? {
-        return Err(StoreFault::Busy);
-    }
-    Ok(records)
-}
-
-/// Turns the locked file, and a log that it opens under this name, into a store without trees.
-fn make_empty(
-    rt: &HostRuntime,
-    records: File,
-    log_name: &str,
-) -> Result<(SystemPair, Generation), StoreFault> {
-    let log = open_new(rt, log_name)?;
-    records.set_len(0)?;
-    log.set_len(0)?;
-    let mut files = SystemPair::new(records, log, BOUNDS.log_end);
-    let first = Generation::first(new_identity(rt)?);
-    create(&mut files, &first.identity)?;
-    say_both(&mut files, &first.before())?;
-    say_both(&mut files, &first)?;
-    Ok((files, first))
 }
