@@ -12,7 +12,7 @@ from trials.host.kills import kill_children
 from trials.ports import free_port
 from trials.processes import LONGEST_WAIT, start
 from trials.settings import toml_of
-from trials.statuses import EXISTS, FILE_HELD, WRONG_LOG
+from trials.statuses import BAD_FILE, EXISTS, FILE_HELD, WRONG_LOG
 
 # What comes after the file's name at each name at which a making looks, with the status and the line of a host that finds something of
 # somebody else's there.
@@ -170,7 +170,8 @@ def kill_makings(trial, call):
 
 
 def try_makings_at_once(trial, rounds=10, together=4):
-    """Several hosts make the same file at once: one of them serves it at most, and the others say that it is held, or is there."""
+    """Several hosts make the same file at once: one of them serves it at most, and the others say that it is held, or is there. One of them may
+    also see a new file that is gone once it opens it, and says that it can't be opened."""
     for number in range(rounds):
         folder = trial.folder / f"at-once-{number}"
         folder.mkdir()
@@ -179,7 +180,7 @@ def try_makings_at_once(trial, rounds=10, together=4):
         serving = [host for host, line in zip(hosts, said) if line == b"oramdisk: made new\n"]
         ended = [host.wait(LONGEST_WAIT) for host in hosts if host not in serving]
         trial.check(f"makings at once {number}: one at most", len(serving) <= 1, said)
-        trial.check(f"makings at once {number}: the others", all(status in (FILE_HELD, EXISTS) for status in ended), (ended, said))
+        trial.check(f"makings at once {number}: the others", all(status in (FILE_HELD, EXISTS, BAD_FILE) for status in ended), (ended, said))
         for host in serving:
             host.send_signal(signal.SIGTERM)
             host.wait(LONGEST_WAIT)
