@@ -54,7 +54,7 @@ module _ (first : Opened) (old mid later : List Call) (file : FileKind) (at from
       touched_then first file at (length bytes) old mid later touched
       (touched_failed first mid file at (length bytes) from (rest_of put bytes) (omega (arith, here)) (omega (arith, here, low, length-rest_of put bytes)) later is)
 
--- a write into a front that failed, or of which the system took nothing
+-- A write into a front counts as failed if the system says so, or if it wrote no byte.
 pub failed_last : (writes later : List Call) (file : FileKind) (at : ℕ) (bytes : List ℕ) → later ≡ record { kind = 1; file = file; at = at; is_ok = false; bytes = bytes } ∷ writes → HasFailedLast later
 failed_last writes later file at bytes is = subst HasFailedLast (sym is) (inl refl)
 

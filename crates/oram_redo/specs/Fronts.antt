@@ -17,12 +17,12 @@ front_writes_of files = files.fronts.calls
 abbrev pub WroteFront : FileKind → ℕ → List ℕ → List Call → List Call → Type 0
 WroteFront file at bytes old new = (first : Opened) → Wrote file at bytes (seen_after first old) (seen_after first new)
 
--- The last write failed, or the system took none of its bytes.
+-- The last write failed, or the system wrote none of its bytes.
 abbrev pub HasFailedLast : List Call → Type 0
 HasFailedLast [] = ⊥
 HasFailedLast (write ∷ writes) = (write.is_ok ≡ false) ⊎ (write.bytes ≡ [])
 
--- The system has said how long the records' file is: so many bytes.
+-- The note of a call that asked the system how long the records' file is. The answer was `len` bytes.
 abbrev pub asked : ℕ → Call
 asked len = record { kind = 4; file = Records; at = len; is_ok = true; bytes = [] }
 

@@ -12,7 +12,8 @@ use oram_redo::{FileKind, SHUT};
 /// Where the first gate of a log is.
 const LOG_START: usize = 4096;
 
-/// The most zeros, in bytes, that a file may have in which there is nothing else: a log grows by so many before anything is written into it.
+/// How many bytes a file of nothing but zeros may have to count as a leftover. A new log grows by a mebibyte of zeros before anything else is
+/// written into it.
 pub(crate) const LONGEST_BLANK: usize = 1 << 20;
 
 /// The first generation of a log. No entry is written into it: another generation begins before the first entry.
