@@ -2,10 +2,10 @@
 ghost use Rattle.std.specs.Prelude.{◌≡◌, ◌⊎◌, ◌∷◌, [], ℕ, IfErr, IfOk, IsErrOf, OnErr, OnOk, false, true};
 ghost use Rattle.oram_kept.specs.Keeper.{FindsOneOf, Knows};
 ghost use Rattle.oram_kept.specs.Layout.{HaveRoom};
-ghost use Rattle.oram_kept.specs.Opening.{IsNotCreated, IsNotOpened};
+ghost use Rattle.oram_kept.specs.Opening.{FindsSame, IsNotCreated, IsNotOpened};
 ghost use Rattle.oram_kept.specs.Pages.{parts_of};
 ghost use Rattle.oram_kept.specs.Reading.{parts_around};
-ghost use Rattle.oram_redo.specs.FilePair.{ComesAfter, Contents, HasFailed, Rises};
+ghost use Rattle.oram_redo.specs.FilePair.{ComesAfter, HasFailed, LeavesOnly, Rises};
 
 use crate::kept_text::KeptText;
 use crate::opening::OpenError;
@@ -50,6 +50,10 @@ impl<F: FilePair + Drop> TextKeeper<F> {
     pub fn open(alloc: Global, files: F) -> Result<(TextKeeper<F>, Around), OpenError>
         ensures texts { IfOk result (λ opened. opened.0.texts ≡ parts_around opened.0.kept.table opened.1 ∷ []) }
         ensures knows { IfOk result (λ opened. F.model.is_honest opened.0.kept.files → Knows F.model opened.0) }
+
+        // A crash at any moment leaves what an earlier one might have left, or files with the same text.
+        ensures any_moment { IfOk result (λ opened. F.model.is_honest opened.0.kept.files
+            → LeavesOnly F.model files opened.0.kept.files (λ c. F.model.may_leave files c ⊎ FindsSame (F.model.seen files) c)) }
         ensures err { IfErr result (λ why. (last : F) × IsNotOpened F.model why files last) }
     {
         let (kept, around) = KeptText::open(alloc, files)?;
@@ -80,6 +84,9 @@ impl<F: FilePair> TextKeeper<F> {
         ensures texts { OnOk result (self.new.texts ≡ parts_of text.now ∷ []) }
         ensures tried { OnErr result (self.new.texts ≡ parts_of text.now ∷ self.old.texts) }
         ensures knows { Knows F.model self.old → Knows F.model self.new }
+
+        // A crash at any moment leaves files with this text or with one of before.
+        ensures any_moment { Knows F.model self.old → LeavesOnly F.model self.old.kept.files self.new.kept.files (FindsOneOf (parts_of text.now ∷ self.old.texts)) }
         ensures goes_on { OnOk result (self.new.kept.has_stopped ≡ false) }
         ensures stops { OnErr result (self.new.kept.has_stopped ≡ true) }
         ensures failed { IsErrOf result RedoError.Failed → (self.old.kept.has_stopped ≡ true) ⊎ HasFailed F.model self.old.kept.files self.new.kept.files }
