@@ -1,11 +1,10 @@
 -- What a write into the front of a file owes.
-use Rattle.std.proofs.Common.{◌≡◌, ◌⊎◌, inl, ℕ, true, List, [], ◌∷◌, sym, subst, Result, Ok, Err}
+use Rattle.std.proofs.Common.{◌≡◌, ◌⊎◌, inl, ℕ, true, List, [], ◌∷◌, subst, Result, Ok, Err}
 use Rattle.std.specs.Prelude.{OnOk}
 use Rattle.oram_redo.specs.FilePair.{Wrote}
 use Rattle.oram_redo.specs.Fronts.{HasFailedLast, SaysLast, WroteFront, WroteWithLength}
 use Rattle.oram_redo.specs.Length.{SaysLength}
 use Rattle.oram_redo.specs.Note.{Call}
-use Rattle.oram_redo.specs.Opened.{Opened}
 use Rattle.oram_redo.specs.System.{seen_after}
 use Rattle.oram_redo.specs.declared.file_pair.FileKind.{FileKind}
 use Rattle.oram_redo.specs.declared.file_pair.FileKind.TheVariants.{Records, Log}

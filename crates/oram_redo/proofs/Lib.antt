@@ -22,4 +22,5 @@ pub mod SystemReads
 pub mod SystemWrites
 pub mod FrontWrites
 pub mod Renewals
+pub mod Openings
 pub mod Rows

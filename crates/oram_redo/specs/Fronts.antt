@@ -1,5 +1,5 @@
 -- What was written into the fronts of the system's files, by a list of these writes, the newest first.
-use Rattle.std.specs.Prelude.{◌≡◌, ◌⊎◌, ◌<◌, ℕ, false, true, ◌+◌, List, [], ◌∷◌, length}
+use Rattle.std.specs.Prelude.{◌≡◌, ◌⊎◌, ℕ, false, true, List, [], ◌∷◌}
 use Rattle.oram_redo.specs.FilePair.{Wrote}
 use Rattle.oram_redo.specs.Length.{SaysLength}
 use Rattle.oram_redo.specs.Note.{Call}

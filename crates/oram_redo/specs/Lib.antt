@@ -15,4 +15,5 @@ pub mod System
 pub mod Length
 pub mod NamedLog
 pub mod Renewal
+pub mod Opening
 pub mod Laws

@@ -1,10 +1,11 @@
 //! Laws of the definitions, as contracts of functions that do nothing, and one run from empty files, whose promise
 //! rests on no premise that might never hold.
-ghost use Rattle.std.specs.Prelude.{◌≡◌, ℕ, [], All, OnOk};
+ghost use Rattle.std.specs.Prelude.{◌≡◌, ◌<◌, ℕ, [], All, OnOk};
 ghost use Rattle.oram_redo.specs.Batch.{patches_of};
 ghost use Rattle.oram_redo.specs.FilePair.{Contents};
 ghost use Rattle.oram_redo.specs.Laws.{BlanksAreZeros, BlanksExample, FilesStandForOne, LogsAreOne, ReplayHeals};
 ghost use Rattle.oram_redo.specs.Log.{Fits, Keeps, StandsFor, put_all};
+ghost use Rattle.oram_redo.specs.Opening.{OpeningExample, RecoveriesLoseNothing, RenewalsLoseNothing};
 ghost use Rattle.oram_redo.specs.Redo.{IsCrashConsistent, bounds_of};
 ghost use Rattle.oram_redo.specs.Renewal.{BothSyncsAreNeeded, RenewalExample, RenewedFilesStand};
 
@@ -37,6 +38,14 @@ pub fn renewed_logs_stand()
 pub fn renewals_need_both_syncs()
     ensures example { RenewalExample }
     ensures needed { BothSyncsAreNeeded }
+{}
+
+/// While two files are opened, nothing of their records is lost, if nothing was before: neither while the log is renewed, nor when a pair is
+/// made of the file and of the log that is found then, nor while that pair is recovered.
+pub fn openings_lose_nothing()
+    ensures renewal { RenewalsLoseNothing }
+    ensures recovery { RecoveriesLoseNothing }
+    ensures example { (bounds : Bounds) → 0 < bounds.log_start → bounds.log_start < bounds.log_end → OpeningExample bounds }
 {}
 
 /// Between two calls, whatever a crash leaves stands for the records that are read, except in loose places.

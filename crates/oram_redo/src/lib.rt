@@ -18,7 +18,7 @@
 //! first, since a killed process leaves writes that no sync has covered. [`Redo::commit`] commits a batch, all of it or
 //! nothing. [`Redo::write_loose`] writes a patch that doesn't count yet. [`Redo::restart`] makes loose patches durable
 //! and empties the log. [`write_fronts`] writes what the caller keeps in the two files besides. [`MemoryPair`] is a pair in memory, and [`SystemPair`] is a pair of the operating system's
-//! files. Before a pair is made of them, [`renew_log`] puts a copy of the log in its place, so that nothing is left of a sync that failed.
+//! files, which may also be used without syncs ([`Syncs`]). Before a pair is made of them, [`renew_log`] puts a copy of the log in its place, so that nothing is left of a sync that failed.
 //!
 //! The model of a crash: bytes outside the ranges that were written since the last sync do not change, and holes read
 //! as zeros.
@@ -28,6 +28,7 @@ mod batch;
 mod bounds;
 mod call_history;
 mod faults;
+mod file_bytes;
 mod file_pair;
 mod growth;
 mod laws;
@@ -39,6 +40,7 @@ mod recovery;
 mod redo;
 mod renewal;
 mod steps;
+mod syncs;
 mod system;
 mod system_calls;
 mod system_files;
@@ -48,8 +50,8 @@ pub use bounds::Bounds;
 pub use faults::RedoError;
 pub use file_pair::{FileKind, FilePair};
 pub use laws::{
-    blanks_are_zeros, crash_keeps_records, first_commit, one_reading, renewals_need_both_syncs,
-    renewed_logs_stand, replay_heals,
+    blanks_are_zeros, crash_keeps_records, first_commit, one_reading, openings_lose_nothing,
+    renewals_need_both_syncs, renewed_logs_stand, replay_heals,
 };
 pub use length::{LENGTH_AT, LENGTH_FIELD_LEN, is_cut_short};
 pub use memory::MemoryPair;
@@ -58,4 +60,5 @@ pub use origin::Origin;
 pub use redo::{Redo, recover};
 pub use renewal::renew_log;
 pub use steps::write_fronts;
+pub use syncs::Syncs;
 pub use system::SystemPair;

@@ -11,9 +11,11 @@ ghost use Rattle.oram_redo.specs.Memory.{LeavesBut};
 ghost use Rattle.oram_redo.specs.Opened.{Opened, contents_in};
 ghost use Rattle.oram_redo.specs.System.{IsHonestHistory, LeftSince, MayLeaveAfter, TouchedNothing, has_failed_sync, only_after, seen_after};
 
+use crate::file_bytes::FileBytes;
 use crate::growth::{grow, reach};
 use crate::length::say_length;
 use crate::origin::Origin;
+use crate::syncs::Syncs;
 use crate::system_calls::{is_no_room, read_behind, write_all, write_front};
 use crate::system_files::SystemFiles;
 use crate::{FileKind, FilePair, RedoError};
@@ -40,17 +42,37 @@ pub struct SystemPair {
 
 impl SystemPair {
     /// Makes a pair of two files, whatever they hold, and whatever of it no sync has covered yet: `held` says both. It makes no call on
-    /// them. The log grows ahead of what is written, but not past `log_room` bytes.
-    pub fn new(records: File, log: File, log_room: u64) -> SystemPair
+    /// them. The log grows ahead of what is written, but not past `log_room` bytes. With [`Syncs::LeftOut`], what contracts say of a crash
+    /// is true of the end of the process, and not of a loss of power.
+    pub fn new(records: File, log: File, log_room: u64, syncs: Syncs) -> SystemPair
         ghost held: { Opened }
         ensures holds { ⟦<SystemPair as FilePair>⟧.model.seen result ≡ contents_in held }
         ensures leaves { (c : Contents) → ⟦<SystemPair as FilePair>⟧.model.may_leave result c → LeavesBut held.unsynced (contents_in held) c }
         ensures honest { ⟦<SystemPair as FilePair>⟧.model.is_honest result }
     {
         SystemPair {
-            files: SystemFiles::new(records, log),
+            files: SystemFiles::new(FileBytes::File(records), FileBytes::File(log), syncs),
             origin: Origin::new(),
             log_room,
+            put: 0,
+            has_failed: false,
+            errno: None,
+        }
+    }
+
+    /// Makes a pair of copies of what two files hold. What is written to it reaches no file. So whoever may only read the files can open them as
+    /// if they were his, and find what they stand for.
+    pub fn of_copies(records: Vec<u8>, log: Vec<u8>) -> SystemPair
+        ghost held: { Opened }
+        ensures holds { ⟦<SystemPair as FilePair>⟧.model.seen result ≡ contents_in held }
+        ensures leaves { (c : Contents) → ⟦<SystemPair as FilePair>⟧.model.may_leave result c → LeavesBut held.unsynced (contents_in held) c }
+        ensures honest { ⟦<SystemPair as FilePair>⟧.model.is_honest result }
+    {
+        let (records, log) = (FileBytes::Copy(records), FileBytes::Copy(log));
+        SystemPair {
+            files: SystemFiles::new(records, log, Syncs::LeftOut),
+            origin: Origin::new(),
+            log_room: 0,
             put: 0,
             has_failed: false,
             errno: None,

@@ -14,9 +14,9 @@ ghost use Rattle.oram_redo.specs.Fronts.{front_writes_of};
 
 use crate::FileKind;
 use crate::call_history::CallHistory;
-use std::fs::File;
+use crate::file_bytes::FileBytes;
+use crate::syncs::Syncs;
 use std::io;
-use std::os::unix::fs::FileExt;
 
 /// The length of the front of each file, in bytes. Nothing but a write into the front may rest on what the front holds.
 pub(crate) const FRONT_LEN: u64 = 4_096;
@@ -38,28 +38,42 @@ const LENGTH: u64 = 4;
 /// apart.
 #[derive(Drop)]
 pub(crate) struct SystemFiles {
-    records: File,
-    log: File,
+    records: FileBytes,
+    log: FileBytes,
+    syncs: Syncs,
     history: CallHistory,
     fronts: CallHistory,
 }
 
 impl SystemFiles {
-    pub(crate) fn new(records: File, log: File) -> SystemFiles
+    pub(crate) fn new(records: FileBytes, log: FileBytes, syncs: Syncs) -> SystemFiles
         ensures { calls_of result ≡ [] }
     {
         SystemFiles {
             records,
             log,
+            syncs,
             history: CallHistory::new(),
             fronts: CallHistory::new(),
         }
     }
 
-    fn file(&self, file: FileKind) -> &File {
+    fn file(&self, file: FileKind) -> &FileBytes {
         match file {
             FileKind::Records => &self.records,
             FileKind::Log => &self.log,
+        }
+    }
+
+    /// Writes `bytes` without a note, and returns how many of them were taken.
+    fn put(&mut self, file: FileKind, at: u64, bytes: &[u8]) -> io::Result<usize>
+        ensures count { IfOk result (λ n. n ≤ length bytes.now) }
+        ensures calls { calls_of self.new ≡ calls_of self.old }
+        ensures fronts { front_writes_of self.new ≡ front_writes_of self.old }
+    {
+        match file {
+            FileKind::Records => self.records.write_at(bytes, at),
+            FileKind::Log => self.log.write_at(bytes, at),
         }
     }
 
@@ -101,7 +115,7 @@ impl SystemFiles {
         ensures noted { IfOk result (λ n. calls_of self.new ≡ record { kind = 1; file = file; at = at; is_ok = true; bytes = take n bytes.now } ∷ calls_of self.old) }
         ensures err { OnErr result (calls_of self.new ≡ record { kind = 1; file = file; at = at; is_ok = false; bytes = bytes.now } ∷ calls_of self.old) }
     {
-        match self.file(file).write_at(bytes, at) {
+        match self.put(file, at, bytes) {
             Ok(len) => {
                 self.note(WRITE, file, at, true, &bytes[..len]);
                 Ok(len)
@@ -113,11 +127,14 @@ impl SystemFiles {
         }
     }
 
-    /// Syncs a file.
+    /// Syncs a file. Where syncs are left out, it makes no call and notes one that was done.
     pub(crate) fn sync(&mut self, file: FileKind) -> io::Result<()>
         ensures { calls_of self.new ≡ record { kind = 3; file = file; at = 0; is_ok = is_ok result; bytes = [] } ∷ calls_of self.old }
     {
-        let done = self.file(file).sync_data();
+        let done = match self.syncs {
+            Syncs::Made => self.file(file).sync(),
+            Syncs::LeftOut => Ok(()),
+        };
         self.note(SYNC, file, 0, done.is_ok(), &[]);
         done
     }
@@ -128,7 +145,7 @@ impl SystemFiles {
         ensures noted { IfOk result (λ len. calls_of self.new ≡ record { kind = 4; file = file; at = len; is_ok = true; bytes = [] } ∷ calls_of self.old) }
         ensures err { OnErr result (calls_of self.new ≡ calls_of self.old) }
     {
-        let len = self.file(file).metadata()?.len();
+        let len = self.file(file).len()?;
         self.note(LENGTH, file, len, true, &[]);
         Ok(len)
     }
@@ -139,7 +156,7 @@ impl SystemFiles {
         requires within { len ≤ ZEROS_LEN }
         ensures { IfOk result (λ n. n ≤ len) }
     {
-        self.log.write_at(&ZEROS[..len], at)
+        self.log.write_zeros(&ZEROS[..len], at)
     }
 
     /// Cuts off zeros at the end of the log.
@@ -157,7 +174,7 @@ impl SystemFiles {
         ensures noted { IfOk result (λ n. front_writes_of self.new ≡ record { kind = 1; file = file; at = at; is_ok = true; bytes = take n bytes.now } ∷ front_writes_of self.old) }
         ensures err { OnErr result (front_writes_of self.new ≡ record { kind = 1; file = file; at = at; is_ok = false; bytes = bytes.now } ∷ front_writes_of self.old) }
     {
-        match self.file(file).write_at(bytes, at) {
+        match self.put(file, at, bytes) {
             Ok(len) => {
                 self.note_front(file, at, true, &bytes[..len]);
                 Ok(len)

@@ -1,11 +1,10 @@
-use Rattle.std.proofs.Common.{rules, ◌≡◌, ◌<◌, ◌^◌, [], ◌∷◌, ◌++◌, length, ap, ◌∙◌, arith, ℕ, List, append_assoc, get_or}
+use Rattle.std.proofs.Common.{rules, ◌<◌, ◌^◌, [], ◌∷◌, ◌++◌, length, ap, ◌∙◌, arith, ℕ, List, get_or}
 use Rattle.std.proofs.lemmas.List.{take_all}
 use Rattle.oram_redo.specs.Batch.{patches_of}
 use Rattle.oram_redo.specs.Log as spec
 use Rattle.oram_redo.specs.Log.{entries, place_bytes, length_bytes}
 use Rattle.oram_redo.specs.declared.batch.Patch.{Patch}
 use Rattle.oram_redo.proofs.Batches.{entries_more, patch_has}
-use Rattle.oram_redo.proofs.Logs.{place_bytes_are, length_bytes_are}
 use Rattle.oram_redo.proofs.batch.body_of.Goals as goal
 
 abbrev none : Patch

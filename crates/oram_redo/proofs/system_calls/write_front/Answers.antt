@@ -1,4 +1,4 @@
-use Rattle.std.proofs.Common.{◌+◌, length, refl, ◌∙◌, subst, arith, ℕ, List}
+use Rattle.std.proofs.Common.{◌+◌, refl, ◌∙◌, subst, arith, ℕ, List}
 use Rattle.std.proofs.lemmas.List.{take_all}
 use Rattle.oram_redo.specs.FilePair.{Wrote}
 use Rattle.oram_redo.specs.Fronts.{front_writes_of}
