@@ -7,7 +7,7 @@ use Rattle.oram_redo.specs.Log.{put_all}
 use Rattle.oram_redo.proofs.Bytes.{bytes_at-agrees, has-put, has_front, has_same, put_outside}
 use Rattle.oram_layout.specs.BucketFile.{IsBucketFile}
 use Rattle.oram_layout.specs.Changes.{tree_patch}
-use Rattle.oram_layout.specs.Fronts.{front_bytes}
+use Rattle.oram_pair.specs.Fronts.{front_bytes}
 use Rattle.oram_layout.specs.Header.{entry_at, entry_bytes, letters}
 use Rattle.oram_layout.specs.Laws.{IsFileAtFirst, KeepsRecords, TreeIsAdded}
 use Rattle.oram_layout.specs.Records.{record_in, records_in}

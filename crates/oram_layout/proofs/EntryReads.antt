@@ -4,14 +4,16 @@ use Rattle.std.proofs.lemmas.Bool.{and_from, false≢true, le-leb, lt-ltb}
 use Rattle.std.proofs.lemmas.List.{drop_at, take_all, take_at}
 use Rattle.oram_wire.specs.declared.TheConstants.{LONGEST_BODY}
 use Rattle.oram_host.specs.ImageReader.{is_shape}
-use Rattle.oram_layout.specs.Header.{eight_bytes, entry_bytes, entry_check, four_bytes}
+use Rattle.oram_pair.specs.Fronts.{eight_bytes}
+use Rattle.oram_layout.specs.Header.{entry_bytes, entry_check, four_bytes}
 use Rattle.oram_redo.specs.Log.{check_bytes}
 use Rattle.oram_redo.proofs.Logs.{length-check_bytes}
 use Rattle.oram_layout.specs.Limits.{cells_len}
 use Rattle.oram_layout.specs.Trees.{sizes_of}
 use Rattle.oram_layout.specs.declared.shapes.Shape.{Shape}
 use Rattle.oram_layout.specs.declared.trees.Tree.{Tree}
-use Rattle.oram_layout.proofs.TreeEntries.{eight_bytes_one, four_bytes_one, length-eight_bytes, length-entry_check, length-four_bytes, record_len_fits, shape_one, tree_one}
+use Rattle.oram_pair.proofs.EightBytes.{eight_bytes_one, length-eight_bytes}
+use Rattle.oram_layout.proofs.TreeEntries.{four_bytes_one, length-entry_check, length-four_bytes, record_len_fits, shape_one, tree_one}
 
 two_first : (bs : List ℕ) → length bs ≡ 2 → bs ≡ get_or bs 0 0 ∷ get_or bs 1 0 ∷ []
 two_first [] long = absurd (omega arith)

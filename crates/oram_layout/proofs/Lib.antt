@@ -9,4 +9,3 @@ pub mod Apart
 pub mod Slots
 pub mod EntryReads
 pub mod FrontBytes
-pub mod GenerationFields

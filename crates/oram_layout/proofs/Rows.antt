@@ -4,7 +4,7 @@ use Rattle.oram_host.specs.Path.{node_on}
 use Rattle.oram_redo.specs.Content.{Content, put}
 use Rattle.oram_redo.specs.Log.{put_all}
 use Rattle.oram_layout.specs.Changes.{marks, path_patches, unmarked_patch}
-use Rattle.oram_layout.specs.Fronts.{front_bytes}
+use Rattle.oram_pair.specs.Fronts.{front_bytes}
 use Rattle.oram_layout.specs.Header.{letters}
 use Rattle.oram_layout.specs.Limits.{cell_len, cells_len}
 use Rattle.oram_layout.specs.Records.{records_in}

@@ -6,7 +6,9 @@ use Rattle.std.proofs.Math.Nat.{add-mul}
 use Rattle.std.proofs.lemmas.List.{drop_at, ext_get_or, length-append, take_at}
 use Rattle.std.proofs.lemmas.Nat.{from_le_bytes-to_le_bytes_4, from_le_bytes-to_le_bytes_8}
 use Rattle.oram_redo.specs.Log.{check_bytes}
-use Rattle.oram_layout.specs.Header.{eight_bytes, entry_bytes, entry_check, four_bytes}
+use Rattle.oram_pair.specs.Fronts.{eight_bytes}
+use Rattle.oram_pair.proofs.EightBytes.{eight_bytes_one, length-eight_bytes}
+use Rattle.oram_layout.specs.Header.{entry_bytes, entry_check, four_bytes}
 use Rattle.oram_layout.specs.Laws.{TreesAreOne}
 use Rattle.oram_layout.specs.Trees.{tree_at}
 use Rattle.oram_layout.specs.declared.shapes.Shape.{Shape}
@@ -16,17 +18,9 @@ pub four_bytes_are : (n : ℕ) → to_le_bytes w32 n ≡ four_bytes n
 unfolding four_bytes
 four_bytes_are n = refl
 
-pub eight_bytes_are : (n : ℕ) → to_le_bytes w64 n ≡ eight_bytes n
-unfolding eight_bytes
-eight_bytes_are n = refl
-
 pub length-four_bytes : (len : ℕ) → length (four_bytes len) ≡ 4
 unfolding four_bytes
 length-four_bytes len = refl
-
-pub length-eight_bytes : (base : ℕ) → length (eight_bytes base) ≡ 8
-unfolding eight_bytes
-length-eight_bytes base = refl
 
 pub length-entry_check : (depth record_len base : ℕ) → length (entry_check depth record_len base) ≡ 2
 unfolding check_bytes
@@ -47,10 +41,6 @@ length-entry_bytes (Some tree) =
 pub four_bytes_one : (a b : ℕ) → a < 2 ^ 32 → b < 2 ^ 32 → four_bytes a ≡ four_bytes b → a ≡ b
 unfolding four_bytes
 four_bytes_one a b ha hb e = sym (from_le_bytes-to_le_bytes_4 a ha) ∙ ap (λ (l : List ℕ). from_le_bytes w32 l) e ∙ from_le_bytes-to_le_bytes_4 b hb
-
-pub eight_bytes_one : (a b : ℕ) → a < 2 ^ 64 → b < 2 ^ 64 → eight_bytes a ≡ eight_bytes b → a ≡ b
-unfolding eight_bytes
-eight_bytes_one a b ha hb e = sym (from_le_bytes-to_le_bytes_8 a ha) ∙ ap (λ (l : List ℕ). from_le_bytes w64 l) e ∙ from_le_bytes-to_le_bytes_8 b hb
 
 pub record_len_small : (shape : Shape) → shape.record_len < 1_048_576
 record_len_small shape =

@@ -1,10 +1,10 @@
 -- The first bytes of a bucket file and of its log.
-use Rattle.std.specs.Prelude.{◌≡◌, ◌<◌, ℕ, ◌^◌, List, [], ◌∷◌, ◌++◌, length, take}
-use Rattle.oram_layout.specs.Header.{eight_bytes}
-use Rattle.oram_layout.specs.declared.fronts.TheConstants.{FRONT_LEN, LETTERS_LEN}
+use Rattle.std.specs.Prelude.{◌≡◌, ◌<◌, ℕ, ◌^◌, List, [], ◌∷◌, ◌++◌, take}
+use Rattle.oram_pair.specs.Fronts.{eight_bytes}
+use Rattle.oram_pair.specs.declared.fronts.Identity.{Identity}
+use Rattle.oram_pair.specs.declared.fronts.TheConstants.{LETTERS_LEN}
 use Rattle.oram_layout.specs.declared.fronts.Front.{Front}
 use Rattle.oram_layout.specs.declared.fronts.Front.TheVariants.{Ours, NewerVersion, OlderVersion, Sqlite, Empty, Another}
-use Rattle.oram_layout.specs.declared.fronts.Identity.{Identity}
 
 -- "VIDLAQEL", and the version, 3, in 8 bytes
 abbrev pub log_letters : List ℕ
@@ -17,15 +17,6 @@ sqlite_letters = 83 ∷ 81 ∷ 76 ∷ 105 ∷ 116 ∷ 101 ∷ 32 ∷ 102 ∷ 111
 -- "VIDLAQEB"
 abbrev pub bucket_name : List ℕ
 bucket_name = 86 ∷ 73 ∷ 68 ∷ 76 ∷ 65 ∷ 81 ∷ 69 ∷ 66 ∷ []
-
--- 16 bytes of letters and version, and 16 of the identity
-abbrev pub front_bytes : List ℕ → Identity → List ℕ
-front_bytes letters identity = letters ++ identity.0
-
--- the bytes begin with these letters and this identity
-pub record IsFront (letters : List ℕ) (identity : Identity) (bytes : List ℕ) : Type 0 where
-  pub whole : length identity.0 ≡ 16
-  pub begins : take FRONT_LEN bytes ≡ front_bytes letters identity
 
 -- the bytes begin with a bucket file's letters and a version above 3
 pub record IsNewer (bytes : List ℕ) : Type 0 where

@@ -1,9 +1,10 @@
 -- The header of a bucket file: 16 bytes of letters and version, 16 of the file's identity, and from place 4096 on, for
 -- each of 256 trees, an entry of 16 bytes. The cells of trees begin at place 8192.
 use Rattle.std.specs.Prelude.{◌≡◌, ◌<◌, ℕ, ◌+◌, ◌*◌, List, [], ◌∷◌, ◌++◌, length, take, Option, Some, None}
-use Rattle.std.specs.Int.{w32, w64, to_le_bytes}
+use Rattle.std.specs.Int.{w32, to_le_bytes}
 use Rattle.oram_redo.specs.Content.{Content, bytes_at}
 use Rattle.oram_redo.specs.Log.{check_bytes}
+use Rattle.oram_pair.specs.Fronts.{eight_bytes}
 use Rattle.oram_layout.specs.Trees.{Trees, tree_at}
 use Rattle.oram_layout.specs.declared.entries.TheConstants.{ENTRIES_AT, TREES}
 use Rattle.oram_layout.specs.declared.trees.TheConstants.{ENTRY_LEN}
@@ -13,12 +14,9 @@ use Rattle.oram_layout.specs.declared.trees.Tree.{Tree}
 abbrev pub letters : List ℕ
 letters = 86 ∷ 73 ∷ 68 ∷ 76 ∷ 65 ∷ 81 ∷ 69 ∷ 66 ∷ 3 ∷ 0 ∷ 0 ∷ 0 ∷ 0 ∷ 0 ∷ 0 ∷ 0 ∷ []
 
--- a number in 4 bytes, and in 8, the low byte first
+-- a number in 4 bytes, the low byte first
 unfoldable pub four_bytes : ℕ → List ℕ
 four_bytes n = to_le_bytes w32 n
-
-unfoldable pub eight_bytes : ℕ → List ℕ
-eight_bytes n = to_le_bytes w64 n
 
 -- two bytes of the checksum of what an entry says
 abbrev pub entry_check : ℕ → ℕ → ℕ → List ℕ

@@ -5,13 +5,13 @@ use Rattle.oram_redo.specs.Log.{Patch, AgreesBut, Fits, put_all}
 use Rattle.oram_redo.specs.declared.bounds.Bounds.{Bounds}
 use Rattle.oram_layout.specs.BucketFile.{IsBucketFile}
 use Rattle.oram_layout.specs.Changes.{IsCell, IsOffRecords, marks, path_patches, record_patch, tree_patch, unmarked_patch}
-use Rattle.oram_layout.specs.Fronts.{front_bytes}
+use Rattle.oram_pair.specs.Fronts.{front_bytes}
 use Rattle.oram_layout.specs.Header.{HasTrees, letters}
 use Rattle.oram_layout.specs.Limits.{nodes_of}
 use Rattle.oram_layout.specs.Records.{AreKept, IsPathOf, KeepsOffPath, KeepsOthers, records_in}
 use Rattle.oram_layout.specs.Trees.{AddsTree, AreApart, HasNoTree, Trees, cell_at, next_of, sizes_of, tree_at}
 use Rattle.oram_layout.specs.declared.entries.TheConstants.{TREES}
-use Rattle.oram_layout.specs.declared.fronts.Identity.{Identity}
+use Rattle.oram_pair.specs.declared.fronts.Identity.{Identity}
 use Rattle.oram_layout.specs.declared.trees.TheConstants.{CELLS_END}
 use Rattle.oram_layout.specs.declared.trees.Tree.{Tree}
 

@@ -6,4 +6,3 @@ pub mod BucketFile
 pub mod Changes
 pub mod Fronts
 pub mod Laws
-pub mod Generations

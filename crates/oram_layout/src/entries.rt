@@ -6,8 +6,9 @@ ghost use Rattle.oram_layout.specs.Trees.{AreApart, IsApartFrom, IsPlaced, Trees
 ghost use Rattle.oram_layout.specs.declared.trees.Tree.{Tree};
 
 use crate::fronts::is_blank;
-use crate::numbers::{eight_bytes_in, four_bytes_in};
+use crate::numbers::four_bytes_in;
 use crate::{CELLS_AT, ENTRY_LEN, LayoutFault, Shape, Tree};
+use oram_pair::eight_bytes_in;
 use std::alloc::Global;
 
 /// The number of trees that a header has entries for.

@@ -13,7 +13,6 @@
 mod entries;
 mod faults;
 mod fronts;
-mod generations;
 mod laws;
 mod numbers;
 mod shapes;
@@ -21,8 +20,7 @@ mod trees;
 
 pub use entries::{TREES, entry_place, next_base, read_trees};
 pub use faults::LayoutFault;
-pub use fronts::{FRONT_LEN, Front, Identity, front_of, log_front_of, read_front, read_log_front};
-pub use generations::{Generation, Newest, WHOLE_FRONT_LEN, newest_in};
+pub use fronts::{Front, LETTERS, read_front};
 pub use laws::{
     a_mark_shares_a_block, a_record_is_put, a_tree_is_added, an_empty_file, loose_patches,
     marked_records, one_list_of_trees, patches_fit, same_content, the_path_is_put,

@@ -23,7 +23,8 @@ pub struct Tree {
 }
 
 impl Tree {
-    ghost use Rattle.oram_layout.specs.Header.{eight_bytes, entry_bytes, four_bytes};
+    ghost use Rattle.oram_layout.specs.Header.{entry_bytes, four_bytes};
+    ghost use Rattle.oram_pair.specs.Fronts.{eight_bytes};
     ghost use Rattle.oram_layout.specs.Limits.{cell_len, cells_len, nodes_of};
     ghost use Rattle.oram_layout.specs.Trees.{cell_at, end_of, sizes_of};
 

@@ -1,7 +1,6 @@
 -- Groups of messages, one after the other.
-use Rattle.std.proofs.Common.{◌≡◌, ◌⊎◌, inl, inr, ⊎_elim, ℕ, suc, ◌≤◌, ◌+◌, Bool, true, false, true≢false, List, [], ◌∷◌, ◌++◌, Option, None, Some, refl, sym, ◌∙◌, ap, subst, arith}
+use Rattle.std.proofs.Common.{◌≡◌, ◌⊎◌, inl, inr, ⊎_elim, ℕ, suc, ◌≤◌, true, false, true≢false, List, [], ◌∷◌, ◌++◌, refl, sym, ◌∙◌, ap, subst, arith}
 use Rattle.std.specs.Prelude.{All, map}
-use Rattle.std.specs.List.{flat_map}
 use Rattle.std.proofs.lemmas.Bool.{cases_Bool}
 use Rattle.std.proofs.lemmas.List.{map-append}
 use Rattle.oram_host.specs.declared.refusals.HostRefusal.TheVariants.{OutOfMemory}
@@ -10,17 +9,15 @@ use Rattle.oram_layout.specs.Trees.{Trees}
 use Rattle.oram_redo.specs.Content.{Content}
 use Rattle.oram_redo.specs.FilePair.{Contents, FileModel, LeavesOnly}
 use Rattle.oram_redo.proofs.Moments.{started}
-use Rattle.oram_store.specs.Answers.{Answers}
 use Rattle.oram_store.specs.Crashes.{IsCarriedOut, MayBeFound, MayHold}
 use Rattle.oram_store.specs.FirstAnswers.{AnswersBody, AnswersFirst}
 use Rattle.oram_store.specs.GroupRuns.{Answered, AnswersGroups, AreAnswered, AreInTurn, AreRequests, Exchange, FoundAtBorder, Group, GroupsInTurn, IsFirstCarriedOut, IsGroupCarriedOut, IsRequest, answered_bodies, answered_body}
 use Rattle.oram_store.specs.Groups.{AnswersGroup, AnswersInTurn, AreCarriedOut, IsAcceptedChange, IsDoneOrFull}
 use Rattle.oram_store.specs.KeptRecords.{Holds, IsSound, StoreValue, records_of, sure_records}
 use Rattle.oram_store.specs.RecordFile.{FileValue, Finds, OnlyIf, Runs}
-use Rattle.oram_store.specs.Refusals.{RespondsWith, refusal_by}
+use Rattle.oram_store.specs.Refusals.{RespondsWith}
 use Rattle.oram_wire.specs.HostMessages.{request_body}
 use Rattle.oram_wire.specs.declared.host_messages.HostAnswer.{HostAnswer}
-use Rattle.oram_wire.specs.declared.host_messages.HostAnswer.TheVariants as answer
 use Rattle.oram_wire.specs.declared.host_messages.HostRequest.{HostRequest}
 use Rattle.oram_wire.specs.declared.host_messages.HostRequest.TheVariants as request
 use Rattle.oram_store.proofs.Crashes.{found_leads, found_more, found_then, same_front}
@@ -33,7 +30,7 @@ answered_keep trees after one two three [] same said = (said.0, kept_then one tw
 answered_keep trees after one two three (first ∷ rest) same said = (said.0, said.1, said.2, answers_keep trees one two said.1 first.message first.given same said.3, said.4)
 
 -- some messages, and then some more
-answered_then : (trees mid_trees after : Trees) (old mid new : RecordsOf) (first more : List Exchange) → AreAnswered trees old first mid_trees mid → AreAnswered mid_trees mid more after new
+pub answered_then : (trees mid_trees after : Trees) (old mid new : RecordsOf) (first more : List Exchange) → AreAnswered trees old first mid_trees mid → AreAnswered mid_trees mid more after new
     → AreAnswered trees old (first ++ more) after new
 answered_then trees mid_trees after old mid new [] more said then =
     answered_keep trees after old mid new more said.1 (subst (λ (t : Trees). AreAnswered t mid more after new) said.0 then)
@@ -128,9 +125,23 @@ module _ {F : Type 0} (model : FileModel F) where
       let same = said.2.stays stopped in
       stopped_stays rest said.0 new said.3 (ap (λ (v : FileValue F). v.has_stopped) same ∙ stopped) ∙ same
 
-  honest_before : (groups : List Group) (old new : StoreValue F) → AnswersGroups model groups old new → model.is_honest new.file.files → model.is_honest old.file.files
+  pub honest_before : (groups : List Group) (old new : StoreValue F) → AnswersGroups model groups old new → model.is_honest new.file.files → model.is_honest old.file.files
   honest_before [] old new said honest = subst (λ (v : StoreValue F). model.is_honest v.file.files) said honest
   honest_before (group ∷ rest) old new said honest = said.2.after.honest (honest_before rest said.0 new said.3 honest)
+
+  -- a store that has answered requests and goes on is sound
+  pub sound_after : (groups : List Group) (old new : StoreValue F) → AreRequests groups → AnswersGroups model groups old new → model.is_honest new.file.files → IsSound model old → new.file.has_stopped ≡ false
+      → IsSound model new
+  sound_after [] old new are said honest s running = subst (IsSound model) (sym said) s
+  sound_after (group ∷ rest) old new are said honest s running =
+      let mid : StoreValue F = said.0 in
+      let step : StepsOn group old mid = step_on group old mid said.1 (are 0 group (omega arith)) (honest_before rest mid new said.3 honest) s in
+      elim (cases_Bool mid.file.has_stopped) [
+        | inl stopped ↦ (
+            let still : new.file.has_stopped ≡ true = ap (λ (v : FileValue F). v.has_stopped) (stopped_stays rest mid new said.3 stopped) ∙ stopped in
+            absurd (true≢false (sym still ∙ running)))
+        | inr going ↦ sound_after rest mid new (λ k d h. are (suc k) d (omega arith)) said.3 honest (step.sound going) running
+      ]
 
   nothing_yet : (old : StoreValue F) → AreInTurn [] old.trees (records_of model old) old.trees (records_of model old)
   nothing_yet old = record { exchanges = []; are = refl; answered = (refl, λ tree node. refl) }

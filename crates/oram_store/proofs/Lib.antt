@@ -24,4 +24,6 @@ pub mod Responses
 pub mod RowBytes
 pub mod RowsServed
 mod WorkedRows
-mod Makings
+pub mod FirstGroup
+pub mod Openings
+pub mod Reopened

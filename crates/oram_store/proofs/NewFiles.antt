@@ -10,10 +10,11 @@ use Rattle.oram_redo.specs.Memory.{byte_of}
 use Rattle.oram_redo.proofs.Logs.{length-entry, log_none}
 use Rattle.oram_layout.specs.BucketFile.{IsBucketFile}
 use Rattle.oram_layout.specs.Changes.{tree_patch}
-use Rattle.oram_layout.specs.Fronts.{front_bytes, log_letters}
+use Rattle.oram_pair.specs.Fronts.{front_bytes}
+use Rattle.oram_layout.specs.Fronts.{log_letters}
 use Rattle.oram_layout.specs.Header.{letters}
 use Rattle.oram_layout.specs.Trees.{AddsTree, next_of, tree_at}
-use Rattle.oram_layout.specs.declared.fronts.Identity.{Identity}
+use Rattle.oram_pair.specs.declared.fronts.Identity.{Identity}
 use Rattle.oram_layout.specs.declared.trees.Tree.{Tree}
 use Rattle.oram_layout.proofs.Added.{tree_added}
 use Rattle.oram_layout.proofs.LogRoom.{patches_fit}

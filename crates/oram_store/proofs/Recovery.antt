@@ -13,13 +13,13 @@ use Rattle.oram_redo.proofs.Bytes.{has_same, has-put}
 use Rattle.oram_redo.proofs.LawProofs.{files_stand_for_one}
 use Rattle.oram_redo.proofs.Moments.{then_leaves}
 use Rattle.oram_layout.specs.BucketFile.{IsBucketFile}
-use Rattle.oram_layout.specs.Fronts.{front_bytes}
+use Rattle.oram_pair.specs.Fronts.{front_bytes}
 use Rattle.oram_layout.specs.Header.{HasTrees, letters}
 use Rattle.oram_layout.specs.Records.{AreKept, records_in}
 use Rattle.oram_layout.specs.Trees.{AreApart, Trees}
 use Rattle.oram_layout.specs.declared.faults.LayoutFault.{LayoutFault}
 use Rattle.oram_layout.specs.declared.faults.LayoutFault.TheVariants as layout
-use Rattle.oram_layout.specs.declared.fronts.Identity.{Identity}
+use Rattle.oram_pair.specs.declared.fronts.Identity.{Identity}
 use Rattle.oram_layout.proofs.Added.{file_at_first, has_no_tree}
 use Rattle.oram_layout.proofs.Contents.{content_is}
 use Rattle.oram_layout.proofs.TreeEntries.{trees_one}

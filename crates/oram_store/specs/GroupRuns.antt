@@ -9,12 +9,13 @@ use Rattle.oram_store.specs.Answers.{Answers}
 use Rattle.oram_store.specs.Crashes.{IsCarriedOut, MayHold}
 use Rattle.oram_store.specs.FirstAnswers.{AnswersFirst}
 use Rattle.oram_store.specs.Groups.{AreCarriedOut}
-use Rattle.oram_store.specs.KeptRecords.{StoreValue, records_of, sure_records}
+use Rattle.oram_store.specs.KeptRecords.{IsSound, StoreValue, records_of, sure_records}
 use Rattle.oram_store.specs.RecordFile.{Finds, Runs}
 use Rattle.oram_store.specs.Refusals.{RespondsWith}
 use Rattle.oram_wire.specs.HostBodies.{HasNumbers}
 use Rattle.oram_wire.specs.HostMessages.{request_body}
 use Rattle.oram_wire.specs.declared.host_messages.HostAnswer.{HostAnswer}
+use Rattle.oram_wire.specs.declared.host_messages.HostAnswer.TheVariants as answer
 use Rattle.oram_wire.specs.declared.host_messages.HostRequest.{HostRequest}
 
 -- a message and its answer
@@ -88,3 +89,14 @@ pub record FoundAtBorder {F : Type 0} (model : FileModel F) (groups : List Group
 pub record GroupsInTurn {F : Type 0} (model : FileModel F) (groups : List Group) (old new : StoreValue F) : Type 0 where
   pub in_turn : new.file.has_stopped ≡ false → AreInTurn groups old.trees (records_of model old) new.trees (records_of model new)
   pub any_moment : LeavesOnly model old.file.files new.file.files (Finds (model.seen old.file.files) (FoundAtBorder model groups old))
+
+-- a sound store has answered these groups of requests, and so they are answered in turn
+pub record RunsInTurn {F : Type 0} (model : FileModel F) (groups : List Group) (old new : StoreValue F) : Type 0 where
+  pub requests : AreRequests groups
+  pub answered : AnswersGroups model groups old new
+  pub sound : IsSound model old
+  pub in_turn : GroupsInTurn model groups old new
+
+-- two requests, answered together as done
+abbrev pub both_done : HostRequest → HostRequest → List Group
+both_done first second = record { bodies = request_body first ∷ request_body second ∷ []; given = answer.Done } ∷ []

@@ -13,11 +13,9 @@ pub mod KeptRecords
 pub mod Crashes
 pub mod Groups
 pub mod AnswerBytes
-pub mod Matching
 pub mod Rows
 pub mod RecordsAnswers
 pub mod FirstAnswers
 pub mod GroupRuns
-pub mod Leftovers
-pub mod Notes
-pub mod Making
+pub mod Openings
+pub mod Reopened

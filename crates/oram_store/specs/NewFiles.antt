@@ -5,10 +5,11 @@ use Rattle.oram_redo.specs.Memory.{byte_of}
 use Rattle.oram_redo.specs.Opened.{Opened, contents_in}
 use Rattle.oram_layout.specs.BucketFile.{IsBucketFile}
 use Rattle.oram_layout.specs.Changes.{tree_patch}
-use Rattle.oram_layout.specs.Fronts.{front_bytes, log_letters}
+use Rattle.oram_pair.specs.Fronts.{front_bytes}
+use Rattle.oram_layout.specs.Fronts.{log_letters}
 use Rattle.oram_layout.specs.Header.{letters}
 use Rattle.oram_layout.specs.Trees.{Trees}
-use Rattle.oram_layout.specs.declared.fronts.Identity.{Identity}
+use Rattle.oram_pair.specs.declared.fronts.Identity.{Identity}
 use Rattle.oram_layout.specs.declared.trees.TheConstants.{CELLS_AT}
 use Rattle.oram_layout.specs.declared.trees.Tree.{Tree}
 use Rattle.oram_store.specs.RecordFile.{bounds}

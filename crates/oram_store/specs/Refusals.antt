@@ -28,15 +28,17 @@ abbrev pub by_shape : Option TreeShape → (TreeShape → Option HostRefusal) �
 by_shape None rest = Some NoShape
 by_shape (Some shape) rest = rest shape
 
+-- why the records of a tree can't be changed, if they can't: there is no such tree, or its records stay as they are; or else `rest`, by its shape
+abbrev pub by_changeable : Trees → ℕ → (TreeShape → Option HostRefusal) → Option HostRefusal
+by_changeable trees tree rest = by_shape (shape_at trees tree) (λ s. when (is_fixed trees tree) ShapeTaken (rest s))
+
 -- why these trees refuse a request, if they do; if there are several reasons, the one that is checked first
 abbrev pub refusal_by : Trees → HostRequest → Option HostRefusal
 refusal_by trees (request.Fetch tree leaf) = by_shape (shape_at trees tree) (λ s. unless (nat_lt leaf (2 ^ s.depth)) BadLeaf None)
 refusal_by trees (request.Store tree leaf records) =
-    by_shape (shape_at trees tree) (λ s. when (is_fixed trees tree) ShapeTaken
-    (unless (nat_lt leaf (2 ^ s.depth)) BadLeaf (unless (length records == (s.depth + 1) * s.record_len) BadLength None)))
+    by_changeable trees tree (λ s. unless (nat_lt leaf (2 ^ s.depth)) BadLeaf (unless (length records == (s.depth + 1) * s.record_len) BadLength None))
 refusal_by trees (request.Put tree node bytes) =
-    by_shape (shape_at trees tree) (λ s. when (is_fixed trees tree) ShapeTaken
-    (unless (nat_lt node (2 ^ (s.depth + 1) - 1)) BadNode (unless (length bytes == s.record_len) BadLength None)))
+    by_changeable trees tree (λ s. unless (nat_lt node (2 ^ (s.depth + 1) - 1)) BadNode (unless (length bytes == s.record_len) BadLength None))
 refusal_by trees (request.Shape tree depth record_len) = unless (is_shape depth record_len) BadLength (unless (is_none (shape_at trees tree)) ShapeTaken None)
 
 -- the trees before and after a request that was carried out

@@ -1,10 +1,11 @@
 //! Makes the files of a new store, and opens those of an old one.
 ghost use Rattle.std.specs.Prelude.{◌≡◌, ◌⊎◌, ℕ, None, [], false, length, IfErr, IfOk, IsErrOf, OnOk, replicate};
 ghost use Rattle.oram_layout.specs.BucketFile.{IsBucketFile};
-ghost use Rattle.oram_layout.specs.Fronts.{front_bytes, log_letters};
+ghost use Rattle.oram_layout.specs.Fronts.{log_letters};
 ghost use Rattle.oram_layout.specs.Header.{letters};
 ghost use Rattle.oram_layout.specs.Records.{AreKept, records_in};
 ghost use Rattle.oram_layout.specs.Trees.{Trees};
+ghost use Rattle.oram_pair.specs.Fronts.{front_bytes};
 ghost use Rattle.oram_redo.specs.Content.{Content, Has};
 ghost use Rattle.oram_redo.specs.FilePair.{ComesAfter, HasFailed, IsSure, Rises, WritesNothing};
 ghost use Rattle.oram_redo.specs.Log.{IsLog, StandsFor};
@@ -15,12 +16,11 @@ ghost use Rattle.oram_store.specs.OpenOutcomes.{IsNotOpened, IsOpened, OpensAlik
 ghost use Rattle.oram_store.specs.RecordFile.{bounds};
 
 use crate::faults::StoreFault;
-use crate::record_file::{BOUNDS, RecordFile};
+use crate::record_file::{BOUNDS, FORMAT, RecordFile};
 use crate::store::FileStore;
-use oram_layout::{
-    ENTRY_LEN, Generation, Identity, TREES, Tree, entry_place, front_of, log_front_of, read_trees,
-};
-use oram_redo::{FileKind, FilePair, Redo, SHUT, recover};
+use oram_layout::{ENTRY_LEN, TREES, Tree, entry_place, read_trees};
+use oram_pair::{Generation, Identity, begin_files};
+use oram_redo::{FilePair, Redo, recover};
 use std::alloc::Global;
 
 /// Turns two empty files into a store without trees, with this identity, and with a log of the first generation. After `Ok` they are
@@ -42,11 +42,7 @@ pub fn create<F: FilePair>(files: &mut F, identity: &Identity) -> Result<(), Sto
     ensures errors { IfErr result (λ fault. (fault ≡ StoreFault.NoRoom) ⊎ (fault ≡ StoreFault.Io)) }
     ensures after { ComesAfter F.model files.old files.new }
 {
-    files.write_at(FileKind::Log, 0, &log_front_of(identity))?;
-    files.write_at(FileKind::Records, 0, &front_of(identity))?;
-    files.write_at(FileKind::Log, BOUNDS.log_start, &[SHUT])?;
-    files.sync(FileKind::Log)?;
-    files.sync(FileKind::Records)?;
+    begin_files(&FORMAT, identity, files)?;
     Ok(())
 }
 

@@ -1,9 +1,10 @@
 //! Why a store can't be opened, or has no room.
+ghost use Rattle.oram_store.specs.Faults.{IsOtherKind};
 
-use oram_layout::LayoutFault;
+use oram_layout::{Front, LayoutFault, read_front};
+use oram_pair::PairFault;
 use oram_redo::RedoError;
 use std::alloc::{AllocError, AllocFailed};
-use std::io;
 use thiserror::Error;
 
 /// Why a store can't be opened, or didn't do what it was asked.
@@ -92,13 +93,43 @@ impl<T: Drop> From<AllocFailed<T>> for StoreFault {
     }
 }
 
-impl From<io::Error> for StoreFault {
-    fn from(error: io::Error) -> StoreFault {
-        match error.kind() {
-            io::ErrorKind::OutOfMemory => StoreFault::OutOfMemory,
-            io::ErrorKind::StorageFull | io::ErrorKind::QuotaExceeded => StoreFault::NoRoom,
-            _ => StoreFault::Io,
+impl From<PairFault> for StoreFault {
+    ghost use Rattle.oram_store.specs.Faults.{StandsForPair};
+
+    ghost from_gives = { λ error fault. StandsForPair error fault };
+
+    fn from(error: PairFault) -> StoreFault {
+        match error {
+            PairFault::Busy => StoreFault::Busy,
+            PairFault::Missing => StoreFault::Missing,
+            PairFault::Exists => StoreFault::Exists,
+            PairFault::NewFileTaken => StoreFault::NewFileTaken,
+            PairFault::NewLogTaken => StoreFault::NewLogTaken,
+            PairFault::NotAFile => StoreFault::NotABucketFile,
+            PairFault::OtherKind(first) => other_kind(&first),
+            PairFault::WithoutLog => StoreFault::WithoutLog,
+            PairFault::LogOfAnotherFile => StoreFault::LogOfAnotherFile,
+            PairFault::LogWithoutFile => StoreFault::LogWithoutFile,
+            PairFault::LogOlder => StoreFault::LogOlder,
+            PairFault::LogNewer => StoreFault::LogNewer,
+            PairFault::CutShort => StoreFault::CutShort,
+            PairFault::Damaged => StoreFault::Damaged,
+            PairFault::LogDamaged => StoreFault::LogDamaged,
+            PairFault::NoRoom => StoreFault::NoRoom,
+            PairFault::NotPermitted | PairFault::Io => StoreFault::Io,
+            PairFault::OutOfMemory => StoreFault::OutOfMemory,
         }
+    }
+}
+
+/// Returns why a file that begins with these bytes is refused.
+fn other_kind(first: &[u8; 16]) -> StoreFault
+    ensures { IsOtherKind first.now result }
+{
+    match read_front(first) {
+        Front::NewerVersion => StoreFault::NewerKind,
+        Front::Sqlite | Front::OlderVersion => StoreFault::OlderVersion,
+        Front::Ours(_) | Front::Another | Front::Empty => StoreFault::NotABucketFile,
     }
 }
 

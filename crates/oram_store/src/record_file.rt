@@ -11,8 +11,9 @@ ghost use Rattle.oram_store.specs.RecordFile.{Calls, Commits, IsSteady, MayHave,
 ghost use Rattle.oram_redo.specs.declared.file_pair.FileKind.TheVariants.{Records};
 
 use crate::faults::StoreFault;
-use oram_layout::Generation;
-use oram_redo::{Bounds, FileKind, FilePair, Patch, Redo, RedoError, write_fronts};
+use oram_layout::LETTERS;
+use oram_pair::{Generation, PairFormat};
+use oram_redo::{Bounds, FilePair, Patch, Redo, RedoError};
 use std::alloc::Global;
 use std::marker::Model;
 
@@ -21,6 +22,12 @@ pub(crate) const BOUNDS: Bounds = Bounds {
     log_start: 1 << 12,
     log_end: 1 << 26,
     records_end: 1 << 62,
+};
+
+/// How the two files are laid out.
+pub(crate) const FORMAT: PairFormat = PairFormat {
+    letters: LETTERS,
+    bounds: BOUNDS,
 };
 
 /// A file of records with its redo log.
@@ -211,9 +218,8 @@ impl<F: FilePair> RecordFile<F> {
         }
     }
 
-    /// Has both fronts say that the log, which has no entries, begins a new generation. The log's front says it first: so what a
-    /// crash leaves is a file and a log of one generation, or a log without entries that is one ahead. If there is no room, the file
-    /// goes on, and the next call tries again.
+    /// Has both fronts say that the log, which has no entries, begins a new generation. If there is no room, the file goes on, and the next call
+    /// tries again.
     fn begin_generation(&mut self) -> Result<(), StoreFault>
         ensures reads { ReadsOnly F.model self.old self.new }
         ensures errors { IfErr result (λ fault. (fault ≡ StoreFault.NoRoom) ⊎ (fault ≡ StoreFault.Io) ⊎ (fault ≡ StoreFault.Closed)) }
@@ -223,13 +229,8 @@ impl<F: FilePair> RecordFile<F> {
         if self.has_stopped {
             return Err(StoreFault::Closed);
         }
-        let next = self.generation.next();
-        let (log, records) = (next.field(FileKind::Log), next.field(FileKind::Records));
-        match write_fronts(&mut self.files, next.place(), &log, &records) {
-            Ok(()) => {
-                self.generation = next;
-                Ok(())
-            }
+        match self.generation.begin_next(&LETTERS, &mut self.files) {
+            Ok(()) => Ok(()),
             Err(error) => Err(self.stopped_by(error)),
         }
     }

@@ -1,10 +1,11 @@
 //! The store: its trees, and what each request does to their records.
-ghost use Rattle.std.specs.Prelude.{All, map, ◌≡◌, ◌≢◌, Contains, MatchOption, ◌⊎◌, ◌≤◌, ◌<◌, ◌+◌, ◌*◌, ◌^◌, ◌∷◌, ◌↔◌, [], ℕ, length, IsTrue, false, None, Some, IfErr, IfOk, IfSome, IsOk, IsSome, IsSomeAnd, MatchResult, OnErr, OnOk};
+ghost use Rattle.std.specs.Prelude.{All, map, ◌≡◌, ◌≢◌, Contains, MatchOption, ◌⊎◌, ◌≤◌, ◌<◌, ◌+◌, ◌*◌, ◌^◌, ◌∷◌, ◌↔◌, [], ℕ, length, IsTrue, false, None, Option, Some, IfErr, IfOk, IfSome, IsOk, IsSome, IsSomeAnd, MatchResult, OnErr, OnOk};
 ghost use Rattle.oram_host.specs.Path.{FitsAnswer, IsBehind};
 ghost use Rattle.oram_host.specs.Refusals.{code_of};
 ghost use Rattle.oram_layout.specs.Changes.{marks, record_patch};
 ghost use Rattle.oram_layout.specs.Header.{entry_at, entry_bytes};
-ghost use Rattle.oram_layout.specs.Limits.{nodes_of};
+ghost use Rattle.oram_host.specs.declared.refusals.HostRefusal.{HostRefusal};
+ghost use Rattle.oram_layout.specs.Limits.{TreeShape, nodes_of};
 ghost use Rattle.oram_layout.specs.Trees.{cell_at, sizes_of, tree_at};
 ghost use Rattle.oram_store.specs.Answers.{answer_by};
 ghost use Rattle.oram_store.specs.Close.{Closes};
@@ -13,7 +14,7 @@ ghost use Rattle.oram_store.specs.Groups.{FitsPath, FitsTree, IsOfTrees, ServesG
 ghost use Rattle.oram_store.specs.KeptRecords.{IsSound};
 ghost use Rattle.oram_store.specs.PendingCells.{AreCells};
 ghost use Rattle.oram_store.specs.Reasons.{IsReasonFor, ReportsWhy};
-ghost use Rattle.oram_store.specs.Refusals.{IsRefused, ChangesTrees, is_fixed, refusal_by};
+ghost use Rattle.oram_store.specs.Refusals.{IsRefused, ChangesTrees, by_changeable, is_fixed, refusal_by};
 ghost use Rattle.oram_redo.specs.Redo.{end_of};
 ghost use Rattle.oram_store.specs.RecordFile.{Calls, Commits, IsReason, Runs, bounds};
 ghost use Rattle.oram_store.specs.declared.groups.Change.{Change};
@@ -297,6 +298,22 @@ impl<F: FilePair> FileStore<F> {
         }
     }
 
+    /// Returns a tree whose records can be changed, or why its records can't.
+    pub(crate) fn changeable_tree(&self, number: u8) -> Result<Tree, HostRefusal>
+        ensures of { IfOk result (λ tree. tree_at self.now.trees number ≡ Some tree) }
+        ensures not_fixed { OnOk result (is_fixed self.now.trees number ≡ false) }
+        ensures refused { IfErr result (λ why. (rest : TreeShape → Option HostRefusal) → by_changeable self.now.trees number rest ≡ Some why) }
+        ensures code { IfErr result (λ why. code_of why ≢ 6) }
+    {
+        let Some(tree) = self.tree_of(number) else {
+            return Err(HostRefusal::NoShape);
+        };
+        if self.is_fixed(number) {
+            return Err(HostRefusal::ShapeTaken);
+        }
+        Ok(tree)
+    }
+
     /// Returns a STORE with its tree, or why the trees refuse it.
     pub(crate) fn accepted_store<'a>(
         &self,
@@ -310,12 +327,7 @@ impl<F: FilePair> FileStore<F> {
         ensures refused { IfErr result (λ why. refusal_by self.now.trees (HostRequest.Store number leaf records.now) ≡ Some why) }
         ensures code { IfErr result (λ why. code_of why ≢ 6) }
     {
-        let Some(tree) = self.tree_of(number) else {
-            return Err(HostRefusal::NoShape);
-        };
-        if self.is_fixed(number) {
-            return Err(HostRefusal::ShapeTaken);
-        }
+        let tree = self.changeable_tree(number)?;
         if leaf >= tree.shape.leaves() {
             return Err(HostRefusal::BadLeaf);
         }

@@ -35,12 +35,7 @@ impl<F: FilePair> FileStore<F> {
         ensures refused { IfErr result (λ why. refusal_by self.now.trees (HostRequest.Put number node bytes.now) ≡ Some why) }
         ensures code { IfErr result (λ why. code_of why ≢ 6) }
     {
-        let Some(tree) = self.tree_of(number) else {
-            return Err(HostRefusal::NoShape);
-        };
-        if self.is_fixed(number) {
-            return Err(HostRefusal::ShapeTaken);
-        }
+        let tree = self.changeable_tree(number)?;
         if node >= tree.shape.nodes() {
             return Err(HostRefusal::BadNode);
         }

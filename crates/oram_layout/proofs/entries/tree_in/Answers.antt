@@ -2,7 +2,8 @@ use Rattle.std.proofs.Common.{◌≡◌, sym, ◌∙◌, ap, arith}
 use Rattle.std.proofs.lemmas.Bool.{false≢true}
 use Rattle.std.proofs.lemmas.Bool.Decides.{Decides-eqb}
 use Rattle.std.proofs.lemmas.Slice.Eq.{slice_eq-Decides}
-use Rattle.oram_layout.specs.Header.{eight_bytes, four_bytes}
+use Rattle.oram_pair.specs.Fronts.{eight_bytes}
+use Rattle.oram_layout.specs.Header.{four_bytes}
 use Rattle.oram_layout.specs.declared.shapes.Shape.{Shape}
 use Rattle.oram_layout.proofs.EntryReads.{no_place, no_shape, only_tree}
 use Rattle.oram_layout.proofs.entries.tree_in.Goals as goal

@@ -1,7 +1,8 @@
 use Rattle.std.proofs.Common.{sym, ◌∙◌, arith}
 use Rattle.std.proofs.lemmas.Bool.{false≢true, lt-ltb, ltb-true}
 use Rattle.oram_layout.specs.Fronts.{bucket_name}
-use Rattle.oram_layout.proofs.FrontBytes.{newer_from, newer_long, newer_name, newer_version, starts_so}
+use Rattle.oram_pair.proofs.FrontBytes.{starts_so}
+use Rattle.oram_layout.proofs.FrontBytes.{newer_from, newer_long, newer_name, newer_version}
 use Rattle.oram_layout.proofs.fronts.is_newer.Goals as goal
 use Rattle.oram_layout.proofs.fronts.is_newer.Goals.{then-bytes-lt-LETTERS_LEN-via-then-bytes-lt-LETTERS_LEN, then-bytes-lt-LETTERS_LEN-via-else-bytes-lt-LETTERS_LEN+then-not-starts_with}
 

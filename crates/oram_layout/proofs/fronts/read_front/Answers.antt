@@ -1,6 +1,7 @@
 use Rattle.std.proofs.Common.{refl, sym}
 use Rattle.oram_layout.specs.Fronts.{sqlite_letters}
-use Rattle.oram_layout.proofs.FrontBytes.{newer_not_older, ours_not_newer, ours_not_older, starts_so}
+use Rattle.oram_pair.proofs.FrontBytes.{starts_so}
+use Rattle.oram_layout.proofs.FrontBytes.{newer_not_older, ours_not_newer, ours_not_older}
 use Rattle.oram_layout.proofs.fronts.read_front.Goals as goal
 
 pub returns-then-starts_with-clause-sqlite : goal.returns-then-starts_with-clause-sqlite

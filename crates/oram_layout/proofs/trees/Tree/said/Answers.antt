@@ -1,5 +1,6 @@
 use Rattle.std.proofs.Common.{refl}
-use Rattle.oram_layout.specs.Header.{eight_bytes, four_bytes}
+use Rattle.oram_pair.specs.Fronts.{eight_bytes}
+use Rattle.oram_layout.specs.Header.{four_bytes}
 use Rattle.oram_layout.proofs.trees.Tree.said.Goals as goal
 
 pub returns : goal.returns

@@ -13,5 +13,5 @@ returns-then-self-clause-calls g c =
 
 pub returns-in-Ok-clause-calls : goal.returns-in-Ok-clause-calls
 returns-in-Ok-clause-calls g c =
-    let new : FileValue g.row.F.Denot = record { files = c.write_fronts.new.files; redo = c.self.inside.redo; is_loose = c.self.inside.is_loose; has_stopped = c.self.inside.has_stopped } in
-    subst (λ (v : FileValue g.row.F.Denot). Calls g.F.FilePair.model (Ok tt) v new) c.self.view_is (calls_made g.F.FilePair.model (Ok tt) _ new c.if-self.false c.write_fronts.ensures.after refl tt)
+    let new : FileValue g.row.F.Denot = record { files = c.begin_next.new.files; redo = c.self.inside.redo; is_loose = c.self.inside.is_loose; has_stopped = c.self.inside.has_stopped } in
+    subst (λ (v : FileValue g.row.F.Denot). Calls g.F.FilePair.model (Ok tt) v new) c.self.view_is (calls_made g.F.FilePair.model (Ok tt) _ new c.if-self.false c.begin_next.ensures.after refl tt)

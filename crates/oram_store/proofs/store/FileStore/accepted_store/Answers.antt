@@ -1,8 +1,8 @@
-use Rattle.std.proofs.Common.{ℕ, ◌<◌, sym, subst, ◌∙◌}
+use Rattle.std.proofs.Common.{ℕ, ◌<◌, subst, ◌∙◌}
 use Rattle.oram_store.proofs.Allowed.{store_allowed}
 use Rattle.oram_store.proofs.store.FileStore.accepted_store.Goals as goal
 
 pub returns-clause-allowed : goal.returns-clause-allowed
 returns-clause-allowed g c =
-    store_allowed c.args.self.now.trees c.args.number c.args.leaf c.args.records.now c.in-Some.tree (sym c.tree_of.ensures ∙ c.in-Some.is) (sym c.is_fixed.ensures ∙ c.if-is_fixed.false)
+    store_allowed c.args.self.now.trees c.args.number c.args.leaf c.args.records.now c.in_ok-tree.tree c.in_ok-tree.ensures.of c.in_ok-tree.ensures.not_fixed
     (subst (λ (n : ℕ). c.args.leaf < n) c.leaves.ensures c.if-leaf-leaves.false) (c.if-records-path_len.false ∙ c.path_len.ensures)

@@ -1,0 +1,5 @@
+pub mod EightBytes
+pub mod FrontBytes
+pub mod GenerationFields
+pub mod Makings
+pub mod NewFiles
