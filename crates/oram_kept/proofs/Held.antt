@@ -1,25 +1,30 @@
 -- What the files hold after a keeping, and whenever a crash comes.
-use Rattle.std.proofs.Common.{◌≡◌, inl, inr, ℕ, ◌+◌, ◌*◌, ◌^◌, ◌<◌, ◌≤◌, List, [], ◌∷◌, ◌++◌, length, refl, sym, ap, ◌∙◌, subst, arith, length-append}
+use Rattle.std.proofs.Common.{◌≡◌, inl, inr, get_or, take, ℕ, suc, ◌+◌, ◌*◌, ◌^◌, ◌<◌, ◌≤◌, List, [], ◌∷◌, ◌++◌, length, refl, sym, ap, ◌∙◌, subst, arith, length-append}
 use Rattle.std.specs.Prelude.{All, Result, Ok, Err, OnOk}
 use Rattle.std.specs.List.{flat_map}
 use Rattle.oram_kept.specs.Kept.{Finds, FindsEither, Keeps, KeptValue, StandsEither, bounds}
 use Rattle.oram_kept.specs.Layout.{HasTable, HaveRoom, Holds, after_at, before_at, eight_bytes, head_of, lengths, numbers_on, page_at, page_of, pages_for, check_of}
 use Rattle.oram_kept.specs.Pages.{AreWithin, Ends, batch_for}
 use Rattle.oram_kept.specs.Text.{Parts}
+use Rattle.std.proofs.lemmas.Bool.{cases_eq}
+use Rattle.std.proofs.lemmas.Bool.Decides.{nat_tests}
 use Rattle.std.proofs.lemmas.List.Elements.{All-append, All-cons}
 use Rattle.oram_kept.proofs.Tables.{length-page-within}
 use Rattle.oram_kept.proofs.Written.{all_one}
 use Rattle.oram_redo.specs.Content.{Agrees, Content, Has, put}
-use Rattle.oram_redo.specs.FilePair.{Contents, FileModel, LeavesOnly}
+use Rattle.oram_redo.specs.FilePair.{Contents, FileModel, LeavesOnly, WritesNothing}
 use Rattle.oram_redo.specs.Redo.{IsCrashConsistent, bounds_of}
 use Rattle.oram_redo.specs.declared.bounds.Bounds.{Bounds}
 use Rattle.oram_redo.specs.declared.file_pair.FileKind.TheVariants.{Records}
 use Rattle.oram_redo.specs.Log.{Fits, Patch, StandsFor, check_bytes, entries, entry, put_all}
 use Rattle.oram_redo.proofs.Bytes.{has-put, has_same, put_outside}
 use Rattle.oram_redo.proofs.Consistent.{keeps_now}
-use Rattle.oram_redo.proofs.Heal.{put_all-append}
+use Rattle.oram_redo.proofs.Heal.{put_all-append, put_heals}
+use Rattle.oram_redo.proofs.Batches.{put_all_more}
+use Rattle.oram_redo.specs.Batch.{patches_of as lent_patches}
+use Rattle.oram_redo.specs.declared.batch.Patch.{Patch as Lent}
 use Rattle.oram_redo.proofs.Logs.{all_first, all_rest, entries-append, length-check_bytes, length-entry}
-use Rattle.oram_redo.proofs.Moments.{same_content, started}
+use Rattle.oram_redo.proofs.Moments.{same_content, started, then_leaves}
 
 pub length-eight : (n : ℕ) → length (eight_bytes n) ≡ 8
 unfolding eight_bytes
@@ -34,11 +39,33 @@ length-head p =
     let said = length-eights (length p.before ∷ length p.table ∷ length p.after ∷ check_of p.before p.after ∷ []) in
     omega (arith, length-append (lengths p) (check_bytes (lengths p)), length-check_bytes (lengths p), said)
 
+-- two pieces that are put one behind the other are put as one
+put_each : (title before : List ℕ) (at : ℕ) (c : Content) (i : ℕ) → put before (at + length title) (put title at c) i ≡ put (title ++ before) at c i
+put_each [] before at c i = let none : at + 0 ≡ at = omega arith in ap (λ (k : ℕ). put before k c i) none
+put_each (b ∷ title) before at c i =
+    let later : at + suc (length title) ≡ suc at + length title = omega arith in
+    elim (cases_eq i at) [
+      | inl same ↦
+          let outside : put before (at + suc (length title)) (put (b ∷ title) at c) i ≡ put (b ∷ title) at c i =
+          put_outside before (at + suc (length title)) (put (b ∷ title) at c) i (inl (omega (arith, same))) in
+          grind (arith, nat_tests)
+      | inr other ↦
+          let past : put (b ∷ title) at c i ≡ put title (suc at) c i = grind (arith, nat_tests) in
+          let heals = put_heals before (at + suc (length title)) (put (b ∷ title) at c) (put title (suc at) c) i (λ out. past) in
+          let moved = ap (λ (k : ℕ). put before k (put title (suc at) c) i) later in
+          let rest = put_each title before (suc at) c i in
+          let behind : put (title ++ before) (suc at) c i ≡ put (b ∷ (title ++ before)) at c i = grind (arith, nat_tests) in
+          heals ∙ moved ∙ rest ∙ behind
+    ]
+
+put_twice : (title before : List ℕ) (at : ℕ) (c : Content) → put before (at + length title) (put title at c) ≡ put (title ++ before) at c
+put_twice title before at c = same_content _ _ (λ i. put_each title before at c i)
+
 -- Once the batch is put, the text is held.
-pub held : (old : List ℕ) (p : Parts) (pages : List Patch) (head : List ℕ) (c : Content) → HaveRoom p → head ≡ head_of p
+pub held : (old : List ℕ) (p : Parts) (title rest : List ℕ) (pages : List Patch) (head : List ℕ) (c : Content) → p.before ≡ title ++ rest → HaveRoom p → head ≡ head_of p
     → ((d : Content) → HasTable old d → HasTable p.table (put_all pages d)) → HasTable old c
-    → Holds p (put_all (batch_for pages p head) c)
-held old p pages head c room is written has =
+    → Holds p (put_all (batch_for pages p title rest head) c)
+held old p title rest pages head c split room is written has =
     subst (λ (e : Content). Holds p e) (sym whole)
     (record {
       room = room;
@@ -66,27 +93,43 @@ held old p pages head c room is written has =
     long : length head ≡ 40
     long = ap length is ∙ length-head p
 
-    whole : put_all (batch_for pages p head) c ≡ put head 4096 (put p.after (after_at p) (put p.before (before_at p) (put_all pages c)))
-    whole = put_all-append pages ((before_at p, p.before) ∷ (after_at p, p.after) ∷ (4096, head) ∷ []) c
+    whole : put_all (batch_for pages p title rest head) c ≡ put head 4096 (put p.after (after_at p) (put p.before (before_at p) (put_all pages c)))
+    whole =
+        put_all-append pages ((before_at p, title) ∷ (before_at p + length title, rest) ∷ (after_at p, p.after) ∷ (4096, head) ∷ []) c
+        ∙ ap (λ (e : Content). put head 4096 (put p.after (after_at p) e)) (put_twice title rest (before_at p) d1 ∙ ap (λ (l : List ℕ). put l (before_at p) d1) (sym split))
 
     unchanged : (x : ℕ) → 8192 ≤ x → x < before_at p → put head 4096 d3 x ≡ d1 x
     unchanged x from to =
         put_outside head 4096 d3 x (inr (omega (arith, long))) ∙ put_outside p.after (after_at p) d2 x (inl (omega arith)) ∙ put_outside p.before (before_at p) d1 x (inl to)
 
--- the batch, put together from its parts
-pub spelled : (p : Parts) (lent pages : List Patch) (before after : ℕ) (head_lent head : List ℕ) → lent ≡ pages → before ≡ before_at p → after ≡ after_at p → head_lent ≡ head
-    → lent ++ (before, p.before) ∷ (after, p.after) ∷ (4096, head_lent) ∷ [] ≡ batch_for pages p head
-spelled p lent pages before after head_lent head same first second third = λ i. same i ++ (first i, p.before) ∷ (second i, p.after) ∷ (4096, third i) ∷ []
+-- the batch, of a text that is lent
+pub lent_batch : {p q : Parts} {title title' before before' : List ℕ} (pages : List Patch) (head : List ℕ) → p ≡ q → title ≡ title' → before ≡ before' → batch_for pages p title before head ≡ batch_for pages q title' before' head
+lent_batch pages head parts first second = λ i. batch_for pages (parts i) (first i) (second i) head
+
+-- another patch of a batch was put
+pub one_more : (xs : List Lent) (k : ℕ) (d : Lent) (old mid new : Content) → k < length xs → Agrees mid (put_all (lent_patches (take k xs)) old)
+    → Agrees new (put (get_or xs k d).bytes.now (get_or xs k d).at mid) → Agrees new (put_all (lent_patches (take (k + 1) xs)) old)
+one_more xs k d old mid new within was wrote i =
+    let p = get_or xs k d in
+    wrote i ∙ put_heals p.bytes.now p.at mid (put_all (lent_patches (take k xs)) old) i (λ out. was i) ∙ ap (λ (c : Content). c i) (sym (put_all_more xs k d old within))
+
+pub on_ok : {T E P Q : Type 0} (result : Result T E) → OnOk result P → (P → Q) → OnOk result Q
+on_ok (Ok x) p next = next p
+on_ok (Err e) p next = tt
 
 -- the batch fits
-pub batch_fits : (p : Parts) (pages : List Patch) (head : List ℕ) → HaveRoom p → length head ≡ 40 → AreWithin (pages_for (length p.table)) pages
-    → All (Fits bounds) (batch_for pages p head)
-batch_fits p pages head room long within =
-    All-append (Fits bounds) pages ((before_at p, p.before) ∷ (after_at p, p.after) ∷ (4096, head) ∷ [])
+pub batch_fits : (p : Parts) (title rest : List ℕ) (pages : List Patch) (head : List ℕ) → p.before ≡ title ++ rest → HaveRoom p → length head ≡ 40 → AreWithin (pages_for (length p.table)) pages
+    → All (Fits bounds) (batch_for pages p title rest head)
+batch_fits p title rest pages head split room long within =
+    let both : length p.before ≡ length title + length rest = ap length split ∙ length-append title rest in
+    All-append (Fits bounds) pages ((before_at p, title) ∷ (before_at p + length title, rest) ∷ (after_at p, p.after) ∷ (4096, head) ∷ [])
     (λ k d below. let ends = within.ends k d below in record { within = omega (arith, ends.before, room.table); place_fits = omega (arith, ends.before, room.table); length_fits = omega (arith, ends.short) })
-    (All-cons (Fits bounds) (before_at p, p.before) ((after_at p, p.after) ∷ (4096, head) ∷ []) (record { within = omega (arith, room.before, room.table); place_fits = omega (arith, room.table); length_fits = room.before })
+    (All-cons (Fits bounds) (before_at p, title) ((before_at p + length title, rest) ∷ (after_at p, p.after) ∷ (4096, head) ∷ [])
+    (record { within = omega (arith, both, room.before, room.table); place_fits = omega (arith, room.table); length_fits = omega (arith, both, room.before) })
+    (All-cons (Fits bounds) (before_at p + length title, rest) ((after_at p, p.after) ∷ (4096, head) ∷ [])
+    (record { within = omega (arith, both, room.before, room.table); place_fits = omega (arith, both, room.before, room.table); length_fits = omega (arith, both, room.before) })
     (All-cons (Fits bounds) (after_at p, p.after) ((4096, head) ∷ []) (record { within = omega (arith, room.before, room.table, room.after); place_fits = omega (arith, room.table, room.before); length_fits = room.after })
-    (all_one (Fits bounds) (4096, head) (record { within = omega (arith, long); place_fits = omega arith; length_fits = omega (arith, long) }))))
+    (all_one (Fits bounds) (4096, head) (record { within = omega (arith, long); place_fits = omega arith; length_fits = omega (arith, long) })))))
 
 -- a text that was kept is found in files that stand for its records
 pub found : (p : Parts) (r : Content) (c : Contents) → Holds p r → StandsFor bounds [] r c → Finds bounds p c
@@ -126,6 +169,12 @@ kept_after model q k (Ok x) c holds table bounded consistent same = record {
 }
 kept_after model q k (Err e) c holds table bounded consistent same = tt
 
+-- nothing more is written
+pub nothing_later : {F : Type 0} (model : FileModel F) (P : Contents → Type 0) (old mid late : F) → LeavesOnly model old mid P → WritesNothing model mid late
+    → ((t : ℕ) (c : Contents) → t ≤ model.moment mid → model.may_leave mid c → model.left_since mid t c) → LeavesOnly model old late P
+nothing_later model P old mid late first nothing counts_now =
+    then_leaves model old mid late P (model.may_leave mid) first nothing.moments (λ c now. first.each c (counts_now (model.moment old) c first.later now))
+
 -- the entries of patches of at most 1,024 bytes each
 entries_short : (ps : List Patch) (k : ℕ) → All (Ends k) ps → length (entries ps) ≤ 1045 * length ps
 entries_short [] k each = omega arith
@@ -133,14 +182,18 @@ entries_short (p ∷ ps) k each =
     omega (arith, (all_first (Ends k) p ps each).short, entries_short ps k (all_rest (Ends k) p ps each), length-append (entry p) (entries ps), length-entry p)
 
 -- the log has room for each batch of a text that has room
-pub batch_has_room : (p : Parts) (pages : List Patch) (head : List ℕ) → HaveRoom p → length head ≡ 40 → AreWithin (pages_for (length p.table)) pages → length pages ≤ pages_for (length p.table)
-    → 4096 + 2 ^ 26 + length (entries (batch_for pages p head)) < 2 ^ 40
-batch_has_room p pages head room long within few =
+pub batch_has_room : (p : Parts) (title rest : List ℕ) (pages : List Patch) (head : List ℕ) → p.before ≡ title ++ rest → HaveRoom p → length head ≡ 40 → AreWithin (pages_for (length p.table)) pages
+    → length pages ≤ pages_for (length p.table)
+    → 4096 + 2 ^ 26 + length (entries (batch_for pages p title rest head)) < 2 ^ 40
+batch_has_room p title rest pages head split room long within few =
     let last : List Patch = (4096, head) ∷ [] in
     let after : List Patch = (after_at p, p.after) ∷ last in
-    let before : List Patch = (before_at p, p.before) ∷ after in
+    let between : List Patch = (before_at p + length title, rest) ∷ after in
+    let before : List Patch = (before_at p, title) ∷ between in
     omega (
       arith,
+      ap length split,
+      length-append title rest,
       room.before,
       room.table,
       room.after,
@@ -149,8 +202,10 @@ batch_has_room p pages head room long within few =
       entries_short pages (pages_for (length p.table)) within.ends,
       ap length (entries-append pages before),
       length-append (entries pages) (entries before),
-      length-append (entry (before_at p, p.before)) (entries after),
-      length-entry (before_at p, p.before),
+      length-append (entry (before_at p, title)) (entries between),
+      length-entry (before_at p, title),
+      length-append (entry (before_at p + length title, rest)) (entries after),
+      length-entry (before_at p + length title, rest),
       length-append (entry (after_at p, p.after)) (entries last),
       length-entry (after_at p, p.after),
       length-append (entry (4096, head)) (entries []),

@@ -1,3 +1,5 @@
+pub mod Checks
+pub mod FirstText
 pub mod Tables
 pub mod Written
 pub mod Held
@@ -6,6 +8,5 @@ pub mod Heads
 pub mod Numbers
 pub mod Texts
 pub mod Opened
-pub mod Created
 pub mod Known
 pub mod WorkedRows

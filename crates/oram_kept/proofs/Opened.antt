@@ -6,10 +6,12 @@ use Rattle.oram_kept.specs.Opening.{FindsSame, IsNotOpened}
 use Rattle.oram_kept.specs.Text.{Parts}
 use Rattle.oram_kept.specs.declared.opening.OpenError.{OpenError}
 use Rattle.oram_kept.specs.declared.opening.OpenError.TheVariants as opening
-use Rattle.oram_redo.specs.Content.{Content}
+use Rattle.oram_redo.specs.Content.{Agrees, Content}
 use Rattle.oram_redo.specs.FilePair.{ComesAfter, Contents, FileModel, HasFailed, LeavesOnly, WritesNothing}
-use Rattle.oram_redo.specs.Log.{HasOddGate, StandsAlike, StandsFor}
+use Rattle.oram_redo.specs.Log.{HasOddGate, Keeps as LogKeeps, StandsAlike, StandsFor}
 use Rattle.oram_redo.specs.Redo.{IsCrashConsistent, bounds_of}
+use Rattle.oram_redo.specs.declared.bounds.Bounds.{Bounds}
+use Rattle.oram_redo.specs.declared.redo.Redo.{Redo}
 use Rattle.oram_redo.specs.declared.faults.RedoError.{RedoError}
 use Rattle.oram_redo.specs.declared.faults.RedoError.TheVariants as error
 use Rattle.oram_redo.specs.declared.file_pair.FileKind.TheVariants.{Log, Records}
@@ -25,8 +27,11 @@ pub found_is_held : (p : Parts) (r : Content) (files : Contents) → StandsFor b
 found_is_held p r files stands finds = subst (λ (s : Content). Holds p s) (same_records finds.records r files finds.stands stands) finds.holds
 
 -- files that stand for the same records have the same text
+one_text_in : (r : Content) (old new : Contents) → StandsFor bounds [] r old → StandsFor bounds [] r new → FindsSame old new
+one_text_in r old new was is p finds = record { records = r; stands = is; holds = found_is_held p r old was finds }
+
 pub alike_finds : (old new : Contents) → StandsAlike bounds old new → FindsSame old new
-alike_finds old new alike p finds = record { records = alike.records; stands = alike.is; holds = found_is_held p alike.records old alike.was finds }
+alike_finds old new alike = one_text_in alike.records old new alike.was alike.is
 
 module _ {F : Type 0} (model : FileModel F) where
   pub text_stays : (old new : F) → LeavesOnly model old new (λ c. model.may_leave old c ⊎ StandsAlike bounds (model.seen old) c)
@@ -49,6 +54,22 @@ module _ {F : Type 0} (model : FileModel F) where
   keeps_on p mid k sure goes_on nothing holds table bounded = record {
     consistent = goes_on [] sure;
     holds = subst (λ (c : Content). Holds p c) (sym (same_content (model.seen k.files Records) (model.seen mid Records) (nothing.seen_same Records))) holds;
+    table = table;
+    bounded = bounded;
+  }
+
+  -- the log is emptied after that
+  pub emptied_on : (redo : Redo) (old mid new : F) → LeavesOnly model old mid (λ c. model.may_leave old c ⊎ FindsSame (model.seen old) c) → StandsFor bounds [] (model.seen mid Records) (model.seen old)
+      → bounds_of redo ≡ bounds → LeavesOnly model mid new (LogKeeps (bounds_of redo) [] (model.seen mid)) → LeavesOnly model old new (λ c. model.may_leave old c ⊎ FindsSame (model.seen old) c)
+  emptied_on redo old mid new first stands bounded second =
+      then_leaves model old mid new (λ c. model.may_leave old c ⊎ FindsSame (model.seen old) c) _ first second
+      (λ c keeps. inr (one_text_in (model.seen mid Records) (model.seen old) c stands (subst (λ (b : Bounds). StandsFor b [] (model.seen mid Records) c) bounded keeps.stands)))
+
+  pub keeps_emptied : (p : Parts) (mid : F) (k : KeptValue F) → IsCrashConsistent model k.redo [] k.files → Agrees (model.seen k.files Records) (model.seen mid Records) → Holds p (model.seen mid Records)
+      → k.table ≡ p.table → bounds_of k.redo ≡ bounds → Keeps model p k
+  keeps_emptied p mid k sure same holds table bounded = record {
+    consistent = sure;
+    holds = subst (λ (c : Content). Holds p c) (sym (same_content (model.seen k.files Records) (model.seen mid Records) same)) holds;
     table = table;
     bounded = bounded;
   }
@@ -91,4 +112,16 @@ module _ {F : Type 0} (model : FileModel F) where
     damaged = λ is. absurd (⊎_elim (λ memory. cc) (λ rest. ⊎_elim (λ io. cc) (λ other. cc) rest) which);
     failed = λ is. failed_later old mid new first (failed is);
     which = ⊎_elim (λ memory. inl memory) (λ rest. ⊎_elim (λ io. inr (inl io)) (λ other. inr (inr (inr other))) rest) which;
+  }
+
+  -- the log can't be emptied
+  pub not_emptied : (e : RedoError) (old mid new : F) → e ≡ error.Failed → ComesAfter model old mid → ComesAfter model mid new → HasFailed model mid new
+      → (model.is_honest new → LeavesOnly model old new (λ c. model.may_leave old c ⊎ FindsSame (model.seen old) c)) → IsNotOpened model (opening.Files e) old new
+  not_emptied e old mid new is first second failed moments = record {
+    after = comes_then old mid new first second;
+    any_moment = moments;
+    none = λ none. cc;
+    damaged = λ damaged. cc;
+    failed = λ so. failed_later old mid new first failed;
+    which = inr (inl (ap opening.Files is));
   }

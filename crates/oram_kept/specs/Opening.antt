@@ -1,14 +1,12 @@
 -- The outcomes of opening the files of a text.
 use Rattle.std.specs.Prelude.{◌≡◌, ◌⊎◌, List, Result, IfErr, IsErrOf}
-use Rattle.oram_redo.specs.FilePair.{ComesAfter, Contents, FileModel, HasFailed, LeavesOnly, Rises, WritesNothing}
+use Rattle.oram_redo.specs.FilePair.{ComesAfter, Contents, FileModel, HasFailed, LeavesOnly, WritesNothing}
 use Rattle.oram_redo.specs.Log.{HasOddGate, Patch}
 use Rattle.oram_redo.specs.Redo.{IsCrashConsistent}
-use Rattle.oram_redo.specs.declared.faults.RedoError.{RedoError}
-use Rattle.oram_redo.specs.declared.faults.RedoError.TheVariants.{Damaged, Failed, LogFull, Memory, NoRoom}
+use Rattle.oram_redo.specs.declared.faults.RedoError.TheVariants.{Damaged, Failed, Memory}
 use Rattle.oram_redo.specs.declared.file_pair.FileKind.TheVariants.{Log}
 use Rattle.oram_redo.specs.declared.redo.Redo.{Redo}
 use Rattle.oram_kept.specs.Kept.{Finds, bounds}
-use Rattle.oram_kept.specs.Layout.{HaveRoom}
 use Rattle.oram_kept.specs.Text.{Parts}
 use Rattle.oram_kept.specs.declared.opening.OpenError.{OpenError}
 use Rattle.oram_kept.specs.declared.opening.OpenError.TheVariants.{Files, NoText}
@@ -38,11 +36,3 @@ pub record IsNotOpened {F : Type 0} (model : FileModel F) (why : OpenError) (old
   pub damaged : why ≡ Files Damaged → model.is_honest new → (p : Parts) → Finds bounds p (model.seen old) → HasOddGate bounds (model.seen old Log)
   pub failed : why ≡ Files Failed → HasFailed model old new
   pub which : (why ≡ Files Memory) ⊎ (why ≡ Files Failed) ⊎ (why ≡ Files Damaged) ⊎ (why ≡ NoText)
-
--- No text was made of empty files, for this reason. `new` is what they are when they are dropped.
-pub record IsNotCreated {F : Type 0} (model : FileModel F) (p : Parts) (why : RedoError) (old new : F) : Type 0 where
-  pub after : ComesAfter model old new
-  pub failed : why ≡ Failed → HasFailed model old new
-  pub no_room : why ≡ NoRoom → Rises model.shortages old new
-  pub full : why ≡ LogFull → HaveRoom p → ⊥
-  pub no_damage : model.is_honest new → why ≡ Damaged → ⊥

@@ -7,7 +7,7 @@ use Rattle.oram_kept.specs.declared.text.TextParts.{TextParts}
 use Rattle.oram_redo.specs.Log.{Patch, Spares}
 
 abbrev pub parts_of : TextParts → Parts
-parts_of text = record { before = text.before.now; table = text.table.now; after = text.after.now }
+parts_of text = record { before = text.title.now ++ text.before.now; table = text.table.now; after = text.after.now }
 
 -- a page as a patch of the redo log
 abbrev pub patch_of : Page → Patch
@@ -16,9 +16,9 @@ patch_of page = (page.at, page.bytes.items)
 abbrev pub patches_of : List Page → List Patch
 patches_of pages = map patch_of pages
 
--- the batch of a keeping: the pages that change, the texts around the table, and the head
-abbrev pub batch_for : List Patch → Parts → List ℕ → List Patch
-batch_for pages p head = pages ++ (before_at p, p.before) ∷ (after_at p, p.after) ∷ (4096, head) ∷ []
+-- the batch of a keeping: the pages that change, the text before the table, in two pieces, the one behind it, and the head
+abbrev pub batch_for : List Patch → Parts → List ℕ → List ℕ → List ℕ → List Patch
+batch_for pages p title before head = pages ++ (before_at p, title) ∷ (before_at p + length title, before) ∷ (after_at p, p.after) ∷ (4096, head) ∷ []
 
 -- the patch is for a page whose numbers differ in two tables
 abbrev pub IsOfChange : List ℕ → List ℕ → Patch → Type 0

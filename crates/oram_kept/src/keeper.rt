@@ -1,8 +1,9 @@
 //! Keeps one text after the other, with a note of those that may be found.
-ghost use Rattle.std.specs.Prelude.{◌≡◌, ◌⊎◌, ◌∷◌, [], ℕ, IfErr, IfOk, IsErrOf, OnErr, OnOk, false, true};
+ghost use Rattle.std.specs.Prelude.{◌≡◌, ◌⊎◌, ◌∷◌, [], IfErr, IfOk, IsErrOf, OnErr, OnOk, false, true};
 ghost use Rattle.oram_kept.specs.Keeper.{FindsOneOf, Knows};
+ghost use Rattle.oram_kept.specs.Kept.{Finds, bounds};
 ghost use Rattle.oram_kept.specs.Layout.{HaveRoom};
-ghost use Rattle.oram_kept.specs.Opening.{FindsSame, IsNotCreated, IsNotOpened};
+ghost use Rattle.oram_kept.specs.Opening.{FindsSame, IsNotOpened};
 ghost use Rattle.oram_kept.specs.Pages.{parts_of};
 ghost use Rattle.oram_kept.specs.Reading.{parts_around};
 ghost use Rattle.oram_redo.specs.FilePair.{ComesAfter, HasFailed, LeavesOnly, Rises};
@@ -12,6 +13,7 @@ use crate::opening::OpenError;
 use crate::reading::Around;
 use crate::text::TextParts;
 use crate::text_history::TextHistory;
+use oram_pair::Generation;
 use oram_redo::{FilePair, RedoError};
 use std::alloc::Global;
 use std::marker::Model;
@@ -33,22 +35,14 @@ impl<F: FilePair> Model for TextKeeper<F> {
 }
 
 impl<F: FilePair + Drop> TextKeeper<F> {
-    /// Makes two empty files those of a text, as [`KeptText::create`] does.
-    pub fn create(alloc: Global, files: F, text: &TextParts<'_>) -> Result<TextKeeper<F>, RedoError>
-        requires empty { (file : _) (i : ℕ) → F.model.seen files file i ≡ 0 }
-        ensures texts { IfOk result (λ keeper. keeper.texts ≡ parts_of text.now ∷ []) }
-        ensures knows { IfOk result (λ keeper. F.model.is_honest keeper.kept.files → Knows F.model keeper) }
-        ensures err { IfErr result (λ why. (last : F) × IsNotCreated F.model (parts_of text.now) why files last) }
-    {
-        let kept = KeptText::create(alloc, files, text)?;
-        let mut history = TextHistory::new();
-        history.note(text.before, text.table, text.after);
-        Ok(TextKeeper { kept, history })
-    }
-
     /// Opens the files of a text, as [`KeptText::open`] does, and reads it. Its table stays in what is returned first.
-    pub fn open(alloc: Global, files: F) -> Result<(TextKeeper<F>, Around), OpenError>
+    pub fn open(
+        alloc: Global,
+        files: F,
+        generation: Generation,
+    ) -> Result<(TextKeeper<F>, Around), OpenError>
         ensures texts { IfOk result (λ opened. opened.0.texts ≡ parts_around opened.0.kept.table opened.1 ∷ []) }
+        ensures found { IfOk result (λ opened. F.model.is_honest opened.0.kept.files → Finds bounds (parts_around opened.0.kept.table opened.1) (F.model.seen files)) }
         ensures knows { IfOk result (λ opened. F.model.is_honest opened.0.kept.files → Knows F.model opened.0) }
 
         // A crash at any moment leaves what an earlier one might have left, or files with the same text.
@@ -56,9 +50,9 @@ impl<F: FilePair + Drop> TextKeeper<F> {
             → LeavesOnly F.model files opened.0.kept.files (λ c. F.model.may_leave files c ⊎ FindsSame (F.model.seen files) c)) }
         ensures err { IfErr result (λ why. (last : F) × IsNotOpened F.model why files last) }
     {
-        let (kept, around) = KeptText::open(alloc, files)?;
+        let (kept, around) = KeptText::open(alloc, files, generation)?;
         let mut history = TextHistory::new();
-        history.note(&around.before, kept.table(), &around.after);
+        history.note(&[], &around.before, kept.table(), &around.after);
         Ok((TextKeeper { kept, history }, around))
     }
 }
@@ -69,6 +63,11 @@ impl<F: FilePair> TextKeeper<F> {
         ensures { result.now ≡ self.now.kept.table }
     {
         self.kept.table()
+    }
+
+    /// Returns the number of the system's error for which a call of the files failed last, if the system gave one.
+    pub fn errno(&self) -> Option<i32> {
+        self.kept.errno()
     }
 
     /// Returns whether a call has failed, so that nothing more is kept until the files are opened again.
@@ -98,11 +97,13 @@ impl<F: FilePair> TextKeeper<F> {
         match self.kept.keep(text) {
             Ok(()) => {
                 self.history.forget();
-                self.history.note(text.before, text.table, text.after);
+                self.history
+                    .note(text.title, text.before, text.table, text.after);
                 Ok(())
             }
             Err(error) => {
-                self.history.note(text.before, text.table, text.after);
+                self.history
+                    .note(text.title, text.before, text.table, text.after);
                 Err(error)
             }
         }

@@ -1,30 +1,39 @@
 //! A text that is kept in a pair of files.
 ghost use Rattle.std.specs.Prelude.{◌≡◌, ◌⊎◌, ◌<◌, ◌≤◌, ◌+◌, ◌^◌, ◌++◌, ◌∷◌, [], ℕ, All, IfErr, IfOk, IsErr, IsErrOf, OnErr, OnOk, false, length, true};
 ghost use Rattle.oram_kept.specs.Kept.{FindsEither, Keeps, StandsEither, bounds};
-ghost use Rattle.oram_kept.specs.Layout.{HasTable, HaveRoom, head_of, pages_for};
-ghost use Rattle.oram_kept.specs.Opening.{IsNotCreated};
+ghost use Rattle.oram_kept.specs.Layout.{HasTable, HaveRoom, Holds, head_of, pages_for};
 ghost use Rattle.oram_kept.specs.Text.{Parts};
-ghost use Rattle.oram_kept.specs.Pages.{AreWithin, parts_of, patches_of as pages_of};
-ghost use Rattle.oram_redo.specs.Batch.{patch_of, patches_of};
+ghost use Rattle.oram_kept.specs.Pages.{AreWithin, batch_for, parts_of, patches_of as pages_of};
+ghost use Rattle.oram_redo.specs.Batch.{patches_of};
 ghost use Rattle.oram_redo.specs.Content.{Agrees, Content};
-ghost use Rattle.oram_redo.specs.FilePair.{ComesAfter, Contents, HasFailed, LeavesOnly, Rises};
+ghost use Rattle.oram_redo.specs.FilePair.{ComesAfter, Contents, HasFailed, LeavesOnly, Rises, WritesNothing};
 ghost use Rattle.oram_redo.specs.Log.{Fits, StandsFor, entries, put_all};
 ghost use Rattle.oram_redo.specs.Redo.{IsCrashConsistent, bounds_of, end_of};
-ghost use Rattle.oram_redo.specs.declared.file_pair.FileKind.TheVariants.{Records};
+ghost use Rattle.oram_redo.specs.declared.file_pair.FileKind.TheVariants.{Log, Records};
 
 use crate::head::HEAD_AT;
 use crate::pages::{Page, all_pages, changed_pages};
 use crate::reading::{Around, Text};
 use crate::text::TextParts;
-use oram_redo::{Bounds, FileKind, FilePair, Patch, Redo, RedoError, SHUT, recover};
+use oram_pair::{Generation, PairFormat, PairLetters};
+use oram_redo::{Bounds, FileKind, FilePair, Patch, Redo, RedoError};
 use std::alloc::{AllocError, Global};
 use std::marker::Model;
 
 /// Where the log and the text stand in their files.
-pub const BOUNDS: Bounds = Bounds {
+const BOUNDS: Bounds = Bounds {
     log_start: 1 << 12,
     log_end: 1 << 40,
     records_end: 1 << 62,
+};
+
+/// How the pair of files of a text is laid out: the letters of its two files, with the version 1, and its bounds.
+pub const FORMAT: PairFormat = PairFormat {
+    letters: PairLetters {
+        records: *b"VIDLAQEC\x01\0\0\0\0\0\0\0",
+        log: *b"VIDLAQCL\x01\0\0\0\0\0\0\0",
+    },
+    bounds: BOUNDS,
 };
 
 /// How long the log's entries may be before a keeping, in bytes. A longer log is emptied first.
@@ -36,6 +45,8 @@ pub struct KeptText<F: FilePair> {
     alloc: Global,
     files: F,
     redo: Redo,
+    /// The generation of the log, which both fronts say. No clause says what fronts hold.
+    generation: Generation,
     /// The table as it was kept last.
     table: Vec<u32>,
     /// Whether a call has failed, so that the files have to be opened again.
@@ -101,27 +112,78 @@ fn change_for(
     Ok(Change { pages, head })
 }
 
-/// Returns the batch of a keeping: the pages that change, and behind them the patches of the two texts around the table and of the head.
-fn batch_of<'a>(
-    alloc: Global,
-    pages: &'a [Page],
-    before: Patch<'a>,
-    after: Patch<'a>,
-    head: Patch<'a>,
-) -> Result<Vec<Patch<'a>>, AllocError>
-    ensures { IfOk result (λ batch. patches_of batch.items ≡ pages_of pages.now ++ patch_of before.entry ∷ patch_of after.entry ∷ patch_of head.entry ∷ []) }
-{
-    let mut batch = Vec::with_capacity(alloc, pages.len().saturating_add(3))?;
-    for page in pages {
+impl Change {
+    /// Returns the batch of a keeping: the pages that change, and behind them the patches of the texts around the table and of the head.
+    fn batch_of<'a>(
+        &'a self,
+        alloc: Global,
+        text: TextParts<'a>,
+    ) -> Result<Vec<Patch<'a>>, AllocError>
+        requires { HaveRoom (parts_of text) }
+        ensures { IfOk result (λ batch. patches_of batch.items ≡ batch_for (pages_of self.now.pages.items) (parts_of text.entry) text.entry.title.now text.entry.before.now self.now.head.items) }
+    {
+        let mut batch = Vec::with_capacity(alloc, self.pages.len().saturating_add(4))?;
+        for page in &self.pages {
+            batch.push(Patch {
+                at: page.at,
+                bytes: &page.bytes,
+            })?;
+        }
         batch.push(Patch {
-            at: page.at,
-            bytes: &page.bytes,
+            at: text.before_at(),
+            bytes: text.title,
         })?;
+        batch.push(Patch {
+            at: text.behind_title_at(),
+            bytes: text.before,
+        })?;
+        batch.push(Patch {
+            at: text.after_at(),
+            bytes: text.after,
+        })?;
+        batch.push(Patch {
+            at: HEAD_AT,
+            bytes: &self.head,
+        })?;
+        Ok(batch)
     }
-    batch.push(before)?;
-    batch.push(after)?;
-    batch.push(head)?;
-    Ok(batch)
+}
+
+/// Writes the patches of a batch to their places in the file of records. Nothing is synced.
+fn write_all<F: FilePair>(files: &mut F, batch: &[Patch]) -> Result<(), RedoError>
+    ensures records { OnOk result (Agrees (F.model.seen files.new Records) (put_all (patches_of batch.now) (F.model.seen files.old Records))) }
+    ensures log { Agrees (F.model.seen files.new Log) (F.model.seen files.old Log) }
+    ensures failed { IsErrOf result RedoError.Failed → HasFailed F.model files.old files.new }
+    ensures no_room { IsErrOf result RedoError.NoRoom → Rises F.model.shortages files.old files.new }
+    ensures errors { IfErr result (λ e. (e ≡ RedoError.NoRoom) ⊎ (e ≡ RedoError.Failed)) }
+    ensures after { ComesAfter F.model files.old files.new }
+{
+    for patch in batch {
+        files.write_at(FileKind::Records, patch.at, patch.bytes)?;
+    }
+    Ok(())
+}
+
+/// Writes the first text of new files, whose log has no entries, to its places. Nothing is synced: a crash may leave any part of it, and there is
+/// nothing yet that could be lost.
+pub fn write_first<F: FilePair>(
+    alloc: Global,
+    files: &mut F,
+    text: &TextParts<'_>,
+) -> Result<(), RedoError>
+    ensures holds { OnOk result (Holds (parts_of text.now) (F.model.seen files.new Records)) }
+    ensures front { OnOk result ((i : ℕ) → i < bounds.log_start → F.model.seen files.new Records i ≡ F.model.seen files.old Records i) }
+    ensures log { Agrees (F.model.seen files.new Log) (F.model.seen files.old Log) }
+    ensures failed { IsErrOf result RedoError.Failed → HasFailed F.model files.old files.new }
+    ensures no_room { IsErrOf result RedoError.NoRoom → Rises F.model.shortages files.old files.new }
+    ensures damaged { IsErrOf result RedoError.Damaged → ⊥ }
+    ensures full { IsErrOf result RedoError.LogFull → HaveRoom (parts_of text.now) → ⊥ }
+    ensures after { ComesAfter F.model files.old files.new }
+{
+    let mut table = Vec::new(alloc);
+    let change = change_for(alloc, &mut table, text)?;
+    let batch = change.batch_of(alloc, text.lent())?;
+    write_all(files, &batch)
 }
 
 /// Empties the log if it is long.
@@ -141,11 +203,30 @@ fn shorten<F: FilePair>(files: &mut F, redo: &mut Redo) -> Result<(), RedoError>
     redo.restart(files)
 }
 
+/// Before the first entry of a log, begins a new generation of it, so that a copy of the log without entries is told from the log that has them.
+fn begin<F: FilePair>(
+    files: &mut F,
+    redo: &Redo,
+    generation: &mut Generation,
+) -> Result<(), RedoError>
+    ensures nothing_written { WritesNothing F.model files.old files.new }
+    ensures failed { IsErrOf result RedoError.Failed → HasFailed F.model files.old files.new }
+    ensures no_room { IsErrOf result RedoError.NoRoom → Rises F.model.shortages files.old files.new }
+    ensures errors { IfErr result (λ e. (e ≡ RedoError.NoRoom) ⊎ (e ≡ RedoError.Failed)) }
+    ensures after { ComesAfter F.model files.old files.new }
+{
+    if !redo.is_empty() {
+        return Ok(());
+    }
+    generation.begin_next(&FORMAT.letters, files)
+}
+
 /// Commits a batch, after it has emptied a log that is long. A crash at any moment leaves all of the batch or nothing of it.
 fn commit<F: FilePair>(
     alloc: Global,
     files: &mut F,
     redo: &mut Redo,
+    generation: &mut Generation,
     batch: &[Patch],
 ) -> Result<(), RedoError>
     requires { All (Fits (bounds_of redo.old)) (patches_of batch.now) }
@@ -161,39 +242,20 @@ fn commit<F: FilePair>(
     ensures after { ComesAfter F.model files.old files.new }
 {
     shorten(files, redo)?;
+    begin(files, redo, generation)?;
     redo.commit(alloc, files, batch)
 }
 
-impl<F: FilePair + Drop> KeptText<F> {
-    /// Makes two empty files those of a text. After an error they are to be made again.
-    pub fn create(
-        alloc: Global,
-        mut files: F,
-        text: &TextParts<'_>,
-    ) -> Result<KeptText<F>, RedoError>
-        requires empty { (file : _) (i : ℕ) → F.model.seen files file i ≡ 0 }
-        ensures kept { IfOk result (λ kept. F.model.is_honest kept.files → Keeps F.model (parts_of text.now) kept) }
-        ensures goes_on { IfOk result (λ kept. kept.has_stopped ≡ false) }
-        ensures after { IfOk result (λ kept. ComesAfter F.model files kept.files) }
-        ensures err { IfErr result (λ why. (last : F) × IsNotCreated F.model (parts_of text.now) why files last) }
-    {
-        files.write_at(FileKind::Log, BOUNDS.log_start, &[SHUT])?;
-        let redo = recover(alloc, &mut files, BOUNDS)?;
-        let mut kept = KeptText {
-            alloc,
-            files,
-            redo,
-            table: Vec::new(alloc),
-            has_stopped: false,
-        };
-        kept.put(text)?;
-        Ok(kept)
-    }
-}
-
 impl<F: FilePair> KeptText<F> {
-    /// Makes what keeps a text of opened files and of the text that was read from them, and returns what stands around its table, too.
-    pub(crate) fn over(alloc: Global, files: F, redo: Redo, text: Text) -> (KeptText<F>, Around)
+    /// Makes what keeps a text of opened files, whose log has this generation, and of the text that was read from them, and returns what stands
+    /// around its table, too.
+    pub(crate) fn over(
+        alloc: Global,
+        files: F,
+        redo: Redo,
+        generation: Generation,
+        text: Text,
+    ) -> (KeptText<F>, Around)
         requires { bounds_of redo ≡ bounds }
         ensures { result ≡ (record { files = files; redo = redo; table = text.table.items; has_stopped = false }, text.around) }
     {
@@ -201,6 +263,7 @@ impl<F: FilePair> KeptText<F> {
             alloc,
             files,
             redo,
+            generation,
             table: text.table,
             has_stopped: false,
         };
@@ -216,6 +279,11 @@ impl<F: FilePair> KeptText<F> {
 }
 
 impl<F: FilePair> KeptText<F> {
+    /// Returns the number of the system's error for which a call of the files failed last, if the system gave one.
+    pub fn errno(&self) -> Option<i32> {
+        self.files.errno()
+    }
+
     /// Returns whether a call has failed, so that nothing more is kept until the files are opened again.
     pub fn has_stopped(&self) -> bool
         ensures { result ≡ self.now.has_stopped }
@@ -238,20 +306,9 @@ impl<F: FilePair> KeptText<F> {
     {
         let alloc = self.alloc;
         let change = change_for(alloc, &mut self.table, text)?;
-        let before = Patch {
-            at: text.before_at(),
-            bytes: text.before,
-        };
-        let after = Patch {
-            at: text.after_at(),
-            bytes: text.after,
-        };
-        let head = Patch {
-            at: HEAD_AT,
-            bytes: &change.head,
-        };
-        let batch = batch_of(alloc, &change.pages, before, after, head)?;
-        commit(alloc, &mut self.files, &mut self.redo, &batch)
+        let batch = change.batch_of(alloc, text.lent())?;
+        let (redo, generation) = (&mut self.redo, &mut self.generation);
+        commit(alloc, &mut self.files, redo, generation, &batch)
     }
 
     /// Keeps a text in place of the one before. Writes what has changed of the table, and the texts around it.

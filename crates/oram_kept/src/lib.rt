@@ -17,8 +17,8 @@ mod text;
 mod text_history;
 
 pub use keeper::TextKeeper;
-pub use kept_text::{BOUNDS, KeptText};
-pub use laws::{first_life, one_text, rows};
+pub use kept_text::{FORMAT, KeptText, write_first};
+pub use laws::{first_life, one_text, rows, written_files_hold};
 pub use opening::OpenError;
 pub use reading::Around;
 pub use text::{TextParts, check_of};

@@ -11,9 +11,10 @@ ghost use Rattle.oram_redo.specs.Redo.{IsCrashConsistent};
 ghost use Rattle.oram_redo.specs.declared.file_pair.FileKind.TheVariants.{Records};
 
 use crate::head::{HEAD_AT, HEAD_LEN, Head};
-use crate::kept_text::{BOUNDS, KeptText};
+use crate::kept_text::{FORMAT, KeptText};
 use crate::pages::TABLE_AT;
 use crate::reading::{Around, Text, text_in};
+use oram_pair::Generation;
 use oram_redo::{FilePair, Redo, RedoError, recover};
 use std::alloc::{AllocError, Global};
 use std::fmt;
@@ -76,8 +77,13 @@ fn read_text<F: FilePair>(alloc: Global, files: &mut F, redo: &Redo) -> Result<T
 
 impl<F: FilePair + Drop> KeptText<F> {
     /// Opens the files of a text, as a crash or an end has left them, and reads the text. Its table stays in what is returned first
-    /// ([`KeptText::table`]).
-    pub fn open(alloc: Global, mut files: F) -> Result<(KeptText<F>, Around), OpenError>
+    /// ([`KeptText::table`]). Their fronts say this generation of the log. The log is empty then, so that a copy of it that was made before is told
+    /// from the log that goes on.
+    pub fn open(
+        alloc: Global,
+        mut files: F,
+        generation: Generation,
+    ) -> Result<(KeptText<F>, Around), OpenError>
         // It is the text that was kept last, and is kept again from then on.
         ensures found { IfOk result (λ opened. F.model.is_honest opened.0.files → Finds bounds (parts_around opened.0.table opened.1) (F.model.seen files)) }
         ensures kept { IfOk result (λ opened. F.model.is_honest opened.0.files → Keeps F.model (parts_around opened.0.table opened.1) opened.0) }
@@ -91,8 +97,9 @@ impl<F: FilePair + Drop> KeptText<F> {
         // On an error, the files are dropped. `NoText` comes only if they are those of no text.
         ensures err { IfErr result (λ why. (last : F) × IsNotOpened F.model why files last) }
     {
-        let redo = recover(alloc, &mut files, BOUNDS)?;
+        let mut redo = recover(alloc, &mut files, FORMAT.bounds)?;
         let text = read_text(alloc, &mut files, &redo)?;
-        Ok(KeptText::over(alloc, files, redo, text))
+        redo.restart(&mut files)?;
+        Ok(KeptText::over(alloc, files, redo, generation, text))
     }
 }

@@ -101,7 +101,7 @@ pub(crate) fn text_in(alloc: Global, head: &Head, body: &[u8]) -> Result<Option<
     };
     fit(&table);
     let (before, after) = texts.split_at(head.before as usize);
-    if check_of(before, after) != head.check {
+    if check_of(&[], before, after) != head.check {
         return Ok(None);
     }
     let around = Around {

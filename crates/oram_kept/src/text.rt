@@ -1,5 +1,5 @@
 //! A text with a table of numbers in it, and what the file's head says of it.
-ghost use Rattle.std.specs.Prelude.{◌≡◌, ◌↔◌, ◌<◌, ◌^◌, All, IfOk, IsTrue, length};
+ghost use Rattle.std.specs.Prelude.{◌≡◌, ◌↔◌, ◌<◌, ◌^◌, ◌++◌, ◌+◌, All, IfOk, IsTrue, length};
 ghost use Rattle.oram_kept.specs.Layout.{HaveRoom, after_at, before_at, check_of, head_of};
 ghost use Rattle.oram_kept.specs.Pages.{parts_of};
 
@@ -11,18 +11,22 @@ use std::hash::{DefaultHasher, Hasher};
 /// The parts of a text: what stands before its table, the numbers of the table, and what stands behind it.
 #[derive(Clone, Copy, Debug)]
 pub struct TextParts<'a> {
+    /// The first bytes of the text. They are apart from those that follow so that nobody has to copy the two together.
+    pub title: &'a [u8],
+    /// The other bytes before the table.
     pub before: &'a [u8],
     pub table: &'a [u32],
     pub after: &'a [u8],
 }
 
-/// Returns the checksum of the text before a table and the one behind it.
-#[tactic(auto, unfolding(crate::specs::Layout::check_of))]
-pub fn check_of(before: &[u8], after: &[u8]) -> u64
-    ensures value { result ≡ check_of before.now after.now }
+/// Returns the checksum of the text before a table, which has a title and more bytes, and of the text behind the table.
+#[tactic(auto, using(crate::proofs::Checks::checked_in_parts))]
+pub fn check_of(title: &[u8], before: &[u8], after: &[u8]) -> u64
+    ensures value { result ≡ check_of (title.now ++ before.now) after.now }
     ensures small { result < 2 ^ 64 }
 {
     let mut hasher = DefaultHasher::new();
+    hasher.write(title);
     hasher.write(before);
     hasher.write(after);
     hasher.finish()
@@ -34,13 +38,45 @@ pub(crate) fn fit(_table: &[u32])
 {}
 
 impl TextParts<'_> {
+    /// Lends the parts for as long as this borrow lasts.
+    pub(crate) fn lent(&self) -> TextParts<'_>
+        ensures parts { parts_of result ≡ parts_of self.now }
+        ensures pieces { (result.title.now ≡ self.now.title.now) × (result.before.now ≡ self.now.before.now) }
+    {
+        TextParts {
+            title: self.title,
+            before: self.before,
+            table: self.table,
+            after: self.after,
+        }
+    }
+
     /// Returns whether each part has fewer than 2^32 bytes or numbers, as the file has room for.
     pub(crate) fn have_room(&self) -> bool
         ensures { IsTrue result ↔ HaveRoom (parts_of self.now) }
     {
         fit(self.table);
         let most = u32::MAX as usize;
-        self.before.len() <= most && self.table.len() <= most && self.after.len() <= most
+        self.title.len() <= most
+            && self.before.len() <= most - self.title.len()
+            && self.table.len() <= most
+            && self.after.len() <= most
+    }
+
+    /// Returns how many bytes stand before the table.
+    fn before_len(&self) -> u64
+        requires { HaveRoom (parts_of self.now) }
+        ensures { result ≡ length (parts_of self.now).before }
+    {
+        (self.title.len() + self.before.len()) as u64
+    }
+
+    /// Returns the place of the bytes between the title and the table.
+    pub(crate) fn behind_title_at(&self) -> u64
+        requires { HaveRoom (parts_of self.now) }
+        ensures { result ≡ before_at (parts_of self.now) + length self.now.title.now }
+    {
+        self.before_at() + self.title.len() as u64
     }
 
     /// Returns the place of the text before the table.
@@ -56,18 +92,19 @@ impl TextParts<'_> {
         requires { HaveRoom (parts_of self.now) }
         ensures { result ≡ after_at (parts_of self.now) }
     {
-        self.before_at() + self.before.len() as u64
+        self.before_at() + self.before_len()
     }
 
     /// Returns the bytes of the head.
     pub(crate) fn head(&self, alloc: Global) -> Result<Vec<u8>, AllocError>
+        requires { HaveRoom (parts_of self.now) }
         ensures { IfOk result (λ head. head.items ≡ head_of (parts_of self.now)) }
     {
         let head = Head {
-            before: self.before.len() as u64,
+            before: self.before_len(),
             table: self.table.len() as u64,
             after: self.after.len() as u64,
-            check: check_of(self.before, self.after),
+            check: check_of(self.title, self.before, self.after),
         };
         head.encode(alloc)
     }

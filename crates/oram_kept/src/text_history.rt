@@ -1,5 +1,5 @@
 //! A list of texts that only contracts read.
-ghost use Rattle.std.specs.Prelude.{◌≡◌, ◌∷◌, [], List};
+ghost use Rattle.std.specs.Prelude.{◌≡◌, ◌∷◌, ◌++◌, [], List};
 ghost use Rattle.std.specs.Borrow.{ftrue};
 ghost use Rattle.oram_kept.specs.Text.{Parts};
 
@@ -31,7 +31,7 @@ impl TextHistory {
     {}
 
     /// Notes a text that may be found.
-    pub(crate) fn note(&mut self, _before: &[u8], _table: &[u32], _after: &[u8])
-        ensures { self.new.texts ≡ (record { before = _before.now; table = _table.now; after = _after.now }) ∷ self.old.texts }
+    pub(crate) fn note(&mut self, _title: &[u8], _before: &[u8], _table: &[u32], _after: &[u8])
+        ensures { self.new.texts ≡ (record { before = _title.now ++ _before.now; table = _table.now; after = _after.now }) ∷ self.old.texts }
     {}
 }

@@ -1,4 +1,4 @@
-use Rattle.std.proofs.Common.{◌≡◌, ℕ, ◌+◌, ◌^◌, ◌≤◌, [], List, length, ap, sym, subst, ◌∙◌, arith}
+use Rattle.std.proofs.Common.{◌≡◌, ℕ, ◌+◌, ◌^◌, ◌≤◌, [], List, length, refl, ap, sym, subst, ◌∙◌, arith}
 use Rattle.std.specs.Prelude.{All}
 use Rattle.oram_redo.specs.Batch.{patches_of}
 use Rattle.oram_redo.specs.Content.{Content}
@@ -13,7 +13,7 @@ use Rattle.oram_kept.specs.Kept.{FindsEither, Keeps, KeptValue, StandsEither, bo
 use Rattle.oram_kept.specs.Layout.{HasTable, Holds}
 use Rattle.oram_kept.specs.Pages.{batch_for, parts_of, patch_of, patches_of as pages_of}
 use Rattle.oram_kept.specs.Text.{Parts}
-use Rattle.oram_kept.proofs.Held.{batch_fits, batch_has_room, found_either, held, kept_after, length-head, nothing_done, spelled}
+use Rattle.oram_kept.proofs.Held.{batch_fits, batch_has_room, found_either, held, kept_after, length-head, lent_batch, nothing_done}
 use Rattle.oram_kept.proofs.kept_text.KeptText.put.Goals as goal
 
 pub returns-in_err-change-clause-any_moment : goal.returns-in_err-change-clause-any_moment
@@ -38,12 +38,11 @@ pub commit-requires : goal.commit-requires
 commit-requires g c =
     let q : Parts = parts_of c.args.text.now in
     let change = c.in_ok-change.change in
-    let batch : patches_of c.deref-3.result.now ≡ batch_for (pages_of change.pages.items) q change.head.items =
-    ap patches_of c.deref-3.ensures.value ∙ c.in_ok-batch.ensures
-    ∙ spelled q _ (pages_of change.pages.items) _ _ _ change.head.items (ap pages_of c.deref-2.ensures.value) c.before_at.ensures c.after_at.ensures c.deref.ensures.value in
-    let fits : All (Fits bounds) (batch_for (pages_of change.pages.items) q change.head.items) =
-    batch_fits q (pages_of change.pages.items) change.head.items c.in_ok-change.ensures.room (ap length c.in_ok-change.ensures.head ∙ length-head q) c.in_ok-change.ensures.within in
-    subst (λ (b : Bounds). All (Fits b) (patches_of c.deref-3.result.now)) (sym c.self.invariant) (subst (λ (ps : List Patch). All (Fits bounds) ps) (sym batch) fits)
+    let batch : patches_of c.deref.result.now ≡ batch_for (pages_of change.pages.items) q c.args.text.now.title.now c.args.text.now.before.now change.head.items =
+    ap patches_of c.deref.ensures.value ∙ c.in_ok-batch.ensures ∙ lent_batch (pages_of change.pages.items) change.head.items c.lent.ensures.parts c.lent.ensures.pieces.0 c.lent.ensures.pieces.1 in
+    let fits : All (Fits bounds) (batch_for (pages_of change.pages.items) q c.args.text.now.title.now c.args.text.now.before.now change.head.items) =
+    batch_fits q c.args.text.now.title.now c.args.text.now.before.now (pages_of change.pages.items) change.head.items refl c.in_ok-change.ensures.room (ap length c.in_ok-change.ensures.head ∙ length-head q) c.in_ok-change.ensures.within in
+    subst (λ (b : Bounds). All (Fits b) (patches_of c.deref.result.now)) (sym c.self.invariant) (subst (λ (ps : List Patch). All (Fits bounds) ps) (sym batch) fits)
 
 pub returns-clause-ok : goal.returns-clause-ok
 returns-clause-ok g c consistent has =
@@ -52,15 +51,14 @@ returns-clause-ok g c consistent has =
     let q : Parts = parts_of c.args.text.now in
     let change = c.in_ok-change.change in
     let seen : Content = model.seen c.self.inside.files Records in
-    let batch : patches_of c.deref-3.result.now ≡ batch_for (pages_of change.pages.items) q change.head.items =
-    ap patches_of c.deref-3.ensures.value ∙ c.in_ok-batch.ensures
-    ∙ spelled q _ (pages_of change.pages.items) _ _ _ change.head.items (ap pages_of c.deref-2.ensures.value) c.before_at.ensures c.after_at.ensures c.deref.ensures.value in
+    let batch : patches_of c.deref.result.now ≡ batch_for (pages_of change.pages.items) q c.args.text.now.title.now c.args.text.now.before.now change.head.items =
+    ap patches_of c.deref.ensures.value ∙ c.in_ok-batch.ensures ∙ lent_batch (pages_of change.pages.items) change.head.items c.lent.ensures.parts c.lent.ensures.pieces.0 c.lent.ensures.pieces.1 in
     let has_inside : HasTable c.self.inside.table.items seen = subst (λ (v : KeptValue g.row.F.Denot). HasTable v.table (model.seen v.files Records)) (sym c.self.view_is) has in
     let sure : IsCrashConsistent model c.self.inside.redo [] c.self.inside.files = subst (λ (v : KeptValue g.row.F.Denot). IsCrashConsistent model v.redo [] v.files) (sym c.self.view_is) consistent in
-    let holds : Holds q (put_all (patches_of c.deref-3.result.now) seen) =
+    let holds : Holds q (put_all (patches_of c.deref.result.now) seen) =
     subst (λ (ps : List Patch). Holds q (put_all ps seen)) (sym batch)
-    (held c.self.inside.table.items q (pages_of change.pages.items) change.head.items seen c.in_ok-change.ensures.room c.in_ok-change.ensures.head c.in_ok-change.ensures.pages has_inside) in
-    kept_after model q _ c.commit.result (put_all (patches_of c.deref-3.result.now) seen) holds c.in_ok-change.ensures.table (c.commit.ensures.bounds ∙ c.self.invariant)
+    (held c.self.inside.table.items q c.args.text.now.title.now c.args.text.now.before.now (pages_of change.pages.items) change.head.items seen refl c.in_ok-change.ensures.room c.in_ok-change.ensures.head c.in_ok-change.ensures.pages has_inside) in
+    kept_after model q _ c.commit.result (put_all (patches_of c.deref.result.now) seen) holds c.in_ok-change.ensures.table (c.commit.ensures.bounds ∙ c.self.invariant)
     (c.commit.ensures.consistent sure) c.commit.ensures.records
 
 pub returns-clause-any_moment : goal.returns-clause-any_moment
@@ -71,28 +69,26 @@ returns-clause-any_moment g c p keeps =
     let q : Parts = parts_of c.args.text.now in
     let change = c.in_ok-change.change in
     let seen : Content = model.seen c.self.inside.files Records in
-    let batch : patches_of c.deref-3.result.now ≡ batch_for (pages_of change.pages.items) q change.head.items =
-    ap patches_of c.deref-3.ensures.value ∙ c.in_ok-batch.ensures
-    ∙ spelled q _ (pages_of change.pages.items) _ _ _ change.head.items (ap pages_of c.deref-2.ensures.value) c.before_at.ensures c.after_at.ensures c.deref.ensures.value in
+    let batch : patches_of c.deref.result.now ≡ batch_for (pages_of change.pages.items) q c.args.text.now.title.now c.args.text.now.before.now change.head.items =
+    ap patches_of c.deref.ensures.value ∙ c.in_ok-batch.ensures ∙ lent_batch (pages_of change.pages.items) change.head.items c.lent.ensures.parts c.lent.ensures.pieces.0 c.lent.ensures.pieces.1 in
     let has : HasTable c.self.inside.table.items seen = subst (λ (t : List ℕ). HasTable t seen) (sym kept.table) kept.holds.table in
-    let holds : Holds q (put_all (patches_of c.deref-3.result.now) seen) =
+    let holds : Holds q (put_all (patches_of c.deref.result.now) seen) =
     subst (λ (ps : List Patch). Holds q (put_all ps seen)) (sym batch)
-    (held c.self.inside.table.items q (pages_of change.pages.items) change.head.items seen c.in_ok-change.ensures.room c.in_ok-change.ensures.head c.in_ok-change.ensures.pages has) in
+    (held c.self.inside.table.items q c.args.text.now.title.now c.args.text.now.before.now (pages_of change.pages.items) change.head.items seen refl c.in_ok-change.ensures.room c.in_ok-change.ensures.head c.in_ok-change.ensures.pages has) in
     subst (λ (v : KeptValue g.row.F.Denot). LeavesOnly model v.files c.commit.new.files (FindsEither bounds p q)) c.self.view_is
     (leads_to model c.self.inside.files c.commit.new.files _ (FindsEither bounds p q) (c.commit.ensures.any_moment kept.consistent)
-    (λ d stands. found_either p q seen (put_all (patches_of c.deref-3.result.now) seen) d kept.holds holds
-    (subst (λ (b : Bounds). StandsEither b seen (put_all (patches_of c.deref-3.result.now) seen) d) c.self.invariant stands)))
+    (λ d stands. found_either p q seen (put_all (patches_of c.deref.result.now) seen) d kept.holds holds
+    (subst (λ (b : Bounds). StandsEither b seen (put_all (patches_of c.deref.result.now) seen) d) c.self.invariant stands)))
 
 pub returns-clause-full : goal.returns-clause-full
 returns-clause-full g c full room =
     let q : Parts = parts_of c.args.text.now in
     let change = c.in_ok-change.change in
-    let batch : patches_of c.deref-3.result.now ≡ batch_for (pages_of change.pages.items) q change.head.items =
-    ap patches_of c.deref-3.ensures.value ∙ c.in_ok-batch.ensures
-    ∙ spelled q _ (pages_of change.pages.items) _ _ _ change.head.items (ap pages_of c.deref-2.ensures.value) c.before_at.ensures c.after_at.ensures c.deref.ensures.value in
-    let short = batch_has_room q (pages_of change.pages.items) change.head.items room (ap length c.in_ok-change.ensures.head ∙ length-head q) c.in_ok-change.ensures.within
+    let batch : patches_of c.deref.result.now ≡ batch_for (pages_of change.pages.items) q c.args.text.now.title.now c.args.text.now.before.now change.head.items =
+    ap patches_of c.deref.ensures.value ∙ c.in_ok-batch.ensures ∙ lent_batch (pages_of change.pages.items) change.head.items c.lent.ensures.parts c.lent.ensures.pieces.0 c.lent.ensures.pieces.1 in
+    let short = batch_has_room q c.args.text.now.title.now c.args.text.now.before.now (pages_of change.pages.items) change.head.items refl room (ap length c.in_ok-change.ensures.head ∙ length-head q) c.in_ok-change.ensures.within
     (omega (arith, length-map change.pages.items patch_of, c.in_ok-change.ensures.few)) in
-    let over : 2 ^ 40 ≤ 4096 + 2 ^ 26 + length (entries (batch_for (pages_of change.pages.items) q change.head.items)) =
+    let over : 2 ^ 40 ≤ 4096 + 2 ^ 26 + length (entries (batch_for (pages_of change.pages.items) q c.args.text.now.title.now c.args.text.now.before.now change.head.items)) =
     subst (λ (ps : List Patch). 2 ^ 40 ≤ 4096 + 2 ^ 26 + length (entries ps)) batch
-    (subst (λ (b : Bounds). b.log_end ≤ b.log_start + 2 ^ 26 + length (entries (patches_of c.deref-3.result.now))) c.self.invariant (c.commit.ensures.full full)) in
+    (subst (λ (b : Bounds). b.log_end ≤ b.log_start + 2 ^ 26 + length (entries (patches_of c.deref.result.now))) c.self.invariant (c.commit.ensures.full full)) in
     omega (arith, short, over)

@@ -1,0 +1,14 @@
+use Rattle.oram_kept.specs.Pages.{parts_of}
+use Rattle.oram_keeper.proofs.Texts.{text_is}
+use Rattle.oram_keeper.proofs.first_process.FirstProcessFill.fill.Goals as goal
+use Rattle.std.proofs.Common.{refl}
+
+pub returns-in-Ok-clause-filled : goal.returns-in-Ok-clause-filled
+returns-in-Ok-clause-filled g c =
+    let first = c.args.self.now in
+    let p = parts_of (record { title = first.title; before = first.text.before; table = first.text.table; after = first.text.after }) in
+    record {
+      text = p;
+      is = text_is first.title.now first.text.before.now first.text.table.now first.text.after.now p refl;
+      holds = c.in-Ok.ensures.holds;
+    }

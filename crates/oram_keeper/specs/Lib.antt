@@ -1,0 +1,2 @@
+pub mod Process
+pub mod Laws
