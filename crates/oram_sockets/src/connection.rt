@@ -95,6 +95,20 @@ impl<T: OpenStream> OpenStream for Connection<T> {
         }
     }
 
+    fn read_timeout(&self) -> io::Result<Option<Duration>> {
+        match self {
+            Connection::Tcp(stream) => stream.read_timeout(),
+            Connection::Unix(stream) => stream.read_timeout(),
+        }
+    }
+
+    fn write_timeout(&self) -> io::Result<Option<Duration>> {
+        match self {
+            Connection::Tcp(stream) => stream.write_timeout(),
+            Connection::Unix(stream) => stream.write_timeout(),
+        }
+    }
+
     fn try_clone(&self) -> io::Result<Connection<T>> {
         Ok(match self {
             Connection::Tcp(stream) => Connection::Tcp(stream.try_clone()?),
