@@ -81,9 +81,8 @@ pub fn sync_folder<R: Files>(rt: &R, folder: &str) -> io::Result<()> {
 /// A file that is replaced as a whole: written under another name first, then renamed. It allocates both names at the
 /// start, so that a save doesn't fail because there is no memory for a name.
 ///
-/// Two other files get their names in the same way, each by steps of its own. `FilePlace` of `oram_client` notes each step
-/// for the contracts, and may leave out the syncs. `oram_store` makes a file and its log: it renames the log, and then the
-/// file, which it has locked before anybody can open it by its name.
+/// `oram_pair` makes a file and its log in the same way, by steps of its own: it renames the log, and then the file, which it
+/// has locked before anybody can open it by its name.
 #[derive(Debug, Drop)]
 pub struct AtomicFile {
     name: String,

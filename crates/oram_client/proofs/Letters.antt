@@ -1,11 +1,9 @@
--- The parts of a kept file, one after the other.
-use Rattle.std.proofs.Common.{◌≡◌, ℕ, Bool, true, length, nat_eq, List, ◌∷◌, ◌++◌, sym, ap, ◌∙◌, take, drop, take-append-drop}
-use Rattle.std.proofs.lemmas.Bool.Decides.{Decides-eqb}
-use Rattle.std.proofs.lemmas.List.{drop_at}
-use Rattle.std.proofs.lemmas.Slice.Eq.{starts_is}
-use Rattle.std.specs.List.{starts_with}
-use Rattle.oram_client.specs.declared.kept_file.Head.{Head}
-use Rattle.oram_client.specs.KeptFile.{BeginsWith, IsHead, behind_letters, sealer_byte}
+-- The parts of a head, one after the other.
+use Rattle.std.proofs.Common.{◌≡◌, ℕ, List, [], ◌∷◌, ◌++◌, length, sym, ap, arith, ◌∙◌, slice_set, take, drop, take-append-drop}
+use Rattle.std.proofs.lemmas.List.{drop_at, set-append_right, set_at, take_at}
+use borrow.Rule.Slice.PartMut.{put_mid}
+use Rattle.oram_client.specs.declared.disk_head.Head.{Head}
+use Rattle.oram_client.specs.DiskHead.{IsHead, behind_letters, sealer_byte}
 
 -- two parts of 32 bytes, and what follows them
 pub joined : (rest salt behind check others : List ℕ) → salt ≡ take 32 rest → behind ≡ drop 32 rest → check ≡ take 32 behind → others ≡ drop 32 behind → rest ≡ salt ++ (check ++ others)
@@ -21,8 +19,11 @@ parted head process rest behind others is whole after last =
     let one : behind ≡ head.key_check.0 ++ tail = after ∙ ap (drop 32) whole ∙ drop_at head.salt.0 (head.key_check.0 ++ tail) 32 is.salt in
     last ∙ ap (drop 32) one ∙ drop_at head.key_check.0 tail 32 is.key_check
 
--- what a test of a file's front says
-pub begins : (file letters : List ℕ) (r : Bool) → r ≡ starts_with nat_eq file letters → (r ≡ true → BeginsWith letters file) × (BeginsWith letters file → r ≡ true)
-begins file letters r is =
-    let both = starts_is Decides-eqb file letters r is in
-    ((λ e. (drop (length letters) file, both.0 e)), (λ b. both.1 b.0 b.1))
+-- a salt and a key check that were written over zeros, and the byte of the sealer behind them
+pub titled : (salt check zeros : List ℕ) (byte : ℕ) → length salt ≡ 32 → length check ≡ 32 → drop 32 zeros ≡ 0 ∷ [] → slice_set (put_mid 32 32 (salt ++ zeros) check) 64 byte ≡ salt ++ (check ++ byte ∷ [])
+titled salt check zeros byte salt_len check_len last =
+    let front : take 32 (salt ++ zeros) ≡ salt = take_at salt zeros 32 salt_len in
+    let behind : drop 32 (drop 32 (salt ++ zeros)) ≡ 0 ∷ [] = ap (λ (l : List ℕ). drop 32 l) (drop_at salt zeros 32 salt_len) ∙ last in
+    let parts : put_mid 32 32 (salt ++ zeros) check ≡ salt ++ (check ++ 0 ∷ []) =
+    ap (λ (l : List ℕ). l ++ (check ++ drop 32 (drop 32 (salt ++ zeros)))) front ∙ ap (λ (l : List ℕ). salt ++ (check ++ l)) behind in
+    ap (λ (l : List ℕ). slice_set l 64 byte) parts ∙ set-append_right salt (check ++ 0 ∷ []) 32 64 byte salt_len (omega arith) ∙ ap (λ (l : List ℕ). salt ++ l) (set_at check 0 [] byte 32 check_len)

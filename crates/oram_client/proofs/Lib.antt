@@ -7,18 +7,13 @@ pub mod Streamed
 pub mod Formatted
 pub mod Greeted
 pub mod Tries
+pub mod TakenIn
 pub mod SentAhead
 pub mod AskedAhead
 pub mod OneHostTries
 pub mod Reached
 pub mod TwoTries
 pub mod Letters
-pub mod Whole
-pub mod PowerLoss
-pub mod NamesNow
-pub mod ReadBack
-pub mod NextProcess
-pub mod FolderExample
 pub mod Between
 pub mod TakenStamps
 pub mod TreesApart
@@ -26,5 +21,3 @@ pub mod StampedHost
 pub mod TreesApartExample
 pub mod Rows
 pub mod StampedExample
-pub mod Checksums
-pub mod Tables

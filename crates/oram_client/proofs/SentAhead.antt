@@ -8,6 +8,8 @@ use Rattle.oram_pipeline.specs.Pipelines.{EndsBatch}
 use Rattle.oram_rounds.specs.Batches.{BatchOutcome, batch_outcome_of, texts}
 use Rattle.oram_client.specs.AnswerLengths.{DiskSizes, longest_answer}
 use Rattle.oram_client.specs.StreamBatches.{AreReceived, AreSent, Connection, FailsToSendAll, StopsAfter, StreamAsk, StreamBatch, cut_short}
+use Rattle.std.specs.Io.KnownBytes.{Keeps}
+use Rattle.std.proofs.KnownBytes.{Keeps-refl}
 use Rattle.std.proofs.lemmas.Bool.{true≢false}
 use Rattle.oram_client.proofs.Carried.{a_batch, carried}
 
@@ -19,7 +21,7 @@ module _ {R W : Type 0} (remaining : R → Option (List ℕ)) (contents : W → 
   unsent_batch (Ok u) l m bodies unclosed closes unread same fails = fails
   unsent_batch (Err fault) l m bodies unclosed closes unread same fails = (
     cut_short bodies [] fault,
-    a_batch remaining contents l m bodies (Err fault) (cut_short bodies [] fault) unclosed closes same ([], refl, inl (record { none = refl; wrote = fails; unread = unread })),
+    a_batch remaining contents l m bodies (Err fault) (cut_short bodies [] fault) unclosed closes same ([], refl, inl (record { none = refl; wrote = fails; unread = subst (λ (r : R). Keeps (remaining l.reader) (remaining r)) (sym unread) (Keeps-refl (remaining l.reader)) })),
   )
 
   -- what was received ends the batch of the messages that were sent

@@ -1,6 +1,5 @@
-pub mod KeptFile
+pub mod DiskHead
 pub mod Keys
-pub mod FileKeeper
 pub mod Reconnect
 pub mod Pipelined
 pub mod StreamBatches
@@ -13,14 +12,7 @@ pub mod AnswerLengths
 pub mod Faults
 pub mod Identity
 pub mod Formatting
-pub mod Replacement
-pub mod PowerLoss
-pub mod DeedHistory
-pub mod FilePlace
 pub mod NamedFiles
-pub mod NewFile
-pub mod NextProcess
-pub mod FolderExample
 pub mod Attempts
 pub mod StampMessages
 pub mod Stamped

@@ -1,6 +1,6 @@
 -- A connection over a reader and a writer that carries several messages at once.
 use Rattle.std.specs.Prelude.{◌≡◌, ◌⊎◌, ℕ, ◌<◌, ◌≤◌, Bool, false, ◌||◌, ⊤, List, [], ◌∷◌, ◌++◌, length, take, Option, Ok, Err, is_err, MatchBool}
-use Rattle.std.specs.Io.KnownBytes.{Appends, Consumes}
+use Rattle.std.specs.Io.KnownBytes.{Appends, Consumes, Keeps}
 use Rattle.std.specs.List.{All, flat_map}
 use Rattle.oram_wire.specs.FrameStream.{IsBody, frame}
 use Rattle.oram_wire.specs.FrameIo.{GivesCutFrame, GivesEnd, GivesFrame, GivesHead, GivesLongHead, GivesPart}
@@ -119,7 +119,7 @@ module _ {R W : Type 0} (remaining : R → Option (List ℕ)) (contents : W → 
   pub record AreUnsent (reader : R) (writer : W) (bodies answers : List (List ℕ)) (fault : LinkFault) (reader' : R) (writer' : W) : Type 0 where
     pub none : answers ≡ []
     pub wrote : FailsToSendAll contents writer bodies fault writer'
-    pub unread : reader' ≡ reader
+    pub unread : Keeps (remaining reader) (remaining reader')
 
   -- The bodies were sent, and not all answers were read.
   pub record AreCutShort (longest : List ℕ → ℕ) (reader : R) (writer : W) (bodies answers : List (List ℕ)) (fault : LinkFault) (reader' : R) (writer' : W) : Type 0 where

@@ -2,7 +2,7 @@
 ghost use Rattle.std.specs.Prelude.{◌≡◌, ◌↔◌, IfOk, IsOk};
 ghost use Rattle.oram_client.specs.Keys as spec;
 
-use crate::kept_file::Head;
+use crate::disk_head::Head;
 use crate::keys::{
     DiskKey, Identity, SealerKey, TapeKey, disk_identity, key_check, sealer_key, stamp_key,
     tape_key,

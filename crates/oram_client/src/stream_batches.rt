@@ -1,6 +1,7 @@
 //! Batches of messages over a reader and a writer.
-ghost use Rattle.std.specs.Prelude.{◌≡◌, ◌≤◌, ◌++◌, ◌∷◌, [], ℕ, List, Err, length, true, IfOk, IfErr, OnOk};
+ghost use Rattle.std.specs.Prelude.{◌≡◌, ◌≤◌, ◌++◌, ◌∷◌, [], ℕ, List, Err, length, take, true, IfOk, IfErr, OnErr, OnOk};
 ghost use Rattle.std.specs.List.{All, flat_map};
+ghost use Rattle.std.specs.Io.KnownBytes.{Appends, Keeps};
 ghost use Rattle.oram_wire.specs.FrameStream.{IsBody, frame};
 ghost use Rattle.oram_session.specs.Outcome.{outcome_of};
 ghost use Rattle.oram_session.specs.declared.link.LinkFault.TheVariants.{Closed};
@@ -13,19 +14,19 @@ ghost use Rattle.oram_client.specs.StreamBatches.{AreAdded, AreReceived, AreSent
 use crate::answer_lengths::AnswerLengths;
 use oram_rounds::BatchLink;
 use oram_session::LinkFault;
+use oram_sockets::WriteDuplex;
 use oram_wire::{FrameFault, LONGEST_BODY, WriteFault, next_frame_within, write};
 use std::alloc::{AllocError, Global};
-use std::io::{Read, Write};
+use std::io::{ErrorKind, Read, Write};
 use std::marker::Model;
 
 /// A connection to a host at the other end of a reader and a writer. A batch is written in one piece, each message as a
 /// frame, and flushed; then its answers are read, a frame each. An answer that is longer than an honest host's is refused once its
 /// length is read. Any fault closes the connection: from then on each batch fails with `Closed`, and nothing is read or written.
 ///
-/// All messages are written before the first answer is read. This doesn't block both sides: of a client's messages only
-/// the STOREs are long, and a host answers each of them with a frame of five or six bytes, which its socket holds for
-/// it while it reads on. A FETCH or a RECORDS, whose answer is long, is a short message. So no STORE should come after one of these in
-/// a batch.
+/// While a batch is written, the writer takes in what arrives ([`WriteDuplex`]), though no more than the batch's answers may have. So
+/// a host that writes the answer to one message before it reads the next never waits for a client that waits for it, whichever
+/// messages are long and whichever answers.
 #[derive(Debug, Drop)]
 pub struct StreamBatches<R, W> {
     reader: R,
@@ -135,11 +136,83 @@ fn framed(
     Ok(frames)
 }
 
-/// Sends the bodies of all four lists as frames, in one write, and flushes them. So they leave in as few packets as they fit into,
-/// and each is copied once.
-fn send_all<W: Write>(
-    alloc: Global,
+/// Sends the bodies as frames, in one write, and flushes them. So they leave in as few packets as they fit into.
+fn send_all<W: Write>(alloc: Global, writer: &mut W, bodies: &[Vec<u8>]) -> Result<(), LinkFault>
+    ensures ok { OnOk result (AreSent W.contents writer.old (texts bodies.now) writer.new) }
+    ensures err { IfErr result (λ fault. FailsToSendAll W.contents writer.old (texts bodies.now) fault writer.new) }
+{
+    let frames = framed(alloc, &[], &[], &[], bodies)?;
+    if let Err(WriteFault) = write(writer, &frames) {
+        return Err(LinkFault::Io);
+    }
+    if writer.flush().is_err() {
+        return Err(LinkFault::Io);
+    }
+    Ok(())
+}
+
+/// Writes some of the bytes, and returns how many: none if the other side takes none yet.
+#[tactic(auto, using(crate::proofs::TakenIn::kept_appends, crate::proofs::TakenIn::appends_kept))]
+fn write_some<R: Read, W: WriteDuplex<R>>(
+    reader: &mut R,
     writer: &mut W,
+    bytes: &[u8],
+    room: usize,
+) -> Result<usize, WriteFault>
+    ensures bound { IfOk result (λ n. n ≤ length bytes.now) }
+    ensures ok { IfOk result (λ n. Appends (W.contents writer.old) (W.contents writer.new) (take n bytes.now)) }
+    ensures err { OnErr result (Keeps (W.contents writer.old) (W.contents writer.new)) }
+    ensures unread { Keeps (R.remaining reader.old) (R.remaining reader.new) }
+{
+    match writer.write_duplex(reader, bytes, room) {
+        Ok(None) => Ok(0),
+        Ok(Some(0)) => Err(WriteFault),
+        Ok(Some(count)) => Ok(count),
+        Err(error) if error.kind() == ErrorKind::Interrupted => Ok(0),
+        Err(_) => Err(WriteFault),
+    }
+}
+
+/// Writes all of the bytes, and takes in at most `room` bytes that arrive meanwhile.
+fn write_duplex<R: Read, W: WriteDuplex<R>>(
+    reader: &mut R,
+    writer: &mut W,
+    bytes: &[u8],
+    room: usize,
+) -> Result<(), WriteFault>
+    ensures ok { OnOk result (Appends (W.contents writer.old) (W.contents writer.new) bytes.now) }
+    ensures err { OnErr result ((count : ℕ) × Appends (W.contents writer.old) (W.contents writer.new) (take count bytes.now)) }
+    ensures unread { Keeps (R.remaining reader.old) (R.remaining reader.new) }
+{
+    let mut written = 0;
+    for _ in 0..u64::MAX {
+        if written == bytes.len() {
+            return Ok(());
+        }
+        let count = write_some(reader, writer, &bytes[written..], room)?;
+        written += count;
+    }
+    Err(WriteFault)
+}
+
+/// Returns how many bytes the frames of the answers to these messages have at most, or `usize::MAX` if they may have more.
+fn answers_len(lengths: &AnswerLengths, bodies: &[Vec<u8>]) -> usize {
+    let mut len: usize = 0;
+    for body in bodies {
+        len = len
+            .saturating_add(HEAD_LEN)
+            .saturating_add(lengths.longest(body));
+    }
+    len
+}
+
+/// Sends the bodies of all four lists as frames, and takes in what arrives of their answers meanwhile.
+/// The frames are one piece, so they leave in as few packets as they fit into, and each is copied once.
+fn send_duplex<R: Read, W: WriteDuplex<R>>(
+    alloc: Global,
+    reader: &mut R,
+    writer: &mut W,
+    lengths: &AnswerLengths,
     before: &[Vec<u8>],
     first: &[Vec<u8>],
     between: &[Vec<u8>],
@@ -147,9 +220,14 @@ fn send_all<W: Write>(
 ) -> Result<(), LinkFault>
     ensures ok { OnOk result (AreSent W.contents writer.old ((texts before.now ++ texts first.now) ++ (texts between.now ++ texts last.now)) writer.new) }
     ensures err { IfErr result (λ fault. FailsToSendAll W.contents writer.old ((texts before.now ++ texts first.now) ++ (texts between.now ++ texts last.now)) fault writer.new) }
+    ensures unread { Keeps (R.remaining reader.old) (R.remaining reader.new) }
 {
     let frames = framed(alloc, before, first, between, last)?;
-    if let Err(WriteFault) = write(writer, &frames) {
+    let room = answers_len(lengths, before)
+        .saturating_add(answers_len(lengths, first))
+        .saturating_add(answers_len(lengths, between))
+        .saturating_add(answers_len(lengths, last));
+    if let Err(WriteFault) = write_duplex(reader, writer, &frames, room) {
         return Err(LinkFault::Io);
     }
     if writer.flush().is_err() {
@@ -240,7 +318,7 @@ fn receive_all<R: Read>(
 }
 
 /// Sends the bodies of all four lists, and receives their answers.
-fn carry<R: Read, W: Write>(
+fn carry<R: Read, W: WriteDuplex<R>>(
     alloc: Global,
     reader: &mut R,
     writer: &mut W,
@@ -253,11 +331,11 @@ fn carry<R: Read, W: Write>(
     ensures { (exchanges : List Exchange) × Carries R.remaining W.contents (longest_answer lengths.now)
         reader.old writer.old ((texts before.now ++ texts first.now) ++ (texts between.now ++ texts last.now)) (batch_outcome_of result) exchanges reader.new writer.new }
 {
-    send_all(alloc, writer, before, first, between, last)?;
+    send_duplex(alloc, reader, writer, lengths, before, first, between, last)?;
     receive_all(alloc, reader, lengths, before, first, between, last)
 }
 
-impl<R: Read, W: Write> StreamBatches<R, W> {
+impl<R: Read, W: WriteDuplex<R>> StreamBatches<R, W> {
     /// Sends a batch as [`BatchLink::call_all`] does: the bodies of all four lists, in this order.
     pub fn call_between(
         &mut self,
@@ -298,7 +376,7 @@ impl<R: Read, W: Write> StreamBatches<R, W> {
         if self.is_closed() {
             return Err(LinkFault::Closed);
         }
-        let sent = send_all(alloc, &mut self.writer, &[], &[], &[], bodies);
+        let sent = send_all(alloc, &mut self.writer, bodies);
         self.closed = sent.is_err();
         sent
     }
@@ -325,7 +403,7 @@ impl<R: Read, W: Write> StreamBatches<R, W> {
     }
 }
 
-impl<R: Read, W: Write> BatchLink for StreamBatches<R, W> {
+impl<R: Read, W: WriteDuplex<R>> BatchLink for StreamBatches<R, W> {
     ghost use Rattle.std.specs.Prelude.{◌≡◌, []};
     ghost use Rattle.std.proofs.Common.{inl};
     ghost use Rattle.oram_client.specs.StreamBatches.{StreamBatch};

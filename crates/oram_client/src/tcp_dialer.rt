@@ -6,7 +6,7 @@ ghost use Rattle.oram_stamps.specs.Stamps.{shown_text};
 ghost use Rattle.oram_client.specs.Attempts.{attempt_of};
 ghost use Rattle.oram_client.specs.Dialer.{mismatch_trouble};
 ghost use Rattle.oram_client.specs.Stamped.{ArePutFor, CarriesStamped, ComesTo, GivesNoStamps, GivesStamps, IsCompared, IsLearnt, IsUncompared, ShowsNoStamps, TakesStamps, with_known};
-ghost use Rattle.oram_sockets.specs.Connections.{bytes_of};
+ghost use Rattle.oram_sockets.specs.Duplex.{contents_of, remaining_of};
 ghost use Rattle.oram_stamps.specs.Known.{IsMismatch, IsTakenOver, Stamps};
 ghost use Rattle.oram_stamps.specs.declared.known.Mismatch.{Mismatch};
 ghost use Rattle.oram_wire.specs.HostMessages.{answer_body, done_answer, no_room_answer, payload_answer};
@@ -24,11 +24,11 @@ use oram_cli::limit_silence;
 use oram_host::HostRefusal;
 use oram_rounds::BatchLink;
 use oram_session::LinkFault;
-use oram_sockets::{Connection, connect_to};
+use oram_sockets::{Connection, Duplex, WriteDuplex, connect_to};
 use oram_stamps::{Known, Place, Shown, StampKey, decode_shown, encode_note, masked};
 use oram_wire::{GOOD, REFUSED, fetch_header, is_done};
 use std::alloc::{AllocError, Global};
-use std::io::{Read, Write};
+use std::io::Read;
 use std::marker::Model;
 use std::net::{Net, OpenStream};
 use std::rt::Clock;
@@ -117,7 +117,7 @@ fn greeting(alloc: Global) -> Result<Vec<u8>, LinkFault>
 
 /// Asks the host over a new connection for the identity of its disk. The host has `limit` milliseconds to answer.
 /// Returns a link over the connection if the answer is `identity`.
-fn greet<S: Read + Write, C: Clock + Copy>(
+fn greet<S: Read + WriteDuplex<S>, C: Clock + Copy>(
     alloc: Global,
     reader: S,
     writer: S,
@@ -169,7 +169,7 @@ fn shown_in(answer: &[u8], key: &StampKey) -> Result<Shown, Trouble>
 }
 
 /// Asks the host for its stamps.
-fn ask_stamps<S: Read + Write, C: Clock>(
+fn ask_stamps<S: Read + WriteDuplex<S>, C: Clock>(
     alloc: Global,
     line: &mut TimedLink<S, C>,
     key: &StampKey,
@@ -248,7 +248,7 @@ impl<R> TcpDialer<R> {
 
     /// Sends a batch between the messages that put its stamp at both of the host's places. All answers but those to these two are
     /// returned.
-    fn carry_stamped<S: Read + Write, C: Clock>(
+    fn carry_stamped<S: Read + WriteDuplex<S>, C: Clock>(
         &mut self,
         alloc: Global,
         line: &mut TimedLink<S, C>,
@@ -286,12 +286,12 @@ impl<R: Net + Clock + Copy> TcpDialer<R> {
     fn compare(
         &mut self,
         alloc: Global,
-        line: &mut TimedLink<Connection<R::Stream>, R>,
+        line: &mut TimedLink<Duplex<R, Connection<R::Stream>>, R>,
         both: &Connection<R::Stream>,
         silence: u64,
     ) -> Result<(), Trouble>
-        ensures ok { OnOk result (IsCompared (bytes_of R.Stream.remaining) (bytes_of R.Stream.contents) self.old line.old line.new self.new) }
-        ensures err { IfErr result (λ trouble. (self.new ≡ self.old) × IsUncompared (bytes_of R.Stream.remaining) (bytes_of R.Stream.contents) self.old line.old trouble) }
+        ensures ok { OnOk result (IsCompared (remaining_of R.Stream.remaining) (contents_of R.Stream.contents) self.old line.old line.new self.new) }
+        ensures err { IfErr result (λ trouble. (self.new ≡ self.old) × IsUncompared (remaining_of R.Stream.remaining) (contents_of R.Stream.contents) self.old line.old trouble) }
     {
         match ask_stamps(alloc, line, &self.key) {
             Ok(shown) => match limit_silence(both, Duration::from_millis(silence)) {
@@ -311,23 +311,23 @@ impl<R: Net + Clock + Copy> Dial for TcpDialer<R> {
     ghost use Rattle.oram_stamps.specs.Known.{kept};
     ghost use Rattle.oram_stamps.specs.Note.{note_text};
     ghost use Rattle.oram_stamps.specs.Stamps.{mask};
-    ghost use Rattle.oram_sockets.specs.Connections.{bytes_of};
+    ghost use Rattle.oram_sockets.specs.Duplex.{contents_of, remaining_of};
 
-    type Line = TimedLink<Connection<R::Stream>, R>;
+    type Line = TimedLink<Duplex<R, Connection<R::Stream>>, R>;
 
-    ghost opens = { λ d _ line e. Opens (bytes_of R.Stream.remaining) (bytes_of R.Stream.contents) d line e };
+    ghost opens = { λ d _ line e. Opens (remaining_of R.Stream.remaining) (contents_of R.Stream.contents) d line e };
 
-    ghost fails = { λ d _ trouble e. FailsToOpen (bytes_of R.Stream.remaining) (bytes_of R.Stream.contents) d trouble × (e ≡ d) };
+    ghost fails = { λ d _ trouble e. FailsToOpen (remaining_of R.Stream.remaining) (contents_of R.Stream.contents) d trouble × (e ≡ d) };
 
-    ghost carries = { λ d line bodies came exchanges e line'. CarriesStamped (bytes_of R.Stream.remaining) (bytes_of R.Stream.contents) d line bodies came exchanges e line' };
+    ghost carries = { λ d line bodies came exchanges e line'. CarriesStamped (remaining_of R.Stream.remaining) (contents_of R.Stream.contents) d line bodies came exchanges e line' };
 
-    ghost asks = { λ d line bodies line'. AsksPlainly (bytes_of R.Stream.contents) d line bodies line' };
+    ghost asks = { λ d line bodies line'. AsksPlainly (contents_of R.Stream.contents) d line bodies line' };
 
     ghost notes = { λ d. note_text d.known };
 
     ghost learns = { λ d check e. e ≡ record d { known = kept d.known (mask d.key check) } };
 
-    ghost are_batches = { λ d e line line' bodies came exchanges h. carries_are_batches (bytes_of R.Stream.remaining) (bytes_of R.Stream.contents) d e line line' bodies came exchanges h };
+    ghost are_batches = { λ d e line line' bodies came exchanges h. carries_are_batches (remaining_of R.Stream.remaining) (contents_of R.Stream.contents) d e line line' bodies came exchanges h };
 
     // The model knows neither how long a pause was nor what the clock reads.
     ghost pauses = { λ d _ e. e ≡ d };
@@ -338,7 +338,7 @@ impl<R: Net + Clock + Copy> Dial for TcpDialer<R> {
         &mut self,
         alloc: Global,
         limits: Limits,
-    ) -> Result<TimedLink<Connection<R::Stream>, R>, Trouble> {
+    ) -> Result<TimedLink<Duplex<R, Connection<R::Stream>>, R>, Trouble> {
         let begin = self.now();
         let connecting = Duration::from_millis(limits.opening.min(LONGEST_CONNECTING));
         let (reader, writer) = connect_to(&self.rt, self.address.as_str(), connecting)?;
@@ -351,8 +351,8 @@ impl<R: Net + Clock + Copy> Dial for TcpDialer<R> {
         let lengths = self.lengths.copy();
         match greet(
             alloc,
-            reader,
-            writer,
+            Duplex::new(self.rt, alloc, reader),
+            Duplex::new(self.rt, alloc, writer),
             self.rt,
             left,
             lengths,
@@ -372,7 +372,7 @@ impl<R: Net + Clock + Copy> Dial for TcpDialer<R> {
     fn carry(
         &mut self,
         alloc: Global,
-        line: &mut TimedLink<Connection<R::Stream>, R>,
+        line: &mut TimedLink<Duplex<R, Connection<R::Stream>>, R>,
         first: &[Vec<u8>],
         last: &[Vec<u8>],
     ) -> Result<Vec<Vec<u8>>, Trouble> {
@@ -389,9 +389,9 @@ impl<R: Net + Clock + Copy> Dial for TcpDialer<R> {
     fn ask(
         &self,
         alloc: Global,
-        mut line: TimedLink<Connection<R::Stream>, R>,
+        mut line: TimedLink<Duplex<R, Connection<R::Stream>>, R>,
         bodies: &[Vec<u8>],
-    ) -> Sending<TimedLink<Connection<R::Stream>, R>> {
+    ) -> Sending<TimedLink<Duplex<R, Connection<R::Stream>>, R>> {
         if !self.known.is_settled() {
             return Sending::Unsent(line);
         }
@@ -404,7 +404,7 @@ impl<R: Net + Clock + Copy> Dial for TcpDialer<R> {
     fn hear(
         &self,
         alloc: Global,
-        line: &mut TimedLink<Connection<R::Stream>, R>,
+        line: &mut TimedLink<Duplex<R, Connection<R::Stream>>, R>,
         bodies: &[Vec<u8>],
     ) -> Result<Vec<Vec<u8>>, Trouble> {
         match line.hear(alloc, bodies) {

@@ -9,6 +9,7 @@ use crate::answer_lengths::AnswerLengths;
 use crate::stream_batches::StreamBatches;
 use oram_rounds::BatchLink;
 use oram_session::LinkFault;
+use oram_sockets::WriteDuplex;
 use std::alloc::{AllocError, Global};
 use std::cell::Cell;
 use std::io;
@@ -71,6 +72,20 @@ impl<S: Write, C: Clock> Write for Timed<S, C> {
 
     fn flush(&mut self) -> io::Result<()> {
         self.stream.flush()
+    }
+}
+
+impl<S: Read + WriteDuplex<S>, C: Clock> WriteDuplex<Timed<S, C>> for Timed<S, C> {
+    fn write_duplex(
+        &mut self,
+        reader: &mut Timed<S, C>,
+        bytes: &[u8],
+        room: usize,
+    ) -> io::Result<Option<usize>> {
+        match self.check_time() {
+            Ok(()) => self.stream.write_duplex(&mut reader.stream, bytes, room),
+            Err(error) => Err(error),
+        }
     }
 }
 
@@ -154,7 +169,7 @@ impl<S, C: Clock> TimedLink<S, C> {
     }
 }
 
-impl<S: Read + Write, C: Clock> TimedLink<S, C> {
+impl<S: Read + WriteDuplex<S>, C: Clock> TimedLink<S, C> {
     /// Sends a batch as [`BatchLink::call_all`] does: the bodies of all four lists, in this order.
     pub fn call_between(
         &mut self,
@@ -192,7 +207,7 @@ impl<S: Read + Write, C: Clock> TimedLink<S, C> {
     }
 }
 
-impl<S: Read + Write, C: Clock> BatchLink for TimedLink<S, C> {
+impl<S: Read + WriteDuplex<S>, C: Clock> BatchLink for TimedLink<S, C> {
     ghost use Rattle.std.specs.Prelude.{◌≡◌, []};
     ghost use Rattle.std.proofs.Common.{inl};
     ghost use Rattle.oram_client.specs.StreamBatches.{StreamBatch};
