@@ -3,3 +3,4 @@ mod Hosts
 mod Lines
 mod Rows
 mod Tallies
+mod Lasting

@@ -6,6 +6,7 @@ use Rattle.oram_wire.specs.declared.host_messages.HostAnswer.{HostAnswer}
 use Rattle.oram_wire.specs.declared.host_messages.HostAnswer.TheVariants.{Refused}
 use Rattle.oram_store.specs.FirstAnswers.{AnswersFirst}
 use Rattle.oram_store.specs.KeptRecords.{StoreValue}
+use Rattle.oram_store.specs.RecordFile.{Runs}
 use Rattle.oram_store.specs.declared.faults.StoreFault.{StoreFault}
 use Rattle.oram_store.specs.declared.faults.StoreFault.TheVariants as fault
 use Rattle.oram_disk_host.specs.Tallies.{Counts}
@@ -27,6 +28,7 @@ is_lost (Some _) = false
 pub record Serves {F : Type 0} (model : FileModel F) (before : HostedValue F) (bodies : List (List ℕ)) (answer : HostAnswer) (after : HostedValue F) : Type 0 where
   pub counts : Counts before.tally bodies (answer_body answer) after.tally
   pub answers : AnswersFirst model bodies answer before.store after.store
+  pub runs : Runs model before.store.file after.store.file
   -- once the disk has failed, nothing is answered any more, until the file is opened again
   pub is_open : is_lost before.tally.failure ≡ false
   -- if there is no room, the tally says why

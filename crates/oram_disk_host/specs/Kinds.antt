@@ -92,7 +92,7 @@ rest FileExists = codes " is there already, and is left as it is: leave --new ou
 rest Exists = codes " is there already, and is left as it is: name another folder\n"
 rest Formatted = codes " is there already, and is left as it is: to format anew, take it away, and name a new file at the host\n"
 rest NotADisk = codes " isn't the state of a disk, and is left as it is: see that the settings name the right file\n"
-rest DamagedState = codes " is damaged, and is left as it is: put back the newest copy of it, if there is one; oramdisk refuses an older one\n"
+rest DamagedState = codes ", or its log, the file beside it with -log after its name, is damaged, and both are left as they are: put back the newest copies of both, if there are any; oramdisk refuses older ones\n"
 rest OlderState = codes " is the state of a disk of an older version, and is left as it is: serve it with that version, and copy what is in it to a new disk\n"
 rest ReplacedState = codes " is an older state of its disk, and nothing was stored by it: put the newest one back; if a loss of power with sync = false took that one, the disk is lost\n"
 rest WrongKey = codes " isn't this disk's: put the one back that it was formatted with\n"

@@ -6,3 +6,4 @@ pub mod Hosts
 pub mod Tallies
 pub mod Serving
 pub mod ConnectionLine
+pub mod Lasting

@@ -24,8 +24,8 @@ use std::io::{Error, ErrorKind, Read, Write};
 use std::net::{Net, TcpStream};
 use std::os::fd::AsRawFd;
 use std::rt::{Clock, Files};
-use std::thread;
 use std::time::Duration;
+use std::{fs, thread};
 
 /// How many seconds a host waits before it tries again to open a file whose disk has failed.
 const RETRY_AFTER: u64 = 1;
@@ -310,14 +310,30 @@ fn serve_again(
     Ok(())
 }
 
+/// Serves a file, and again whenever its disk has failed, until it can't be served any more.
+fn serve_always(
+    rt: &HostRuntime,
+    listener: &Listener,
+    place: &str,
+    file: &str,
+    is_new: bool,
+) -> Result<(), Fault> {
+    serve_file(rt, listener, place, file, is_new)?;
+    for _ in 0..u64::MAX {
+        serve_again(rt, listener, place, file)?;
+    }
+    Ok(())
+}
+
 /// Keeps buckets for others, until it is ended. It listens before it opens the file, so if its place is taken, the file
-/// stays as it is.
+/// stays as it is. If it ends by itself, it takes its socket away.
 pub fn host(rt: &HostRuntime, name: String, is_new: bool) -> Result<(), Fault> {
     let HostSettings { listen, file } = settings_in(rt, name.as_str())?;
     let listener = listen_at_place(rt, listen.as_str())?;
-    serve_file(rt, &listener, listen.as_str(), file.as_str(), is_new)?;
-    for _ in 0..u64::MAX {
-        serve_again(rt, &listener, listen.as_str(), file.as_str())?;
+    let ended = serve_always(rt, &listener, listen.as_str(), file.as_str(), is_new);
+    if let Some(path) = listen.as_str().strip_prefix(UNIX) {
+        // A socket that stays is replaced by the next process.
+        let _passed_over = fs::remove_file(rt, path);
     }
-    Ok(())
+    ended
 }

@@ -222,7 +222,7 @@ impl FaultKind {
             FaultKind::NotADisk =>
                 " isn't the state of a disk, and is left as it is: see that the settings name the right file\n",
             FaultKind::DamagedState =>
-                " is damaged, and is left as it is: put back the newest copy of it, if there is one; oramdisk refuses an older one\n",
+                ", or its log, the file beside it with -log after its name, is damaged, and both are left as they are: put back the newest copies of both, if there are any; oramdisk refuses older ones\n",
             FaultKind::OlderState =>
                 " is the state of a disk of an older version, and is left as it is: serve it with that version, and copy what is in it to a new disk\n",
             FaultKind::ReplacedState =>

@@ -23,6 +23,7 @@ returns-clause-ok g c =
       served_by g.F.FilePair.model _ _ _ _ _ c.self.view_is (record {
         counts = record { messages = counts.messages; received = counts.received; sent = counts.sent };
         answers = call.ok.3;
+        runs = call.runs;
         is_open = ap (λ (v : HostedValue g.row.F.Denot). is_lost v.tally.failure) c.self.view_is ∙ sym c.has_failed.ensures ∙ c.if-has_failed.false;
         full = λ is. c.failure-failure.ensures.full (answered ∙ is);
         spare = λ isnt. c.failure-failure.ensures.spare (λ same. isnt (sym answered ∙ same));
