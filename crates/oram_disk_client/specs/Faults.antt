@@ -1,18 +1,18 @@
 -- The faults with which the client's commands end.
 use Rattle.std.specs.Global.{Global}
-use Rattle.std.specs.Prelude.{◌≡◌, ◌≢◌, ◌⊎◌, ◌++◌, ℕ, IfErr, IfOk, List, Option, None, Some, Result, Ok, Err, String, ⊤, codes, string_bytes}
-use Rattle.std.specs.declared.io.ErrorKind.{ErrorKind}
-use Rattle.oram_cli.specs.declared.file_faults.FileFault.{FileFault}
-use Rattle.oram_cli.specs.declared.file_faults.FileFault.TheVariants as file
+use Rattle.std.specs.Prelude.{◌≡◌, ◌<◌, ◌⊎◌, ◌∷◌, ◌++◌, ℕ, IfSome, List, None, Option, Some, String, codes, string_bytes}
 use Rattle.oram_cli.specs.declared.file_faults.FileReason.TheVariants as reason
-use Rattle.oram_client.specs.NamedFiles.{IsFailedForOne, IsKeptName}
-use Rattle.oram_client.specs.KeptFile.{HasHead, IsHead, IsOlder, IsTorn}
-use Rattle.oram_client.specs.declared.kept_file.Head.{Head}
-use Rattle.oram_disk_host.specs.Faults.{file_fault}
 use Rattle.oram_disk_host.specs.declared.faults.Fault.{Fault}
 use Rattle.oram_disk_host.specs.declared.faults.Fault.TheVariants.{About, OutOfMemory}
 use Rattle.oram_disk_host.specs.declared.kinds.FaultKind.{FaultKind}
 use Rattle.oram_disk_host.specs.declared.kinds.FaultKind.TheVariants as kind
+use Rattle.oram_keeper.specs.declared.kept_files.OpenFault.{OpenFault}
+use Rattle.oram_keeper.specs.declared.kept_files.OpenFault.TheVariants as opening
+use Rattle.oram_keeper.specs.declared.pair_keeper.KeeperFault.TheVariants as keeper
+use Rattle.oram_kept.specs.declared.opening.OpenError.TheVariants as text
+use Rattle.oram_pair.specs.Faults.{fault_of}
+use Rattle.oram_pair.specs.declared.faults.PairFault.{PairFault}
+use Rattle.oram_pair.specs.declared.faults.PairFault.TheVariants as pair
 use Rattle.oram_rounds.specs.Files.{IsWhole}
 
 -- a fault of this kind about the name with these bytes, or there was no memory for the name
@@ -23,32 +23,47 @@ IsAbout what name fault = ((copy : String Global) × (string_bytes copy ≡ name
 abbrev pub IsOfKind : FaultKind → Fault → Type 0
 IsOfKind what fault = ((text : String Global) × (fault ≡ About what text)) ⊎ (fault ≡ OutOfMemory)
 
--- the file doesn't exist
-abbrev pub IsMissing : FileFault → Type 0
-IsMissing (file.File name reason.Missing) = ⊤
-IsMissing any_other = ⊥
+-- The letters of a state of an older version: VIDLAQE, and the byte of a digit from 1 to 6.
+abbrev pub HasOlderLetters : List ℕ → Type 0
+HasOlderLetters file = (digit : ℕ) × (rest : List ℕ) × (48 < digit) × (digit < 55) × (file ≡ codes "VIDLAQE" ++ digit ∷ rest)
 
--- The fault for the kept file `state` that doesn't exist, by the name that a look-up has found for it: none, so there is no such
--- state; or a name all the same, so the fault is the file's own; or the look-up's fault.
-abbrev pub IsFaultFound : FileFault → Result (Option (String Global)) FileFault → List ℕ → Fault → Type 0
-IsFaultFound why (Ok None) state fault = IsAbout kind.Unformatted state fault
-IsFaultFound why (Ok (Some name)) state fault = fault ≡ file_fault why
-IsFaultFound why (Err other) state fault = fault ≡ file_fault other
+-- the kind of the fault for the files of a state that can't be made or opened, or none if memory ran out
+abbrev pub IsKindFor : PairFault → Option FaultKind → Type 0
+IsKindFor pair.Busy found = found ≡ Some kind.InUse
+IsKindFor pair.Missing found = found ≡ Some kind.Unformatted
+IsKindFor pair.Exists found = found ≡ Some kind.Formatted
+IsKindFor pair.NewFileTaken found = found ≡ Some kind.NewFileTaken
+IsKindFor pair.NewLogTaken found = found ≡ Some kind.NewLogTaken
+IsKindFor pair.NotAFile found = found ≡ Some kind.NotADisk
+IsKindFor (pair.OtherKind letters) found =
+    (HasOlderLetters letters × (found ≡ Some kind.OlderState)) ⊎ ((¬ HasOlderLetters letters) × (found ≡ Some kind.NotADisk))
+IsKindFor pair.WithoutLog found = found ≡ Some kind.WithoutLog
+IsKindFor pair.LogOfAnotherFile found = found ≡ Some kind.LogOfAnotherFile
+IsKindFor pair.LogWithoutFile found = found ≡ Some kind.LogWithoutFile
+IsKindFor pair.LogOlder found = found ≡ Some kind.LogOlder
+IsKindFor pair.LogNewer found = found ≡ Some kind.LogNewer
+IsKindFor pair.CutShort found = found ≡ Some kind.CutShort
+IsKindFor pair.Damaged found = found ≡ Some kind.DamagedState
+IsKindFor pair.LogDamaged found = found ≡ Some kind.DamagedState
+IsKindFor pair.NoRoom found = found ≡ Some (kind.File reason.DiskFull)
+IsKindFor pair.NotPermitted found = found ≡ Some (kind.File reason.NotPermitted)
+IsKindFor pair.Io found = found ≡ Some (kind.File reason.Other)
+IsKindFor pair.OutOfMemory found = found ≡ None
 
--- The fault for the kept file `state` that can't be read: the file's own; or if the file doesn't exist, what the look-ups of its
--- two names come to.
-abbrev pub IsUnreadFor : (List ℕ → Type 0) → (List ℕ → ErrorKind → Type 0) → FileFault → List ℕ → Fault → Type 0
-IsUnreadFor there unseen why state fault =
-    ((¬ IsMissing why) × (fault ≡ file_fault why))
-    ⊎ (IsMissing why × (found : Result (Option (String Global)) FileFault)
-    × IfOk found (IsKeptName there unseen state) × IfErr found (IsFailedForOne unseen state) × IsFaultFound why found state fault)
+-- The fault for the files of the state `state` that can't be made or opened: it is about the state, or memory ran out.
+pub record IsPairFault (why : PairFault) (state : List ℕ) (fault : Fault) : Type 0 where
+  pub found : Option FaultKind
+  pub is_kind : IsKindFor why found
+  pub about : IfSome found (λ what. IsAbout what state fault)
+  pub memory : found ≡ None → fault ≡ OutOfMemory
 
--- The fault for bytes of the file `name` that are no kept file: they have an older format, or are torn, or are of no disk at all.
-abbrev pub IsNotKeptFor : List ℕ → List ℕ → Fault → Type 0
-IsNotKeptFor file name fault =
-    (IsOlder file × IsAbout kind.OlderState name fault)
-    ⊎ ((IsTorn file × IsAbout kind.DamagedState name fault)
-    ⊎ ((¬ IsOlder file) × ((head : Head) (rest : List ℕ) → IsHead head → ¬ HasHead file head rest) × IsAbout kind.NotADisk name fault))
+-- the fault of a pair of files that stands for the reason why no process was read from it
+abbrev pub pair_fault_of : OpenFault → PairFault
+pair_fault_of (opening.Pair fault) = fault
+pair_fault_of (opening.Keeper (keeper.Files (text.Files error))) = fault_of error
+pair_fault_of (opening.Keeper (keeper.Files text.NoText)) = pair.Damaged
+pair_fault_of (opening.Keeper keeper.NoTitle) = pair.NotAFile
+pair_fault_of (opening.Keeper keeper.OutOfMemory) = pair.OutOfMemory
 
 -- The fault for bytes that are no process, in the file `name`: they don't begin with STOREs and a note, or they hold no core that can
 -- be read with the disk's sealer.

@@ -1,6 +1,6 @@
--- The sealers of a disk, as its kept file and its settings name them.
-use Rattle.oram_client.specs.declared.kept_file.SealerKind.{SealerKind}
-use Rattle.oram_client.specs.declared.kept_file.SealerKind.TheVariants as sealer
+-- The sealers of a disk, as its head and its settings name them.
+use Rattle.oram_client.specs.declared.disk_head.SealerKind.{SealerKind}
+use Rattle.oram_client.specs.declared.disk_head.SealerKind.TheVariants as sealer
 use Rattle.oram_settings.specs.declared.disk_file.Sealing.{Sealing}
 use Rattle.oram_settings.specs.declared.disk_file.Sealing.TheVariants as sealing
 

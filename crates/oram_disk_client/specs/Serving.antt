@@ -1,9 +1,9 @@
 -- What a process that serves a disk decides before it serves, and once it stops.
 use Rattle.std.specs.Prelude.{◌≡◌, ◌++◌, ℕ, Bool, List, MatchBool, Option, None, Some, ⊤, codes, string_bytes}
 use Rattle.oram_client.specs.declared.dialer.Trouble.{Trouble}
-use Rattle.oram_client.specs.declared.file_step.FileFailure.{FileFailure}
-use Rattle.oram_client.specs.declared.kept_file.SealerKind.{SealerKind}
-use Rattle.oram_client.specs.declared.kept_file.SealerKind.TheVariants as sealer
+use Rattle.oram_keeper.specs.declared.pair_keeper.KeepFailure.{KeepFailure}
+use Rattle.oram_client.specs.declared.disk_head.SealerKind.{SealerKind}
+use Rattle.oram_client.specs.declared.disk_head.SealerKind.TheVariants as sealer
 use Rattle.oram_disk_client.specs.Faults.{IsAbout, IsOfKind}
 use Rattle.oram_disk_client.specs.HostFaults.{kind_of}
 use Rattle.oram_disk_client.specs.declared.serving.DiskSealer.{DiskSealer}
@@ -37,6 +37,6 @@ IsLinkStop settings failed (Some trouble) fault = IsHostFault (Some trouble) set
 
 -- The fault of a disk that has stopped, by the keeper's failure, whether no access is left, and what stopped its link. A state that
 -- wasn't kept comes first, and then a disk that is used up.
-abbrev pub IsStopFault : DiskSettings → Option FileFailure → Bool → Bool → Option Trouble → Fault → Type 0
+abbrev pub IsStopFault : DiskSettings → Option KeepFailure → Bool → Bool → Option Trouble → Fault → Type 0
 IsStopFault settings (Some failure) used_up failed trouble fault = IsOfKind kind.StateNotKept fault
 IsStopFault settings None used_up failed trouble fault = MatchBool used_up (IsAbout kind.UsedUp (string_bytes settings.state) fault) (IsLinkStop settings failed trouble fault)

@@ -1,11 +1,11 @@
 //! The files of a disk at its client.
 
-ghost use Rattle.std.specs.Prelude.{◌≡◌, ◌≢◌, ◌↔◌, ◌⊎◌, ◌++◌, codes, string_bytes, ℕ, List, Ok, Err, None, Some, IfErr, IfOk, IsTrue, OnOk, unwrap_or};
-ghost use Rattle.oram_cli.specs.declared.file_faults.FileFault.{FileFault};
-ghost use Rattle.oram_client.specs.KeptFile.{IsReadAs};
+ghost use Rattle.std.specs.Prelude.{◌≡◌, ◌≢◌, ◌↔◌, ◌⊎◌, ◌++◌, [], codes, string_bytes, ℕ, List, None, Some, IfErr, IfOk, IsTrue, OnOk};
+ghost use Rattle.oram_client.specs.DiskHead.{IsHead, behind_letters};
+ghost use Rattle.oram_client.specs.declared.disk_head.Head.{Head};
 ghost use Rattle.oram_client.specs.Keys as derived;
 ghost use Rattle.oram_core.specs.Core.{scheme_of};
-ghost use Rattle.oram_disk_client.specs.Faults.{IsAbout, IsFaultFound, IsMissing, IsNoProcessFor, IsNotKeptFor, IsOfKind, IsUnreadFor, was_text};
+ghost use Rattle.oram_disk_client.specs.Faults.{HasOlderLetters, IsAbout, IsKindFor, IsNoProcessFor, IsOfKind, IsPairFault, pair_fault_of, was_text};
 ghost use Rattle.oram_disk_client.specs.Sealers as spec;
 ghost use Rattle.oram_geometry.specs.declared.Sizes.{Sizes};
 ghost use Rattle.oram_rounds.specs.Batches.{texts};
@@ -15,19 +15,22 @@ ghost use Rattle.oram_settings.specs.Differences.{AgreeAt, IsFirstDifference, fi
 ghost use Rattle.oram_settings.specs.Differences as formatted;
 
 use oram_bucket::Sealer;
-use oram_cli::{FileFault, FileReason, InputFault, LockFault, StateLock, linked_name, lock_state};
-use oram_client::{
-    DiskKey, FileFailure, Head, KeptFault, KeptFile, Keys, NamedFiles, SealerKind, WrongKey,
-    kept_name_in, keys_for, read_kept_file,
-};
+use oram_cli::{FileReason, InputFault, LockFault, StateLock, call_fault, linked_name, lock_state};
+use oram_client::{DiskKey, Head, Keys, SealerKind, TITLE_LEN, WrongKey, head_in, keys_for};
 use oram_disk_host::{Fault, FaultKind, settings_text};
 use oram_geometry::Device;
+use oram_keeper::{KeepFailure, KeeperFault, OpenFault, ReadProcess, read_kept};
+use oram_kept::OpenError;
+use oram_pair::PairFault;
+use oram_redo::RedoError;
 use oram_rounds::{KeptCore, KeptCoreFault, decode_kept};
 use oram_settings::{
     DiskSettings, FixedKey, Sealing, device_of, disk_complaint, first_difference,
     numbers_complaint, place_beside, read_disk_settings, relative_to, value_text,
 };
 use std::alloc::{AllocError, Global};
+use std::fs;
+use std::io::{self, ErrorKind};
 use std::rt::Files;
 
 /// Reads a disk's settings from the text of the file `name`.
@@ -70,50 +73,13 @@ pub fn disk_in<R: Files + AllocGlobal>(
     }
 }
 
-/// Returns whether the fault is that the file doesn't exist.
-fn is_missing(fault: &FileFault) -> bool
-    ensures { IsTrue result ↔ IsMissing fault.now }
-{
-    matches!(fault, FileFault::File(_, FileReason::Missing))
-}
-
-/// Returns the fault for a kept file of the name `state` that couldn't be read because it doesn't exist, where `found` is the name
-/// that it has now. A link has the file's name even if what it leads to is missing, for example because its disk isn't mounted.
-fn missing_fault(
-    alloc: Global,
-    missing: FileFault,
-    found: Result<Option<String>, FileFault>,
-    state: &str,
-) -> Fault
-    ensures { IsFaultFound missing found state.now result }
-{
-    match found {
-        Ok(None) => named(alloc, FaultKind::Unformatted, state),
-        Ok(Some(_)) => missing.into(),
-        Err(fault) => fault.into(),
+/// Returns whether there is anything at a path, even a link that leads nowhere.
+pub(crate) fn is_there<R: Files + AllocGlobal>(rt: &R, path: &str) -> Result<bool, Fault> {
+    match fs::symlink_metadata(rt, path) {
+        Ok(_) => Ok(true),
+        Err(error) if error.kind() == ErrorKind::NotFound => Ok(false),
+        Err(error) => Err(call_fault(rt.alloc(), path, &error).into()),
     }
-}
-
-/// Returns the bytes in `read`, the result of reading the kept file `state` of a disk. Fails with [`FaultKind::Unformatted`] if
-/// there is no kept file, which it then looks up in `files`, and with the system's reason if that can't be found out.
-pub fn state_bytes<N: NamedFiles>(
-    alloc: Global,
-    files: &N,
-    read: Result<Vec<u8>, FileFault>,
-    state: &str,
-) -> Result<Vec<u8>, Fault>
-    ensures ok { IfOk result (λ bytes. read ≡ Ok bytes) }
-    ensures fault { (why : FileFault) → read ≡ Err why → IfErr result (IsUnreadFor (N.there files.now) (N.unseen files.now) why state.now) }
-{
-    let fault = match read {
-        Ok(bytes) => return Ok(bytes),
-        Err(fault) => fault,
-    };
-    if !is_missing(&fault) {
-        return Err(fault.into());
-    }
-    let found = kept_name_in(alloc, files, state);
-    Err(missing_fault(alloc, fault, found, state))
 }
 
 /// Takes the lock of a disk's state, so that no other process serves, formats or retries that disk.
@@ -162,17 +128,118 @@ fn process_in<S: Sealer>(
     }
 }
 
-/// Reads the bytes of the kept file `name`. Fails with [`FaultKind::OlderState`] if they have an older format, with
-/// [`FaultKind::DamagedState`] if they are torn, and with [`FaultKind::NotADisk`] if they are no kept file at all.
-pub fn kept_in<'a>(alloc: Global, file: &'a [u8], name: &str) -> Result<KeptFile<'a>, Fault>
-    ensures ok { IfOk result (λ kept. IsReadAs file.now kept.head kept.process.now kept.fifth_check) }
-    ensures fault { IfErr result (λ fault. IsNotKeptFor file.now name.now fault) }
+/// What is kept of a disk.
+#[derive(Drop)]
+pub struct KeptDisk {
+    pub head: Head,
+    /// The text of the process.
+    pub process: Vec<u8>,
+}
+
+/// Returns what is kept of a disk in the file `name`. Fails with [`FaultKind::NotADisk`] if `title` is the title of no disk.
+pub fn kept_disk(
+    alloc: Global,
+    title: &[u8],
+    process: Vec<u8>,
+    name: &str,
+) -> Result<KeptDisk, Fault>
+    ensures head { IfOk result (λ kept. IsHead kept.head × (title.now ≡ behind_letters kept.head [])) }
+    ensures process { IfOk result (λ kept. kept.process ≡ process) }
+    ensures fault { IfErr result (λ fault. IsAbout FaultKind.NotADisk name.now fault × ((head : Head) → IsHead head → title.now ≢ behind_letters head [])) }
 {
-    match read_kept_file(file) {
-        Ok(kept) => Ok(kept),
-        Err(KeptFault::Older) => Err(named(alloc, FaultKind::OlderState, name)),
-        Err(KeptFault::Torn) => Err(named(alloc, FaultKind::DamagedState, name)),
-        Err(KeptFault::NotOurs) => Err(named(alloc, FaultKind::NotADisk, name)),
+    match head_in(title) {
+        Some(head) => Ok(KeptDisk { head, process }),
+        None => Err(named(alloc, FaultKind::NotADisk, name)),
+    }
+}
+
+/// Reads what is kept of a disk in the file `state`, also while a process serves the disk.
+pub(crate) fn read_disk(rt: &HostRuntime, state: &str) -> Result<KeptDisk, Fault> {
+    let alloc = rt.alloc();
+    match read_kept(rt, alloc, state, TITLE_LEN) {
+        Ok(ReadProcess { title, text }) => kept_disk(alloc, &title, text, state),
+        Err(fault) => Err(unread_fault(rt, fault, state)),
+    }
+}
+
+/// Returns the kind of the fault for the files of a state that can't be opened, or `None` if memory ran out.
+fn kind_of(fault: PairFault) -> Option<FaultKind>
+    ensures { IsKindFor fault result }
+{
+    match fault {
+        PairFault::Busy => Some(FaultKind::InUse),
+        PairFault::Missing => Some(FaultKind::Unformatted),
+        PairFault::Exists => Some(FaultKind::Formatted),
+        PairFault::NewFileTaken => Some(FaultKind::NewFileTaken),
+        PairFault::NewLogTaken => Some(FaultKind::NewLogTaken),
+        PairFault::NotAFile => Some(FaultKind::NotADisk),
+        PairFault::OtherKind(letters) => Some(if has_older_letters(&letters) {
+            FaultKind::OlderState
+        } else {
+            FaultKind::NotADisk
+        }),
+        PairFault::WithoutLog => Some(FaultKind::WithoutLog),
+        PairFault::LogOfAnotherFile => Some(FaultKind::LogOfAnotherFile),
+        PairFault::LogWithoutFile => Some(FaultKind::LogWithoutFile),
+        PairFault::LogOlder => Some(FaultKind::LogOlder),
+        PairFault::LogNewer => Some(FaultKind::LogNewer),
+        PairFault::CutShort => Some(FaultKind::CutShort),
+        PairFault::Damaged | PairFault::LogDamaged => Some(FaultKind::DamagedState),
+        PairFault::NoRoom => Some(FaultKind::File(FileReason::DiskFull)),
+        PairFault::NotPermitted => Some(FaultKind::File(FileReason::NotPermitted)),
+        PairFault::Io => Some(FaultKind::File(FileReason::Other)),
+        PairFault::OutOfMemory => None,
+    }
+}
+
+/// Returns whether a file that begins with these bytes is the state of an older version.
+fn has_older_letters(letters: &[u8]) -> bool
+    ensures { IsTrue result ↔ HasOlderLetters letters.now }
+{
+    matches!(letters.strip_prefix(b"VIDLAQE"), Some([b'1'..=b'6', ..]))
+}
+
+/// Returns the fault for the files of the state `state` that can't be made or opened.
+pub(crate) fn pair_fault(alloc: Global, fault: PairFault, state: &str) -> Fault
+    ensures { IsPairFault fault state.now result }
+{
+    match kind_of(fault) {
+        Some(kind) => named(alloc, kind, state),
+        None => Fault::OutOfMemory,
+    }
+}
+
+/// Returns the fault of the files that stands for the reason why no process was read from them.
+fn pair_fault_in(fault: OpenFault) -> PairFault
+    ensures { result ≡ pair_fault_of fault }
+{
+    match fault {
+        OpenFault::Pair(fault) => fault,
+        OpenFault::Keeper(KeeperFault::Files(OpenError::Files(error))) => PairFault::from(error),
+        OpenFault::Keeper(KeeperFault::Files(OpenError::NoText)) => PairFault::Damaged,
+        OpenFault::Keeper(KeeperFault::NoTitle) => PairFault::NotAFile,
+        OpenFault::Keeper(KeeperFault::OutOfMemory) => PairFault::OutOfMemory,
+    }
+}
+
+/// Returns the fault for the files of the state `state` from which no process was read.
+fn open_fault(alloc: Global, fault: OpenFault, state: &str) -> Fault
+    ensures { IsPairFault (pair_fault_of fault) state.now result }
+{
+    pair_fault(alloc, pair_fault_in(fault), state)
+}
+
+/// Returns the fault for the files of the state `state` from which no process was read. A link that leads to nothing is there, for
+/// example while its disk isn't mounted: then the disk isn't called unformatted.
+pub(crate) fn unread_fault(rt: &HostRuntime, fault: OpenFault, state: &str) -> Fault {
+    let alloc = rt.alloc();
+    if fault != OpenFault::Pair(PairFault::Missing) {
+        return open_fault(alloc, fault, state);
+    }
+    match is_there(rt, state) {
+        Ok(true) => named(alloc, FaultKind::File(FileReason::Missing), state),
+        Ok(false) => open_fault(alloc, fault, state),
+        Err(fault) => fault,
     }
 }
 
@@ -272,49 +339,59 @@ fn check_settings(
     }
 }
 
-/// Decodes the process of the kept file of a disk, which `sealer` seals. Fails with [`FaultKind::DamagedState`] or
+/// Decodes the process that is kept of a disk, which `sealer` seals. Fails with [`FaultKind::DamagedState`] or
 /// [`FaultKind::NotADisk`] if it is no such process, and with [`FaultKind::Changed`] if the settings in the file `name` aren't
 /// those that the disk was formatted with.
 pub fn process_for<S: Sealer>(
     alloc: Global,
     settings: &DiskSettings,
     name: &str,
-    kept: &KeptFile<'_>,
+    kept: &KeptDisk,
     sealer: S,
 ) -> Result<KeptCore<S>, Fault>
     ensures sealer { IfOk result (λ process. process.core.sealer ≡ sealer) }
-    ensures ok { IfOk result (λ process. IsFileWith (scheme_of S.cipher process.core) kept.now.process.now (texts process.stores.items) process.note.items process.core.state) }
-    // A file of the fifth format has the check of its process.
-    ensures check { IfOk result (λ process. process.check
-        ≡ unwrap_or kept.now.fifth_check (check_of (scheme_of S.cipher process.core) (texts process.stores.items) process.note.items process.core.state)) }
+    ensures ok { IfOk result (λ process. IsFileWith (scheme_of S.cipher process.core) kept.now.process.items (texts process.stores.items) process.note.items process.core.state) }
+    ensures check { IfOk result (λ process. process.check ≡ check_of (scheme_of S.cipher process.core) (texts process.stores.items) process.note.items process.core.state) }
     ensures agrees { IfOk result (λ process. IsFirstDifference (AgreeAt settings.now process.core.device (spec.sealing_of kept.now.head.sealer)) fixed_keys None) }
     // Only the settings of a process can have changed. The fault names the first key at which they differ, and what it was.
-    ensures fault { IfErr result (λ fault. IsNoProcessFor kept.now.process.now (string_bytes settings.now.state) fault
+    ensures fault { IfErr result (λ fault. IsNoProcessFor kept.now.process.items (string_bytes settings.now.state) fault
         ⊎ ((process : KeptCore S) × (key : FixedKey)
         × IsAbout (FaultKind.Changed key) (was_text name.now (formatted.value_text process.core.device (spec.sealing_of kept.now.head.sealer) key)) fault
-        × IsFileWith (scheme_of S.cipher process.core) kept.now.process.now (texts process.stores.items) process.note.items process.core.state
+        × IsFileWith (scheme_of S.cipher process.core) kept.now.process.items (texts process.stores.items) process.note.items process.core.state
         × IsFirstDifference (AgreeAt settings.now process.core.device (spec.sealing_of kept.now.head.sealer)) fixed_keys (Some key))) }
     // It returns all of a process that was kept, unless memory runs out or the settings differ.
-    ensures same { (d : Sizes) (stores : List (List ℕ)) (core : State) → (it : IsFileOf (S.cipher sealer).overhead d kept.now.process.now stores core)
+    ensures same { (d : Sizes) (stores : List (List ℕ)) (core : State) → (it : IsFileOf (S.cipher sealer).overhead d kept.now.process.items stores core)
         → IfOk result (λ process. (texts process.stores.items ≡ stores) × (process.core.device ≡ d) × (process.core.state ≡ core) × (process.note.items ≡ it.note)) }
-    ensures changed { (d : Sizes) (stores : List (List ℕ)) (core : State) → IsFileOf (S.cipher sealer).overhead d kept.now.process.now stores core
+    ensures changed { (d : Sizes) (stores : List (List ℕ)) (core : State) → IsFileOf (S.cipher sealer).overhead d kept.now.process.items stores core
         → IfErr result (λ fault. (fault ≡ Fault.OutOfMemory) ⊎ ((key : FixedKey)
         × IsAbout (FaultKind.Changed key) (was_text name.now (formatted.value_text d (spec.sealing_of kept.now.head.sealer) key)) fault
         × IsFirstDifference (AgreeAt settings.now d (spec.sealing_of kept.now.head.sealer)) fixed_keys (Some key))) }
 {
-    let mut process = process_in(alloc, sealer, kept.process, settings.state.as_str())?;
+    let process = process_in(alloc, sealer, &kept.process, settings.state.as_str())?;
     let sealing = sealing_of(kept.head.sealer);
     check_settings(alloc, settings, process.core.device(), sealing, name)?;
-    process.check = kept.fifth_check.unwrap_or(process.check);
     Ok(process)
 }
 
-/// Returns the fault that a state can't be kept in the file `state`, with the step that failed and the system's reason.
-pub fn unkept(alloc: Global, kind: FaultKind, state: &str, failure: FileFailure) -> Fault
+/// Returns the fault that a state can't be kept in the file `state`, with the system's reason.
+pub fn unkept(alloc: Global, kind: FaultKind, state: &str, failure: KeepFailure) -> Fault
     ensures { IsOfKind kind result }
 {
-    match format!(in alloc; "{state} ({failure})") {
+    match unkept_text(alloc, state, failure) {
         Ok(text) => Fault::About(kind, text),
         Err(_) => Fault::OutOfMemory,
+    }
+}
+
+/// Returns the name of a state, and why it can't be kept.
+fn unkept_text(alloc: Global, state: &str, failure: KeepFailure) -> Result<String, AllocError> {
+    match (failure.error, failure.errno) {
+        (RedoError::NoRoom, _) => format!(in alloc; "{state} (the disk is full)"),
+        (RedoError::Memory, _) => format!(in alloc; "{state} (out of memory)"),
+        (_, Some(number)) => {
+            let error = io::Error::from_raw_os_error(number);
+            format!(in alloc; "{state} ({error})")
+        }
+        (_, None) => format!(in alloc; "{state} (the system failed)"),
     }
 }

@@ -1,21 +1,22 @@
 //! Formats a disk on its host.
 
-ghost use Rattle.std.specs.Prelude.{◌≡◌, ◌≢◌, ◌%◌, None, IfOk, OnErr, OnOk};
-ghost use Rattle.oram_client.specs.FilePlace.{FilePlaceState, NotesFound};
+ghost use Rattle.std.specs.Prelude.{◌≡◌, ◌≢◌, ◌⊎◌, ◌%◌, OnErr, OnOk};
+ghost use Rattle.oram_disk_client.specs.Faults.{IsOfKind, IsPairFault};
 
-use crate::disk_files::{disk_in, keys_in, named, sealer_of, take_lock, unkept};
+use crate::disk_files::{disk_in, keys_in, pair_fault, sealer_of, take_lock, unkept};
 use crate::failures::forget_failure;
 use crate::progress_printer::ProgressPrinter;
-use crate::serving::{DiskSealer, keeper_for, sealer_in};
+use crate::serving::{DiskSealer, sealer_in};
 use oram_bucket::Sealer;
 use oram_cli::{HostFault, SocketFault, buffered, limit_silence};
-use oram_client::{
-    Ahead, DiskKey, FileKeeper, FilePlace, FormattingFault, Head, Keys, Salt, format_ahead,
-};
+use oram_client::{Ahead, DiskKey, FormattingFault, Head, Keys, Salt, format_ahead, title_of};
 use oram_core::Core;
 use oram_disk_host::{Fault, FaultKind};
 use oram_geometry::Device;
-use oram_rounds::{Keeper, encode_kept};
+use oram_keeper::{KeepFailure, check_free, make_kept};
+use oram_pair::PairFault;
+use oram_redo::RedoError;
+use oram_rounds::encode_kept;
 use oram_settings::{DiskSettings, LongWork, SECTOR, begun_text, sectors_complaint, stored_bytes};
 use oram_sockets::{Connection, connect_to};
 use oram_stamps::{Known, encode_note};
@@ -24,7 +25,7 @@ use std::io;
 use std::io::{BufReader, BufWriter};
 use std::net::Net;
 use std::random::RandomSource;
-use std::rt::{Clock, Files};
+use std::rt::Clock;
 use std::time::Duration;
 
 /// Prints how many bytes will go to the host at this address.
@@ -100,30 +101,39 @@ fn formatted<S: Sealer>(
     }
 }
 
+/// Returns the fault that the files of a new disk's state couldn't be made, although its host has the disk already.
+fn unmade(alloc: Global, fault: PairFault, state: &str) -> Fault
+    // A full disk, or a call that failed or wasn't permitted, leaves the new disk without a state.
+    ensures not_made { (fault ≡ PairFault.NoRoom) ⊎ (fault ≡ PairFault.Io) ⊎ (fault ≡ PairFault.NotPermitted) → IsOfKind FaultKind.StateNotMade result }
+    ensures others { fault ≢ PairFault.NoRoom → fault ≢ PairFault.Io → fault ≢ PairFault.NotPermitted → IsPairFault fault state.now result }
+{
+    let error = match fault {
+        PairFault::NoRoom => RedoError::NoRoom,
+        PairFault::Io | PairFault::NotPermitted => RedoError::Failed,
+        fault => return pair_fault(alloc, fault, state),
+    };
+    let failure = KeepFailure { error, errno: None };
+    unkept(alloc, FaultKind::StateNotMade, state, failure)
+}
+
 /// Formats a device, and keeps its state for the first time.
 fn format_with<S: Sealer>(
     rt: &HostRuntime,
     device: Device,
     sealer: S,
-    keeper: &mut FileKeeper<FilePlace<&HostRuntime>>,
+    head: &Head,
     keys: &Keys,
     settings: &DiskSettings,
-) -> Result<(), Fault>
-    // No kept file was found.
-    requires { (earlier : FilePlaceState) × NotesFound earlier None keeper.old.place }
-{
+) -> Result<(), Fault> {
     let alloc = rt.alloc();
     let core = formatted(rt, device, sealer, keys, settings)?;
     let note = encode_note(alloc, &Known::fresh(alloc)?)?;
     let text = encode_kept(alloc, &[], &note, &core)?;
     let state = settings.state.as_str();
-    match (
-        keeper.keep(&text.with_table(core.table())),
-        keeper.failure(),
-    ) {
-        (Ok(()), _) => Ok(()),
-        (Err(_), Some(failure)) => Err(unkept(alloc, FaultKind::StateNotMade, state, failure)),
-        (Err(_), None) => Err(named(alloc, FaultKind::StateNotMade, state)),
+    let (title, process) = (title_of(head), text.with_table(core.table()));
+    match make_kept(rt, alloc, state, &title, &process) {
+        Ok(()) => Ok(()),
+        Err(fault) => Err(unmade(alloc, fault, state)),
     }
 }
 
@@ -136,14 +146,13 @@ fn new_salt<R: RandomSource>(rt: &R) -> Result<Salt, Fault> {
     }
 }
 
-/// Returns a place of a kept file after no such file was found there. Fails with [`FaultKind::Formatted`] if there is one, and
-/// with the system's reason if that can't be found out.
-fn free_place<R: Files + AllocGlobal + Drop>(mut place: FilePlace<R>) -> Result<FilePlace<R>, Fault>
-    ensures { IfOk result (λ free. NotesFound place None free) }
-{
-    match place.kept_name()? {
-        None => Ok(place),
-        Some(found) => Err(Fault::About(FaultKind::Formatted, found)),
+/// Fails with [`FaultKind::Formatted`] if there is anything at the place of a disk's state, and with a fault of its own if something is in the
+/// way of its log, or where the two are made. So a formatting that would find no place for its state sends nothing to the host.
+fn check_unformatted(rt: &HostRuntime, state: &str) -> Result<(), Fault> {
+    let alloc = rt.alloc();
+    match check_free(rt, alloc, state) {
+        Ok(()) => Ok(()),
+        Err(fault) => Err(pair_fault(alloc, fault, state)),
     }
 }
 
@@ -159,26 +168,21 @@ fn check_sectors(alloc: Global, settings: &DiskSettings, name: &str) -> Result<(
     Err(Fault::About(FaultKind::Settings, complaint))
 }
 
-/// Formats the disk whose settings are in the file `name`. Refuses a size that isn't a whole number of sectors. Refuses a disk that already has a kept file, and leaves that as it
-/// is. Also refuses a disk whose kept file can't be looked up.
+/// Formats the disk whose settings are in the file `name`. Refuses a size that isn't a whole number of sectors. Refuses a disk
+/// whose state is there already, and leaves that as it is. Also refuses a disk whose state can't be looked up.
 pub fn format_disk(rt: &HostRuntime, name: String) -> Result<(), Fault> {
     let alloc = rt.alloc();
     let (settings, device) = disk_in(rt, name.as_str())?;
     check_sectors(alloc, &settings, name.as_str())?;
     let _lock = take_lock(rt, settings.state.as_str())?;
-    let place = free_place(FilePlace::new(rt, alloc, settings.state.as_str())?)?;
+    check_unformatted(rt, settings.state.as_str())?;
     // A failure that an earlier disk left, which has been removed since, says nothing about this one.
     forget_failure(rt, settings.state.as_str())?;
     let salt = new_salt(rt)?;
     let head = Head::new(&DiskKey(settings.key), salt, sealer_of(settings.sealer));
     let keys = keys_in(alloc, &settings, &head, name.as_str())?;
-    let mut keeper = keeper_for(place, head, &settings);
     match sealer_in(&head, &keys) {
-        DiskSealer::Plain(sealer) => {
-            format_with(rt, device, sealer, &mut keeper, &keys, &settings)
-        }
-        DiskSealer::ChaCha20(sealer) => {
-            format_with(rt, device, sealer, &mut keeper, &keys, &settings)
-        }
+        DiskSealer::Plain(sealer) => format_with(rt, device, sealer, &head, &keys, &settings),
+        DiskSealer::ChaCha20(sealer) => format_with(rt, device, sealer, &head, &keys, &settings),
     }
 }

@@ -23,7 +23,7 @@ mod serving;
 mod status_command;
 
 pub use disk_files::{
-    disk_in, kept_in, keys_in, named, process_for, state_bytes, take_lock, unkept,
+    KeptDisk, disk_in, kept_disk, keys_in, named, process_for, take_lock, unkept,
 };
 pub use failures::{keep_failure, kept_failure};
 pub use format_command::format_disk;
@@ -32,7 +32,5 @@ pub use host_faults::{host_fault, host_fault_kind};
 pub use host_link::{HostLink, HostStatusPrinter, link_to};
 pub use new_disk::make_folder;
 pub use read_command::{check_host, export_image};
-pub use serving::{
-    DiskSealer, LockedDisk, Stop, UnfailedDisk, keeper_for, sealer_in, stop_fault, tape_for,
-};
+pub use serving::{DiskSealer, LockedDisk, Stop, UnfailedDisk, sealer_in, stop_fault, tape_for};
 pub use status_command::{print_status, retry};

@@ -143,6 +143,14 @@ fn first_disk<R: RandomSource + AllocGlobal>(rt: &R, word: &str) -> Result<First
     })
 }
 
+/// Returns the name of a folder without the slashes at its end, which would stand twice in the names of its files.
+fn without_slash(folder: &str) -> &str {
+    match folder.trim_end_matches('/') {
+        "" => folder,
+        name => name,
+    }
+}
+
 /// Prints what was made, and what comes next.
 fn print_made<R: Eprint + AllocGlobal>(
     rt: &R,
@@ -162,6 +170,7 @@ pub fn make_folder<R: Files + RandomSource + Eprint + AllocGlobal>(
     size: &str,
 ) -> Result<(), Fault> {
     let alloc = rt.alloc();
+    let folder = String::from_str(alloc, without_slash(folder.as_str()))?;
     let host = format!(in alloc; "{folder}/host.toml")?;
     let disk = format!(in alloc; "{folder}/disk.toml")?;
     let first = first_disk(rt, size)?;

@@ -5,7 +5,7 @@
 
 ghost use Rattle.std.specs.Prelude.{◌≡◌};
 
-use crate::disk_files::{disk_in, kept_in, keys_in, process_for, state_bytes};
+use crate::disk_files::{disk_in, keys_in, process_for, read_disk as read_kept_disk};
 use crate::findings_text::{Counts, exported_text, findings_text, saved_text};
 use crate::host_asked::ask_host;
 use crate::host_link::link_to;
@@ -15,7 +15,7 @@ use crate::reading_ends::{ExportEnd, export_end, lost_fault, read_fault};
 use crate::serving::{DiskSealer, LockedDisk, sealer_in};
 use oram_bucket::Sealer;
 use oram_cli::call_fault;
-use oram_client::{Dial, HostWatch, Keys, ReconnectLink, SystemFiles, kept_bytes};
+use oram_client::{Dial, HostWatch, Keys, ReconnectLink};
 use oram_core::Core;
 use oram_disk_host::{Fault, FaultKind};
 use oram_export::{
@@ -302,8 +302,7 @@ fn read_disk(
     let alloc = rt.alloc();
     let settings = locked.settings();
     let state = settings.state.as_str();
-    let file = state_bytes(alloc, &SystemFiles { rt }, kept_bytes(rt, state), state)?;
-    let kept = kept_in(alloc, file.as_slice(), state)?;
+    let kept = read_kept_disk(rt, state)?;
     let keys = keys_in(alloc, settings, &kept.head, name)?;
     match sealer_in(&kept.head, &keys) {
         DiskSealer::Plain(sealer) => {

@@ -1,20 +1,22 @@
 //! What a process that serves a disk decides before it serves, and once it stops.
 
-ghost use Rattle.std.specs.Prelude.{◌≡◌, None, Some, IfOk, OnOk, string_bytes};
-ghost use Rattle.oram_client.specs.FilePlace.{FilePlaceState, NotesFound};
+ghost use Rattle.std.specs.Prelude.{◌≡◌, ◌∷◌, [], IfOk, OnOk, string_bytes};
+ghost use Rattle.oram_client.specs.DiskHead.{behind_letters};
+ghost use Rattle.oram_keeper.specs.Process.{IsTextOf};
+ghost use Rattle.oram_kept.specs.Text.{Parts};
 ghost use Rattle.oram_disk_client.specs.Serving.{IsLinkStop, IsStopFault, Seals, failure_of};
 ghost use Rattle.oram_geometry.specs.Sizes.{trees_of};
 
-use crate::disk_files::{named, state_bytes, take_lock, unkept};
+use crate::disk_files::{KeptDisk, kept_disk, named, take_lock, unkept, unread_fault};
 use crate::failures::kept_failure;
 use crate::host_faults::host_fault;
 use oram_bucket::{ChaChaSeal, PlainSeal};
 use oram_cli::StateLock;
-use oram_client::{
-    FileFailure, FileKeeper, FilePlace, Head, Keys, NamedFiles, SealerKind, SystemFiles, Trouble,
-};
+use oram_client::{Head, Keys, NamedFiles, SealerKind, TITLE_LEN, Trouble};
 use oram_disk_host::{Fault, FaultKind};
 use oram_geometry::Device;
+use oram_keeper::{KeepFailure, PairKeeper, open_kept};
+use oram_redo::{Syncs, SystemPair};
 use oram_session::ChaChaTape;
 use oram_settings::DiskSettings;
 use std::alloc::Global;
@@ -28,7 +30,7 @@ pub enum DiskSealer {
     ChaCha20(ChaChaSeal),
 }
 
-/// Returns the sealer that the head of a kept file names, with the sealer's key of the disk.
+/// Returns the sealer that the head of a disk names, with the sealer's key of the disk.
 pub fn sealer_in(head: &Head, keys: &Keys) -> DiskSealer
     ensures { Seals head.now.sealer keys.now.sealer.0 result }
 {
@@ -36,14 +38,6 @@ pub fn sealer_in(head: &Head, keys: &Keys) -> DiskSealer
         SealerKind::Plain => DiskSealer::Plain(PlainSeal),
         SealerKind::ChaCha20 => DiskSealer::ChaCha20(ChaChaSeal { key: keys.sealer.0 }),
     }
-}
-
-/// Makes the keeper of a disk's process. Each file has the head that the disk was formatted with, and is synced if the settings
-/// say so.
-pub fn keeper_for<P>(place: P, head: Head, settings: &DiskSettings) -> FileKeeper<P>
-    ensures { result ≡ record { place = place; head = head; sync = settings.now.sync; failure = None } }
-{
-    FileKeeper::new(place, head, settings.sync)
 }
 
 /// Returns the tape of a disk, from the tape's key of the disk.
@@ -61,7 +55,7 @@ pub fn tape_for(keys: &Keys, device: &Device) -> ChaChaTape
 #[derive(Clone, Copy, Debug)]
 pub struct Stop {
     /// Why the keeper couldn't keep a process, if it couldn't.
-    pub unkept: Option<FileFailure>,
+    pub unkept: Option<KeepFailure>,
     /// Whether no access is left.
     pub is_used_up: bool,
     /// Whether the core has failed.
@@ -177,17 +171,25 @@ impl UnfailedDisk {
         &self.disk.settings
     }
 
-    /// Reads the kept file of the disk. Returns its bytes, and the place that has noted that they are found there.
-    pub fn read_state<'a>(
-        &self,
-        rt: &'a HostRuntime,
-    ) -> Result<(FilePlace<&'a HostRuntime>, Vec<u8>), Fault>
-        ensures { IfOk result (λ read. (earlier : FilePlaceState) × NotesFound earlier (Some read.1.items) read.0 × (earlier.name ≡ string_bytes self.now.state)) }
+    /// Opens the files of the disk's state. Returns what is kept, and the keeper that goes on with them: with `sync` in the
+    /// settings, what it keeps outlives a loss of power.
+    pub fn open_state(&self, rt: &HostRuntime) -> Result<(PairKeeper<SystemPair>, KeptDisk), Fault>
+        // Nothing but this process is read back by the keeper.
+        ensures { IfOk result (λ opened. (p : Parts) × (opened.0.keeper.texts ≡ p ∷ []) × IsTextOf (behind_letters opened.1.head []) opened.1.process.items p) }
     {
         let alloc = rt.alloc();
         let state = self.disk.settings.state.as_str();
-        let mut place = FilePlace::new(rt, alloc, state)?;
-        let file = state_bytes(alloc, &SystemFiles { rt }, place.read(), state)?;
-        Ok((place, file))
+        let syncs = if self.disk.settings.sync {
+            Syncs::Made
+        } else {
+            Syncs::LeftOut
+        };
+        match open_kept(rt, alloc, state, TITLE_LEN, syncs) {
+            Ok((keeper, process)) => {
+                let kept = kept_disk(alloc, keeper.title(), process, state)?;
+                Ok((keeper, kept))
+            }
+            Err(fault) => Err(unread_fault(rt, fault, state)),
+        }
     }
 }

@@ -1,10 +1,10 @@
 //! Reports the status of a disk, and lets a failed one be tried again.
 
-use crate::disk_files::{disk_in, kept_in, keys_in, named, process_for, state_bytes, take_lock};
+use crate::disk_files::{disk_in, is_there, keys_in, named, process_for, read_disk, take_lock};
 use crate::failures::{forget_failure, kept_failure};
 use crate::serving::{DiskSealer, sealer_in};
 use oram_cli::{call_fault, is_locked};
-use oram_client::{SystemFiles, kept_bytes, kept_name};
+use oram_client::SystemFiles;
 use oram_disk_host::{Fault, FaultKind};
 use oram_settings::{Status, failure_text, report, report_json, status_of};
 use std::alloc::{AllocError, Global};
@@ -93,8 +93,7 @@ pub fn print_status(rt: &HostRuntime, name: String, is_json: bool) -> Result<(),
     let alloc = rt.alloc();
     let (settings, _) = disk_in(rt, name.as_str())?;
     let state = settings.state.as_str();
-    let file = state_bytes(alloc, &SystemFiles { rt }, kept_bytes(rt, state), state)?;
-    let kept = kept_in(alloc, file.as_slice(), state)?;
+    let kept = read_disk(rt, state)?;
     let keys = keys_in(alloc, &settings, &kept.head, name.as_str())?;
     let status = match sealer_in(&kept.head, &keys) {
         DiskSealer::Plain(sealer) => {
@@ -117,11 +116,12 @@ pub fn retry(rt: &HostRuntime, name: String) -> Result<(), Fault> {
     let state = settings.state;
     let _lock = take_lock(rt, state.as_str())?;
     if forget_failure(rt, state.as_str())? {
-        let _passed_over = rt.print("oramdisk serve goes on from the kept state\n");
+        let _passed_over = rt.print("oramdisk serve goes on from the saved state\n");
         return Ok(());
     }
-    match kept_name(rt, state.as_str())? {
-        Some(_) => Err(Fault::About(FaultKind::NotFailed, state)),
-        None => Err(Fault::About(FaultKind::Unformatted, state)),
+    if is_there(rt, state.as_str())? {
+        Err(Fault::About(FaultKind::NotFailed, state))
+    } else {
+        Err(Fault::About(FaultKind::Unformatted, state))
     }
 }

@@ -5,14 +5,16 @@ ghost use Rattle.std.specs.Prelude.{◌≡◌, true};
 use crate::clients::{ClientAttendant, ClientLook, Dismissal};
 use crate::watched_disk::{FailureKeeper, WatchedDisk};
 use oram_bucket::Sealer;
-use oram_client::{FileKeeper, FilePlace, Keys, SystemFiles};
+use oram_client::{Keys, SystemFiles};
 use oram_core::Reason;
 use oram_disk_client::{
     DiskSealer, HostLink, LockedDisk, ReachedCore, Stop, UnfailedDisk, disk_in, keep_failure,
-    keeper_for, kept_in, keys_in, link_to, process_for, reached, sealer_in, stop_fault, tape_for,
+    keys_in, link_to, process_for, reached, sealer_in, stop_fault, tape_for,
 };
 use oram_disk_host::{Fault, FaultKind, listen_at, not_accepted, time};
+use oram_keeper::PairKeeper;
 use oram_nbd::{BlockDevice, DiskFault, NbdFault, is_stop, serve};
+use oram_redo::SystemPair;
 use oram_rounds::{BatchLink, Keeper, KeptCore};
 use oram_session::{ChaChaTape, Tape};
 use oram_settings::{DiskSettings, counted, failure_text, relative_to, serving_text};
@@ -222,11 +224,11 @@ fn serve_clients<D: BlockDevice>(
     serve_all(rt, &clients.listener, disk)
 }
 
-/// Keeps a process in the file of a disk.
-type DiskKeeper<'a> = FileKeeper<FilePlace<&'a HostRuntime>>;
+/// Keeps a process in the files of a disk's state.
+type DiskKeeper = PairKeeper<SystemPair>;
 
-/// A core with the keeper of its file and the link to its host.
-type DiskVolume<'a, S> = Volume<S, HostLink<'a>, DiskKeeper<'a>, ChaChaTape>;
+/// A core with the keeper of its state and the link to its host.
+type DiskVolume<'a, S> = Volume<S, HostLink<'a>, DiskKeeper, ChaChaTape>;
 
 /// Returns why a disk stopped.
 fn stopped<S: Sealer>(alloc: Global, volume: &DiskVolume<'_, S>, settings: &DiskSettings) -> Fault {
@@ -266,13 +268,13 @@ fn serve_volume<S: Sealer>(
     Err(stopped(alloc, &disk.disk, settings))
 }
 
-/// Serves the disk of a process that was kept, until it stops. The process goes on with `keeper`, whose place has found the
-/// file that the process was read from.
+/// Serves the disk of a process that was kept, until it stops. The process goes on with `keeper`, which holds the files open that
+/// the process was read from.
 fn serve_process<S: Sealer>(
     rt: &HostRuntime,
     settings: &DiskSettings,
     clients: &Clients,
-    keeper: DiskKeeper<'_>,
+    keeper: DiskKeeper,
     keys: &Keys,
     kept: KeptCore<S>,
 ) -> Result<(), Fault> {
@@ -359,10 +361,8 @@ fn serve_kept(
 ) -> Result<(), Fault> {
     let alloc = rt.alloc();
     let settings = disk.settings();
-    let (place, file) = disk.read_state(rt)?;
-    let kept = kept_in(alloc, file.as_slice(), settings.state.as_str())?;
+    let (keeper, kept) = disk.open_state(rt)?;
     let keys = keys_in(alloc, settings, &kept.head, name)?;
-    let keeper = keeper_for(place, kept.head, settings);
     match sealer_in(&kept.head, &keys) {
         DiskSealer::Plain(sealer) => {
             let process = process_for(alloc, settings, name, &kept, sealer)?;
