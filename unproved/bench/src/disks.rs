@@ -1,28 +1,29 @@
-//! What it costs a disk to keep its state: requests of 4 KiB with each state kept in memory, kept in a file, and with
-//! that file synced.
+//! What it costs a disk to keep its state: requests of 4 KiB with each state kept in memory, kept in its two files, and with
+//! these synced.
 //!
 //! It formats a disk of 16 MiB in memory, with two trees of blocks of 4,096 bytes, sealed. In one run it makes the same
 //! reads and writes as rounds of one command and as NBD requests, with each state kept in memory, and as NBD requests
-//! with each state kept in a file of a folder, without sync and with it. The host is a server in memory, and there is no
+//! with each state kept in two files in a folder, without sync and with it. The host is a server in memory, and there is no
 //! socket in between, so it measures the client's own work.
 
 mod requests;
 
+use crate::keepings::{keeper_at, remove};
 use oram_bucket::ChaChaSeal;
-use oram_client::{DiskKey, FileKeeper, FilePlace, Head, Salt, SealerKind};
 use oram_core::{Command, Core, Note};
 use oram_geometry::Device;
 use oram_host::Server;
 use oram_nbd::{Arrived, ClientWatch, transmit};
+use oram_redo::Syncs;
 use oram_rounds::{KeepError, Keeper, KeptParts, OneByOne, RoundLink, perform, record_len};
 use oram_session::{ChaChaTape, Direct, has_no_work, submit};
 use oram_volume::Volume;
 use requests::{Access, BLOCK_BYTES, BLOCKS, REQUESTS, said, some_accesses};
 use std::alloc::{AllocError, Global};
+use std::io;
 use std::io::Read;
-use std::rt::{Clock, Files};
+use std::rt::Clock;
 use std::time::{Duration, Instant};
-use std::{fs, io};
 
 /// A client that stays for as long as it is served.
 #[derive(Drop)]
@@ -211,16 +212,11 @@ fn by_requests<K: Keeper + Drop>(
     time_of_requests(rt, &mut disk, said)
 }
 
-/// Returns how long the NBD requests in `said` take on a new disk whose state is kept in the file `name`.
-fn by_file<R: Files + Clock + Alloc<A = Global>>(
-    rt: &R,
-    name: &str,
-    sync: bool,
-    said: &[u8],
-) -> io::Result<Duration> {
-    let place = FilePlace::new(rt, rt.alloc(), name)?;
-    let head = Head::new(&DiskKey([4; 32]), Salt([4; 32]), SealerKind::ChaCha20);
-    by_requests(rt, FileKeeper::new(place, head, sync), said)
+/// Returns how long the NBD requests in `said` take on a new disk whose state is kept in files at the path `name`.
+fn by_files(rt: &HostRuntime, name: &str, syncs: Syncs, said: &[u8]) -> io::Result<Duration> {
+    let taken = by_requests(rt, keeper_at(rt, name, syncs)?, said)?;
+    remove(rt, name)?;
+    Ok(taken)
 }
 
 /// Prints the time of a request, and how many times that of a round it is.
@@ -235,30 +231,22 @@ fn report(rt: &impl Print, name: &str, time: Duration, round: Duration) -> io::R
 }
 
 /// Measures the accesses as rounds, and the requests in `said`, which are the same, with each keeper.
-fn measure_each<R: Files + Clock + Print + Alloc<A = Global>>(
-    rt: &R,
-    name: &str,
-    accesses: &[Access],
-    said: &[u8],
-) -> io::Result<()> {
+fn measure_each(rt: &HostRuntime, name: &str, accesses: &[Access], said: &[u8]) -> io::Result<()> {
     let round = by_rounds(rt, accesses)?;
     report(rt, "rounds of one command, kept in memory", round, round)?;
     let in_memory = by_requests(rt, MemoryKeeper::new(rt.alloc()), said)?;
     report(rt, "requests, kept in memory", in_memory, round)?;
-    for (line, sync) in [
-        ("requests, kept without sync", false),
-        ("requests, kept and synced", true),
+    for (line, syncs) in [
+        ("requests, kept without sync", Syncs::LeftOut),
+        ("requests, kept and synced", Syncs::Made),
     ] {
-        report(rt, line, by_file(rt, name, sync, said)?, round)?;
+        report(rt, line, by_files(rt, name, syncs, said)?, round)?;
     }
     Ok(())
 }
 
 /// Makes all of these measurements, with files in this folder.
-pub(crate) fn measure<R: Files + Clock + Print + Alloc<A = Global>>(
-    rt: &R,
-    folder: &str,
-) -> io::Result<()> {
+pub(crate) fn measure(rt: &HostRuntime, folder: &str) -> io::Result<()> {
     let alloc = rt.alloc();
     println!(rt;
         "{REQUESTS} requests of {BLOCK_BYTES} bytes, reads and writes, of a disk of {BLOCKS} blocks"
@@ -266,6 +254,5 @@ pub(crate) fn measure<R: Files + Clock + Print + Alloc<A = Global>>(
     let accesses = some_accesses(alloc)?;
     let said = said(alloc, &accesses)?;
     let name = format!(in alloc; "{folder}/bench.state")?;
-    measure_each(rt, name.as_str(), &accesses, &said)?;
-    fs::remove_file(rt, name.as_str())
+    measure_each(rt, name.as_str(), &accesses, &said)
 }

@@ -3,7 +3,8 @@
 //! `run FILE` makes the first device of `bench core` in a new file, one tree of blocks of 4,096 bytes. It prints how
 //! many FETCHes and STOREs a second the store answers, how many the server in memory answers, and how many synced
 //! writes of the same bytes there are a second, all in one run: each with its mean, its median and the longest. Then it prints how
-//! long each STORE takes if it arrives alone, with seven others or with fifteen others, and how often the files are synced for it.
+//! long each STORE takes if it arrives alone, with seven others or with fifteen others, and how often the files are synced for it; and
+//! the same for STOREs between the two PUTs of a stamp, as the client of a disk sends them.
 //!
 //! `fill FILE DEPTH` makes a whole tree of that depth of the same records in a new file (depth 16: 2.2 GB). `open FILE`
 //! opens what `fill` left, and fetches the paths of its first 1,000 leaves. Each prints the most memory that the

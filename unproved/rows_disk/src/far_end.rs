@@ -1,6 +1,7 @@
 //! The far end of a connection: a host that answers each message when its answer is read.
 
 use oram_host::Server;
+use oram_sockets::WriteDuplex;
 use oram_wire::{LONGEST_BODY, next_frame, put_frame};
 use rows::lacks_room;
 use std::alloc::Global;
@@ -180,5 +181,17 @@ impl<'a> Write for Messages<'a> {
 
     fn flush(&mut self) -> io::Result<()> {
         Ok(())
+    }
+}
+
+/// It never has to wait.
+impl<'a, R: Read> WriteDuplex<R> for Messages<'a> {
+    fn write_duplex(
+        &mut self,
+        _reader: &mut R,
+        bytes: &[u8],
+        _room: usize,
+    ) -> io::Result<Option<usize>> {
+        Ok(Some(self.write(bytes)?))
     }
 }

@@ -1,6 +1,6 @@
 //! Two files in memory.
 
-use oram_layout::Identity;
+use oram_pair::Identity;
 use oram_redo::{FileKind, FilePair, MemoryPair};
 use oram_store::create;
 use rows::{Page, RowFault, RowWords};

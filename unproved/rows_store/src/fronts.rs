@@ -1,11 +1,12 @@
 //! The first bytes of a bucket file and of its log.
 
-use oram_layout::{Front, Identity, front_of, log_front_of, read_front, read_log_front};
+use oram_layout::{Front, LETTERS, read_front};
+use oram_pair::{Identity, front_of, identity_in};
 use rows::{Page, RowFault, RowWords};
 use std::alloc::Global;
 
 /// Reads the next word as an identity. Fails if it doesn't have 16 bytes.
-fn identity_in(alloc: Global, words: &mut RowWords) -> Result<Identity, RowFault> {
+fn identity_word(alloc: Global, words: &mut RowWords) -> Result<Identity, RowFault> {
     let bytes = words.bytes(alloc);
     let mut identity = [0; 16];
     if bytes.len() != identity.len() {
@@ -33,7 +34,7 @@ fn read(alloc: Global, words: &mut RowWords, page: &mut Page) -> Result<(), RowF
 /// `front read_log BYTES`: writes whether a log begins with these bytes.
 fn read_log(alloc: Global, words: &mut RowWords, page: &mut Page) -> Result<(), RowFault> {
     let bytes = words.bytes(alloc);
-    match read_log_front(&bytes) {
+    match identity_in(&LETTERS.log, &bytes) {
         Some(identity) => write_ours(page, &identity),
         None => page.word("none"),
     }
@@ -50,11 +51,11 @@ pub fn answer(
 ) -> Result<(), RowFault> {
     match name {
         "buckets" => {
-            page.bytes(&front_of(&identity_in(alloc, words)?));
+            page.bytes(&front_of(&LETTERS.records, &identity_word(alloc, words)?));
             Ok(())
         }
         "log" => {
-            page.bytes(&log_front_of(&identity_in(alloc, words)?));
+            page.bytes(&front_of(&LETTERS.log, &identity_word(alloc, words)?));
             Ok(())
         }
         "read" => read(alloc, words, page),

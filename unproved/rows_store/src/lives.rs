@@ -2,7 +2,7 @@
 
 use crate::files::{IDENTITY, created, write_bytes};
 use crate::lent::FailingFiles;
-use oram_layout::Generation;
+use oram_pair::Generation;
 use oram_redo::MemoryPair;
 use oram_store::{FileStore, StoreFault};
 use oram_wire::HostAnswer;

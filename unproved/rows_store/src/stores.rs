@@ -3,7 +3,7 @@
 use crate::answers::{ask, ask_bytes, spelled, write_answer};
 use crate::files::{IDENTITY, created};
 use oram_host::Server;
-use oram_layout::Generation;
+use oram_pair::Generation;
 use oram_redo::{FileKind, FilePair, MemoryPair};
 use oram_store::{FileStore, StoreFault};
 use oram_wire::{Sink, SinkFault};

@@ -1,19 +1,26 @@
 //! Calls of the system: new files, and how much memory the process had.
 
-use oram_store::{BucketFile, open_store};
+use oram_store::{BucketFile, StoreFault, make_store, open_store};
 use std::rt::Files;
 use std::{fs, io};
 
 /// Returns the store of a new file. If the file exists already, leaves it alone and fails.
 pub(crate) fn new_store(rt: &HostRuntime, name: &str) -> io::Result<BucketFile> {
-    if fs::exists(rt, name)? {
-        return Err(io::ErrorKind::AlreadyExists.into());
-    }
-    opened(rt, name)
+    reported(rt, name, make_store(rt, rt.alloc(), name))
 }
 
+/// Opens the store of a file that is there.
 pub(crate) fn opened(rt: &HostRuntime, name: &str) -> io::Result<BucketFile> {
-    match open_store(rt, rt.alloc(), name) {
+    reported(rt, name, open_store(rt, rt.alloc(), name))
+}
+
+/// Returns a store, or prints why there is none.
+fn reported(
+    rt: &impl Print,
+    name: &str,
+    found: Result<BucketFile, StoreFault>,
+) -> io::Result<BucketFile> {
+    match found {
         Ok(store) => Ok(store),
         Err(fault) => {
             println!(rt; "{name}: {fault}")?;
