@@ -9,6 +9,7 @@ from contextlib import suppress
 from trials.bucket_file import BucketFile, log_of
 from trials.bucket_host import Host
 from trials.connections import connect
+from trials.kept_files import KeptFiles
 from trials.nbd_client import NbdClient
 from trials.ports import free_port
 from trials.processes import LONGEST_WAIT, begin, end_of
@@ -43,6 +44,7 @@ class Disk:
         self.set(host=self.host_address(), **values)
         self.process = None
         self.state_file, self.settings_file = self.folder / "disk.state", self.folder / "disk.toml"
+        self.kept = KeptFiles(self.state_file)
 
     def set(self, **values):
         """Puts values into disk.toml."""

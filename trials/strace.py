@@ -143,22 +143,51 @@ def from_hex(text):
 
 
 def trace_renames_and_syncs(folder, *words):
-    """Runs a program to its end. Returns how it ended, and its renames and syncs that were done, in order: each as the call with the new
+    """Runs a program to its end. Returns how it ended, and its renames, links and syncs that were done, in order: each as the call with the new
     name or the file. Returns None for both if strace can't be used."""
+    end, calls = trace_steps(folder, *words)
+    return end, calls and [(step, file) for step, file in calls if step not in ("write", "send")]
+
+
+def trace_steps(folder, *words):
+    """Runs a program to its end. Returns how it ended, and its steps in order. Returns None for both if strace can't be used."""
     with tempfile.NamedTemporaryFile() as found:
         if not is_usable():
             return None, None
-        tracer = ["strace", "-f", "-y", "-o", found.name, "-e", "trace=fsync,fdatasync,rename,renameat,renameat2"]
+        tracer = ["strace", "-f", "-y", "-o", found.name, "-e", f"trace={STEPS}"]
         end = end_of(start([*tracer, *words], folder))
-        text = Path(found.name).read_text()
-    calls = re.findall(r'(sync)\(\d+<([^>]*)>\) += 0|(rename)\w*\(.*"([^"\n]*)"[^"\n]*\) += 0', text)
-    return end, [(sync or rename, file or name) for sync, file, rename, name in calls]
+        return end, steps_in(Path(found.name).read_text())
+
+
+# Writes to places, syncs, new names, and what is sent.
+STEPS = "pwrite64,fsync,fdatasync,rename,renameat,renameat2,link,linkat,sendto"
+STEP = re.compile(r'(pwrite)64\(\d+<([^>]*)>.* = \d+|(sync)\(\d+<([^>]*)>\) += 0|(rename|link)\w*\(.*"([^"\n]*)"[^"\n]*\) += 0|(send)to\(')
+
+
+def steps_in(text):
+    """The steps in the lines that strace has written: each as what it does, with the file or its new name. Those that are sent have no file."""
+    steps = []
+    for wrote, written, synced, file, named, name, sent in STEP.findall(text):
+        steps.append(("write" if wrote else synced or named or sent, written or file or name))
+    return steps
+
+
+def steps_while(process, ask):
+    """The steps of a process while `ask` asks something of it; None if they can't be seen here."""
+    text = trace_while(process, ask, STEPS)
+    return text and steps_in(text)
 
 
 def count_syncs(process, ask):
     """How many syncs a process makes while `ask` asks something of it; None if they can't be counted here."""
+    text = trace_while(process, ask, "fsync,fdatasync")
+    return None if text is None else len(re.findall(r"f(?:data)?sync\(", text))
+
+
+def trace_while(process, ask, calls):
+    """The lines that strace writes about these calls of a process while `ask` asks something of it; None if it can't be used here."""
     with tempfile.NamedTemporaryFile() as found:
-        words = ["strace", "-f", "-e", "trace=fsync,fdatasync", "-o", found.name, "-p", str(process.pid)]
+        words = ["strace", "-f", "-y", "-e", f"trace={calls}", "-o", found.name, "-p", str(process.pid)]
         tracer = subprocess.Popen(words, stderr=subprocess.PIPE)
         if b"attached" not in tracer.stderr.readline():
             tracer.wait()
@@ -166,4 +195,4 @@ def count_syncs(process, ask):
         ask()
         tracer.send_signal(signal.SIGINT)
         tracer.communicate()
-        return len(re.findall(r"f(?:data)?sync\(", Path(found.name).read_text()))
+        return Path(found.name).read_text()

@@ -5,6 +5,7 @@ from dataclasses import dataclass, field
 from pathlib import Path
 
 from trials.formats.ciphers import siphash, xored
+from trials.formats.pair_files import joined
 from trials.formats.reader import Misread, Reader
 from trials.formats.sizes import node_of
 
@@ -58,54 +59,11 @@ class Buckets:
         return b"".join(hashlib.sha256(self.record(tree, child)).digest() for child in (2 * node + 1, 2 * node + 2))
 
 
-def log_entries(log):
-    """The entries of a log: places, and the bytes that belong there."""
-    reader = Reader(log, "little")
-    reader.take(4096)
-    while (gate := reader.number(1)) == 255:
-        head = reader.take(12)
-        place, count = int.from_bytes(head[:8], "little"), int.from_bytes(head[8:], "little")
-        patch = reader.take(count)
-        if reader.number(8) != siphash(head + patch):
-            raise Misread("the checksum of an entry")
-        yield place, patch
-    if gate != 15:
-        raise Misread("the byte after the last entry")
-
-
-def generation_of(front):
-    """The greatest number in the sound fields of a front."""
-    fields = [front[at : at + 16] for at in (32, 48)]
-    numbers = [int.from_bytes(field[:8], "little") for field in fields if siphash(front[:32] + field[:8]) == int.from_bytes(field[8:], "little")]
-    if not numbers:
-        raise Misread("the fields of generations")
-    return max(numbers)
-
-
-def least_length_of(front):
-    """The length that a file has at least, as its front says; 0 if it says none."""
-    length, check = front[64:72], front[72:80]
-    return int.from_bytes(length, "little") if siphash(length) == int.from_bytes(check, "little") else 0
-
-
 def read_buckets(name):
     """A bucket file with its log, whose entries are put at their places."""
-    file, log = Reader(Path(name).read_bytes(), "little"), Reader(Path(f"{name}-log").read_bytes(), "little")
-    file.expect(b"VIDLAQEB", "a bucket file begins so")
-    log.expect(b"VIDLAQEL", "its log begins so")
-    if (file.number(8), log.number(8)) != (3, 3) or file.take(16) != log.take(16):
-        raise Misread("the versions, or the identities")
     # A host has written a generation by now, and with it the length.
-    if not 8192 < least_length_of(file.data) <= len(file.data):
-        raise Misread("the length of the file")
-    data, entries = bytearray(file.data), list(log_entries(log.data))
-    ahead = generation_of(log.data) - generation_of(file.data)
-    if ahead not in ([0] if entries else [0, 1]):
-        raise Misread("the generations")
-    for place, patch in entries:
-        data.extend(bytes(max(0, place + len(patch) - len(data))))
-        data[place : place + len(patch)] = patch
-    return Buckets(bytes(data), read_shapes(bytes(data[4096:8192])))
+    data = joined(Path(name).read_bytes(), Path(f"{name}-log").read_bytes(), (b"VIDLAQEB", b"VIDLAQEL"), 3, 8192)
+    return Buckets(data, read_shapes(data[4096:8192]))
 
 
 def read_shapes(entries):

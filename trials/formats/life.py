@@ -72,10 +72,10 @@ class Life:
         self.disk.end("host")
         data, address, tree = os.urandom(self.sizes.block_bytes), next(iter(self.contents)), len(self.sizes.trees()) - 1
         client.send(WRITE, address * len(data), len(data), data)
-        state, begun = self.disk.state(), time.monotonic()
+        state, begun = self.disk.state_while_served(), time.monotonic()
         while state.accepted == self.accepted and time.monotonic() < begun + LONGEST_STEP:
             time.sleep(0.02)
-            state = self.disk.state()
+            state = self.disk.state_while_served()
         self.disk.end("serve")
         state = self.disk.state()
         tape = Tape(derived(self.disk.key(), b"vidlaqe tape key", state.salt), tree + 1)

@@ -138,7 +138,19 @@ class DiskFolder:
             process.wait()
 
     def state(self):
-        return read_state((self.folder / "disk.state").read_bytes())
+        # Who reads the file first misses nothing that is in the log by then.
+        return read_state((self.folder / "disk.state").read_bytes(), (self.folder / "disk.state-log").read_bytes())
+
+    def state_while_served(self):
+        """The state of a disk whose process may write its files meanwhile."""
+        begun = time.monotonic()
+        while True:
+            try:
+                return self.state()
+            except Misread:
+                if time.monotonic() > begun + LONGEST_STEP:
+                    raise
+                time.sleep(0.02)
 
     def said(self):
         """What its processes have printed last."""

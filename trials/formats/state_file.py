@@ -1,14 +1,18 @@
-"""The file of a disk's state."""
+"""The two files of a disk's state."""
 
 from dataclasses import dataclass, field
 
 from trials.formats.ciphers import siphash
+from trials.formats.pair_files import joined
 from trials.formats.reader import Misread, Reader
 from trials.formats.sizes import Sizes
 
-LETTERS = b"VIDLAQE6"
+# The letters of the file and of its log, and their version.
+LETTERS, VERSION = (b"VIDLAQEC", b"VIDLAQCL"), 1
+# Where the head stands, and the pages behind it, each with up to so many numbers of the table.
+HEAD_AT, PAGES_AT, PAGE_LEN, NUMBERS = 4096, 8192, 1024, 254
 # How many bytes the salt, the key check and the sealer have, and how many fields of a core that hasn't failed stand before its table.
-HEAD, BEFORE_TABLE = 65, 45
+TITLE, BEFORE_TABLE = 65, 45
 # The kind of a command that writes.
 WRITE_BLOCK = 0x12
 # A state that has failed keeps no trees, and one that is at work has the commands that wait.
@@ -56,16 +60,47 @@ class State:
     message: bytes = b""
 
 
-def read_state(data):
-    """The state that a file keeps."""
-    head = Reader(data)
-    head.expect(LETTERS, "a kept file begins so")
+@dataclass
+class Parts:
+    """The text that the file holds: what stands before the table, the table's numbers in four bytes each, and what stands behind it."""
+
+    before: bytes
+    table: bytes
+    after: bytes
+
+
+def summed(data, check, what):
+    """These bytes, if this is their checksum."""
+    if siphash(data) != check:
+        raise Misread(what)
+    return data
+
+
+def read_parts(data):
+    """The parts of the text that the bytes of a file hold."""
+    head = Reader(data[HEAD_AT : HEAD_AT + 40], "little")
+    before_len, numbers, after_len, check = (head.number(8) for _ in range(4))
+    summed(head.data[:32], head.number(8), "the checksum of the head")
+    count, table = -(-numbers // NUMBERS), b""
+    for page in range(count):
+        reader = Reader(data[PAGES_AT + page * PAGE_LEN :], "little")
+        said = reader.take(4 * min(NUMBERS, numbers - page * NUMBERS))
+        table += summed(said, reader.number(8), "the checksum of a page")
+    reader = Reader(data[PAGES_AT + count * PAGE_LEN :])
+    parts = Parts(reader.take(before_len), table, reader.take(after_len))
+    summed(parts.before + parts.after, check, "the checksum of the text around the table")
+    return parts
+
+
+def read_state(records, log):
+    """The state that a file and its log keep."""
+    parts = read_parts(joined(records, log, LETTERS, VERSION, PAGES_AT))
+    text = parts.before + parts.table + parts.after
+    head = Reader(text)
     salt, check, sealer = head.take(32), head.take(32), head.number(1)
-    if siphash(data[head.at : -8]) != int.from_bytes(data[-8:], "big"):
-        raise Misread("the checksum")
     stores = [read_store(head.take(head.number(8))) for _ in range(head.number(8))]
     note = head.take(head.number(8))
-    reader = Reader(data[head.at : -8])
+    reader = Reader(text[head.at :])
     blocks, block_bytes = reader.number(4), reader.number(4)
     leaf_load, slots, table = reader.number(2) + 1, reader.number(2), reader.number(4)
     sizes = Sizes(blocks, block_bytes, slots, leaf_load, table, is_sealed=sealer == 1)
@@ -78,9 +113,9 @@ def read_state(data):
         read_trees(reader, state)
     if mode in AT_WORK:
         read_work(reader, state)
-    text = data[len(LETTERS) + HEAD : -8]
-    table_at = head.at - len(LETTERS) - HEAD + BEFORE_TABLE
-    state.process_check = siphash(text[:table_at] + text[table_at + 4 * len(state.table) :])
+    if (len(parts.before), len(parts.table)) != (head.at + BEFORE_TABLE, 4 * len(state.table)):
+        raise Misread("the place of the table")
+    state.process_check = siphash(parts.before[TITLE:] + parts.after)
     if mode != FAILED and not reader.is_at_end():
         raise Misread("there is more after the state")
     return state

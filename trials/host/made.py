@@ -41,6 +41,7 @@ def try_making(trial):
     try_taken_names(trial)
     try_leftovers(trial)
     try_without_links(trial)
+    try_failing_links(trial)
     try_killed_makings(trial)
     try_makings_at_once(trial)
 
@@ -136,6 +137,21 @@ def try_without_links(trial):
     trial.check("both files have their names alone", sorted(it.name for it in host.folder.glob("buckets*")) == ["buckets", "buckets-log"])
 
 
+def try_failing_links(trial):
+    """A link fails although the file system has links: the host says so, renames nothing, and leaves nothing but a log that it gave its name."""
+    if not strace.is_usable():
+        trial.skip()
+        return
+    for number, left in enumerate(([], ["buckets-log"]), 1):
+        host = trial.host(f"failing-link-{number}")
+        host.start(strace.failing("link,linkat", "EIO", str(number)))
+        host.wait()
+        trial.check(f"link {number} fails: the host ends", host.process.returncode == BAD_FILE, host.process.returncode)
+        there = sorted(it.name for it in host.folder.glob("buckets*"))
+        trial.check(f"link {number} fails: what is there", there == left, there)
+        check_serves(trial, f"after link {number} failed", host)
+
+
 def try_killed_makings(trial):
     """A host is killed before each call of a making: there is no file, or the whole pair; and the next host makes it, or opens it."""
     if not strace.is_usable():
@@ -170,8 +186,7 @@ def kill_makings(trial, call):
 
 
 def try_makings_at_once(trial, rounds=10, together=4):
-    """Several hosts make the same file at once: one of them serves it at most, and the others say that it is held, or is there. One of them may
-    also see a new file that is gone once it opens it, and says that it can't be opened."""
+    """Several hosts make the same file at once: one of them serves it at most, and the others say that it is held, or is there."""
     for number in range(rounds):
         folder = trial.folder / f"at-once-{number}"
         folder.mkdir()
@@ -180,7 +195,7 @@ def try_makings_at_once(trial, rounds=10, together=4):
         serving = [host for host, line in zip(hosts, said) if line == b"oramdisk: made new\n"]
         ended = [host.wait(LONGEST_WAIT) for host in hosts if host not in serving]
         trial.check(f"makings at once {number}: one at most", len(serving) <= 1, said)
-        trial.check(f"makings at once {number}: the others", all(status in (FILE_HELD, EXISTS, BAD_FILE) for status in ended), (ended, said))
+        trial.check(f"makings at once {number}: the others", all(status in (FILE_HELD, EXISTS) for status in ended), (ended, said))
         for host in serving:
             host.send_signal(signal.SIGTERM)
             host.wait(LONGEST_WAIT)

@@ -10,7 +10,7 @@ from trials.bucket_messages import DONE, SHAPE_TAKEN, refused
 from trials.connections import connect
 from trials.host.files import A_SHAPE, write_settings
 from trials.processes import end_of
-from trials.statuses import LISTENER_TAKEN
+from trials.statuses import LISTENER_TAKEN, NO_BUCKETS
 
 
 def try_host_socket(trial):
@@ -40,6 +40,7 @@ def try_host_socket(trial):
     process.terminate()
     end_of(process)
     try_file_in_place(trial, folder, home, place)
+    try_ended(trial, folder)
     try_modes(trial, folder)
 
 
@@ -56,6 +57,15 @@ def try_file_in_place(trial, folder, home, place):
     line = "oramdisk: can't listen at home/buckets.sock: see that no other program listens there, that it is a place of this machine, and that you may use it"
     trial.ends("a file in place of a socket", trial.start("host", "home/host.toml", folder=folder), LISTENER_TAKEN, line)
     trial.check("the file stays", place.read_text() == "a file")
+
+
+def try_ended(trial, folder):
+    """A host that can't serve its file takes its socket away when it ends."""
+    (folder / "text").write_text("no buckets")
+    write_settings(folder, "text", "unix:ended.sock")
+    line = "oramdisk: text isn't a file of buckets, and is left as it is: name another file"
+    trial.ends("a host of no buckets", trial.start("host", "host.toml", folder=folder), NO_BUCKETS, line)
+    trial.check("its socket is gone", not (folder / "ended.sock").exists())
 
 
 def try_modes(trial, folder):

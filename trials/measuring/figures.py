@@ -2,6 +2,7 @@
 
 import os
 import random
+import re
 import struct
 import sys
 import time
@@ -59,24 +60,38 @@ def busy(process):
     return (int(fields[11]) + int(fields[12])) / TICKS
 
 
+def written(process):
+    """The bytes that a process has written to files so far, in whole pages, as the system counts them."""
+    return int(re.search(r"^write_bytes: (\d+)$", Path(f"/proc/{process.pid}/io").read_text(), re.M)[1])
+
+
+def most_memory(process):
+    """The most memory that a process had at once so far, in bytes."""
+    return int(re.search(r"^VmHWM:\s*(\d+) kB$", Path(f"/proc/{process.pid}/status").read_text(), re.M)[1]) * 1024
+
+
 class Figures:
-    """What requests over one line took: seconds for each, and the number of requests a second with sixteen in flight."""
+    """What requests over one line took: seconds for each, and the number of requests a second with sixteen in flight. Also what they cost each
+    process: processor time, bytes written to files, and memory."""
 
     def __init__(self, client, count, line=None, processes=()):
         places = client.size // BLOCK
         some = [(number % 2, random.randrange(places) * BLOCK) for number in range(count)]
         client.time_of(some[:2], BLOCK, 1)
-        carried, spent = line.carried if line else 0, [busy(process) for process in processes]
+        carried, spent = line.carried if line else 0, [(busy(process), written(process)) for process in processes]
         messages = line.frames.count if line else 0
         self.alone = client.time_of(some, BLOCK, 1) / count
         self.carried = ((line.carried if line else 0) - carried) / count
         self.messages = ((line.frames.count if line else 0) - messages) / count
-        self.busy = [(busy(process) - before) / count for process, before in zip(processes, spent)]
-        more = some * 2
+        self.busy = [(busy(process) - before) / count for process, (before, _) in zip(processes, spent)]
+        self.written = [(written(process) - before) / count for process, (_, before) in zip(processes, spent)]
+        more, before = some * 2, [written(process) for process in processes]
         self.sixteen = len(more) / client.time_of(more, BLOCK, SIXTEEN)
+        self.written_together = [(written(process) - then) / len(more) for process, then in zip(processes, before)]
         long = 16 * BLOCK
         in_order = [(READ, number * long % client.size) for number in range(max(2, count // 8))]
         self.long = client.time_of(in_order, long, 1) / len(in_order)
+        self.memory = [most_memory(process) for process in processes]
 
     def cells(self):
         """The figures as cells of a table's row."""

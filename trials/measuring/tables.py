@@ -17,4 +17,7 @@ def print_notes(rows):
         what = f"{name}: a 4 KiB request" if name else "A 4 KiB request"
         carries = f"carries {figures.carried / 1000:.0f} kB over the line both ways together, in {figures.messages:.1f} messages and their answers"
         takes = f"takes {spoken(figures.busy[0])} of the client's processor and {spoken(figures.busy[1])} of the host's"
-        print(f"\n{what} {carries}, and {takes}.")
+        writes = f"writes {figures.written[0] / 1000:.0f} kB to the client's files and {figures.written[1] / 1000:.0f} kB to the host's"
+        together = f"{figures.written_together[0] / 1000:.0f} kB and {figures.written_together[1] / 1000:.0f} kB"
+        print(f"\n{what} {carries}, and {takes}. It {writes}; with {SIXTEEN} in flight it is {together} for each.")
+        print(f"The client's process had at most {figures.memory[0] / 1e6:.0f} MB of memory, and the host's {figures.memory[1] / 1e6:.0f} MB.")

@@ -8,7 +8,7 @@ from trials.nbd.formatting import check_that_host_has_a_disk
 from trials.nbd.lost_host import unreachable
 from trials.ports import free_port
 from trials.processes import LONGEST_WAIT, end_of, start
-from trials.statuses import BAD_FILE, BAD_WORDS, NO_STATE, NO_STATE_FILE, OUT_OF_REACH
+from trials.statuses import BAD_FILE, BAD_WORDS, DAMAGED, NO_STATE, NO_STATE_FILE, OUT_OF_REACH
 
 
 def try_faults(trial):
@@ -16,8 +16,8 @@ def try_faults(trial):
     try_words(trial)
     disk = Disk(trial, "faults", size="1MiB")
     try_unformatted(trial, disk)
-    try_formattings(trial, disk)
-    try_damaged_state(trial, disk)
+    files = try_formattings(trial, disk)
+    try_damaged_state(trial, disk, files)
     try_lost_report(trial, disk)
 
 
@@ -61,7 +61,8 @@ def try_unformatted(trial, disk):
 
 
 def try_formattings(trial, disk):
-    """Settings that no disk can have, and formattings without a host or at a host that has a disk already."""
+    """Settings that no disk can have, and formattings without a host or at a host that has a disk already. Returns what the files of the disk held,
+    which was formatted; they are gone."""
     disk.set(size=1000)
     line = "faults/disk.toml, line 2: size has to be a whole number of blocks, from 1 to 67108864 of them"
     trial.ends("numbers of no disk", disk.format(), BAD_WORDS, f"oramdisk: {line}")
@@ -78,22 +79,30 @@ def try_formattings(trial, disk):
     trial.ends("no host", disk.format(), OUT_OF_REACH, unreachable(nobody))
     disk.set(host=disk.host_address())
     disk.formatted()
-    disk.state_file.rename(disk.folder / "kept")
+    files = disk.kept.read()
+    for file in files:
+        file.unlink()
     check_that_host_has_a_disk(trial, "a host that has a disk", disk)
+    return files
 
 
-def try_damaged_state(trial, disk):
-    """The last byte of the state is missing."""
-    disk.state_file.write_bytes((disk.folder / "kept").read_bytes()[:-1])
-    line = "oramdisk: faults/disk.state is damaged, and is left as it is: put back the newest copy of it, if there is one; oramdisk refuses an older one"
-    for command in ("serve", "status"):
-        trial.ends(f"{command}: a damaged state", disk.start(command), NO_STATE, line)
+def try_damaged_state(trial, disk, files):
+    """The last byte of the state is missing, or one in its text is another."""
+    state, log = files
+    whole = files[state]
+    cut = "oramdisk: faults/disk.state is shorter than it was, and is left as it is: put the whole file back"
+    damaged = "oramdisk: faults/disk.state, or its log, the file beside it with -log after its name, is damaged, and both are left as they are: put back the newest copies of both, if there are any; oramdisk refuses older ones"
+    for held, status, line in ((whole[:-1], DAMAGED, cut), (whole[:-1] + bytes([whole[-1] ^ 1]), NO_STATE, damaged)):
+        disk.kept.put({state: held, log: files[log]})
+        for command in ("serve", "status"):
+            trial.ends(f"{command}: {line}", disk.start(command), status, line)
+        trial.check(f"{line}: it is", state.read_bytes() == held)
+    disk.kept.put(files)
     disk.host.stop()
 
 
 def try_lost_report(trial, disk):
     """A report that can't be written is a fault."""
-    (disk.folder / "kept").rename(disk.state_file)
     with open("/dev/full", "wb") as full:
         end = end_of(start([trial.oramdisk, "status", "faults/disk.toml"], trial.folder, stdout=full))
     line = "oramdisk: standard output: the disk is full: make room on it\n"

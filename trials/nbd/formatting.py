@@ -3,12 +3,13 @@
 import signal
 import threading
 
+from trials import strace
 from trials.bucket_messages import FETCH, PUT, is_a
 from trials.disk import Disk
 from trials.disk_array import DiskArray, check_and_end, check_disk, make_requests
 from trials.nbd.no_room import no_room, refuse_for_room
 from trials.processes import LONGEST_WAIT, end_of
-from trials.statuses import HAS_A_DISK, HOST_FULL
+from trials.statuses import EXISTS, HAS_A_DISK, HOST_FULL, WRONG_LOG
 
 
 def check_that_host_has_a_disk(trial, what, disk, address=None):
@@ -40,7 +41,31 @@ def try_second_disk(trial):
     make_requests(trial, client, array, 3)
     check_disk(trial, "the first disk after the second one's formatting", client, array)
     first.end(client)
-    trial.check("the second disk has no state", not second.state_file.exists())
+    trial.check("the second disk has no state", not second.kept.left())
+
+
+def try_formatting_in_the_way(trial):
+    """Something is at one of the names of the new files, or where they are made: the formatting is refused before its host hears anything, so
+    the host has room for the disk once that is taken away."""
+    disk = Disk(trial, "format-way", table=16)
+    disk.start_host()
+    without = "oramdisk: there is no file {}, but a log is there, the file beside it with -log after its name: put the file back that the log belongs to, or take the log away"
+    taken = "oramdisk: {}{} is where the new {} is made, and something else is there, which is left as it is: take it away"
+    for name, status, line in (
+        ("disk.state-log", WRONG_LOG, without),
+        ("disk.state.unfinished", EXISTS, taken.format("{}", ".unfinished", "file")),
+        ("disk.state-log.unfinished", EXISTS, taken.format("{}", "-log.unfinished", "log")),
+    ):
+        other = disk.folder / name
+        other.write_bytes(b"of somebody else")
+        disk.relay.messages = 0
+        trial.ends(f"a formatting, with {name} in the way", disk.format(), status, line.format("format-way/disk.state"))
+        trial.check(f"a formatting, with {name} in the way: its host heard nothing", disk.relay.messages == 0, disk.relay.messages)
+        trial.check(f"a formatting, with {name} in the way: it stays", other.read_bytes() == b"of somebody else" and disk.kept.left() == [name])
+        other.unlink()
+    disk.host.stop()
+    disk.formatted()
+    check_and_end(trial, "a formatting with nothing in the way any more", disk, DiskArray())
 
 
 def try_full_formatting(trial):
@@ -50,7 +75,7 @@ def try_full_formatting(trial):
     refuse_for_room(disk.relay, PUT)
     end = end_of(disk.format())
     trial.check("a formatting without room", (end.status, end.err.decode().splitlines()[-1:]) == (HOST_FULL, [no_room(disk)]), end)
-    trial.check("a formatting without room: no state", not disk.state_file.exists())
+    trial.check("a formatting without room: no state", not disk.kept.left())
     disk.relay.instead = lambda body: None
     disk.host.stop()
     (salt, key_check, fetched), (other_salt, other_key_check, other_fetched) = [format_and_read(trial, disk, number) for number in range(2)]
@@ -72,9 +97,10 @@ def format_and_read(trial, disk, number):
     fetched = []
     disk.relay.instead = lambda body: fetched.append(body) if is_a(FETCH, body) else None
     check_and_end(trial, f"formatting {number}: what it holds", disk, DiskArray())
-    whole = disk.state_file.read_bytes()
-    disk.state_file.unlink()
-    return whole[8:40], whole[40:72], fetched
+    title = disk.kept.text()[:64]
+    for file in disk.kept.read():
+        file.unlink()
+    return title[:32], title[32:], fetched
 
 
 def kill_formatting(trial, disk, number):
@@ -102,14 +128,32 @@ def try_killed_formatting(trial):
     disk.start_host()
     for number in range(5):
         kill_formatting(trial, disk, trial.dice.randrange(3, 60))
-        trial.check(f"a killed formatting {number}: no state", not disk.state_file.exists())
+        trial.check(f"a killed formatting {number}: no state", not disk.kept.left(), disk.kept.left())
         if number == 0:
             check_that_host_has_a_disk(trial, "a formatting after a killed one", disk)
         disk.host.stop()
         disk.host.file = f"again-{number}"
         disk.start_host()
     disk.host.stop()
+    try_killed_making(trial, disk)
     disk.host.file = "last"
     disk.formatted()
     trial.check("a formatting at last", disk.status().get("state") == "it is sound")
     disk.host.stop()
+
+
+def try_killed_making(trial, disk):
+    """A formatting is killed right before one of the calls with which it makes the files of the state: it leaves both or no state, and the
+    next formatting takes away what it has left."""
+    if not strace.is_usable():
+        trial.skip()
+        return
+    for number, (calls, when) in enumerate([("link,linkat", 1), ("link,linkat", 2), ("fsync", 1), ("fdatasync", 1), ("fdatasync", 5), ("pwrite64", 1), ("pwrite64", 5)]):
+        what = f"a formatting that is killed before {calls} {when}"
+        disk.host.file = f"made-{number}"
+        disk.start_host()
+        end = end_of(disk.trial.start_under(strace.killing_before(calls, when), "format", f"{disk.name}/disk.toml"))
+        trial.check(f"{what}: it is killed", end.status == -signal.SIGKILL, end)
+        trial.check(f"{what}: there is no state", not disk.state_file.exists(), disk.kept.left())
+        trial.check(f"{what}: it has begun to make the files", disk.kept.left())
+        disk.host.stop()

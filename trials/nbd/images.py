@@ -25,7 +25,7 @@ def try_taken_names(trial):
     (folder / "half.img.unfinished").write_bytes(b"half")
     (folder / "other.img.unfinished").symlink_to("target.img")
     before = sorted(path.name for path in folder.iterdir())
-    taken = ["link.img", "pipe.img", "folder.img", "folder.img/", "half.img.unfinished", "taken/disk.state"]
+    taken = ["link.img", "pipe.img", "folder.img", "folder.img/", "half.img.unfinished", "taken/disk.state", "taken/disk.state-log"]
     for image, name in [(name, name) for name in taken] + [(f"{name}.img", f"{name}.img.unfinished") for name in ("half", "other")]:
         end = end_of(start_export(disk, image))
         line = f"oramdisk: {name} is there already: name another file\n".encode()

@@ -14,8 +14,7 @@ def try_life(trial):
     status = disk.status()
     wanted = {"used": "by nobody", "size": f"{SMALL} bytes, 63 blocks of 4096", "trees": "2", "waiting": "0", "state": "it is sound"}
     trial.check("life: how it stands", wanted.items() <= status.items(), status)
-    mode = disk.state_file.stat().st_mode & 0o777
-    trial.check("life: the state is its owner's", mode == 0o600, oct(mode))
+    check_folder(trial, "life: after the formatting", disk, {"disk.toml", "host.toml", "buckets", "buckets-log", "log"})
     line = "life/disk.state is there already, and is left as it is: to format anew, take it away, and name a new file at the host"
     trial.ends("life: format again", disk.format(), EXISTS, f"oramdisk: {line}")
     array = DiskArray()
@@ -30,7 +29,16 @@ def try_life(trial):
         make_requests(trial, client, array, 20)
         client.close()
         disk.stop(signal.SIGKILL)
+    check_folder(trial, "life: after it was served", disk, {"disk.toml", "host.toml", "buckets", "buckets-log", "log", "serve.log"})
     status = disk.status()
     made = int(status["accesses"].split()[0])
     trial.check("life: its accesses", made >= 3 * 63, status)
     disk.host.stop()
+
+
+def check_folder(trial, what, disk, others):
+    """Only its owner may read a disk's state and the log beside it, and its folder has nothing but them, their lock and these files."""
+    modes = {file.name: oct(file.stat().st_mode & 0o777) for file in disk.kept.read()}
+    trial.check(f"{what}: the state and its log are their owner's", modes == {"disk.state": "0o600", "disk.state-log": "0o600"}, modes)
+    found = {path.name for path in disk.folder.iterdir()}
+    trial.check(f"{what}: what is in the folder", found == others | {*modes, "disk.state.lock"}, found)

@@ -105,7 +105,7 @@ def try_reconnect_timeout(trial):
     """Whatever keeps a host from answering, the service waits until the reconnect timeout, and not much longer."""
     disk = Disk(trial, "deaf", table=16).formatted()
     disk.host.stop()
-    kept = disk.state_file.read_bytes()
+    kept = disk.kept.text()
     for kind in ("silent", "breaks", "drops"):
         what, deaf = f"a host that is {kind}", DeafHost(kind)
         for timeout in (1, 4):
@@ -113,7 +113,7 @@ def try_reconnect_timeout(trial):
             check_that_it_gives_up(trial, disk, "serve", deaf, timeout, texts)
         trial.check(f"{what}: it was tried more often than a message is sent otherwise", kind != "breaks" or deaf.connections > 8, deaf.connections)
         deaf.end()
-    trial.check("and the state is as it was", disk.state_file.read_bytes() == kept)
+    trial.check("and the state is as it was", disk.kept.text() == kept)
 
 
 def try_unanswered_formatting(trial):
@@ -122,7 +122,7 @@ def try_unanswered_formatting(trial):
     for kind, timeout in (("silent", 1), ("silent", 3), ("drops", 2)):
         what, deaf = f"formatting at a host that is {kind}, timeout {timeout}", DeafHost(kind)
         check_that_it_gives_up(trial, disk, "format", deaf, timeout, (f"{what}: its end", f"{what}: its time"))
-        trial.check(f"{what}: no state", not disk.state_file.exists())
+        trial.check(f"{what}: no state", not disk.kept.left())
         deaf.end()
 
 

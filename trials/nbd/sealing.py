@@ -33,7 +33,7 @@ def try_keys(trial):
     for disk in disks:
         disk.formatted()
         disk.host.stop()
-    heads = [disk.state_file.read_bytes()[8:72] for disk in disks]
+    heads = [disk.kept.text()[:64] for disk in disks]
     salts, checks = {head[:32] for head in heads}, {head[32:] for head in heads}
     trial.check("keys: each formatting has a salt of its own", len(salts) == len(disks), heads)
     trial.check("keys: the salts look random", all(len(set(salt)) > 16 for salt in salts), heads)
@@ -54,4 +54,4 @@ def try_known_bytes(trial):
     disk.start_host()
     end = end_of(start([*strace.giving_random(salt), trial.oramdisk, "format", "disk.toml"], disk.folder))
     disk.host.stop()
-    trial.check("keys: the salt that was drawn", end.status == 0 and disk.state_file.read_bytes()[8:40] == salt, end)
+    trial.check("keys: the salt that was drawn", end.status == 0 and disk.kept.text()[:32] == salt, end)

@@ -10,8 +10,8 @@ from trials.statuses import CHANGED_SETTING, NO_STATE, WRONG_KEY
 def try_wrong_settings(trial):
     """A disk has a wrong key, or numbers that aren't those of the formatting: `serve` and `status` say so, and change nothing."""
     disk = Disk(trial, "settings", table=16).formatted()
-    file, state = disk.settings_file, disk.state_file
-    right, kept = file.read_text(), state.read_bytes()
+    file = disk.settings_file
+    right, kept = file.read_text(), disk.kept.text()
     changed = "oramdisk: {} in settings/disk.toml was {} when the disk was formatted: put that back"
     other_key = "oramdisk: the key in settings/disk.toml isn't this disk's: put the one back that it was formatted with"
     key = re.search(r'^key = "(.*)"', right, re.MULTILINE)[1]
@@ -28,22 +28,25 @@ def try_wrong_settings(trial):
         for command in ("serve", "status"):
             trial.ends(f"{command} with another {list(values)[0]}", disk.start(command), status, line)
         file.write_text(right)
-    trial.check("the state is as it was", state.read_bytes() == kept)
-    # A state of an older format is reported as such.
-    line = "oramdisk: settings/disk.state is the state of a disk of an older version, and is left as it is: serve it with that version, and copy what is in it to a new disk"
-    for letters in (b"VIDLAQE1", b"VIDLAQE2", b"VIDLAQE3", b"VIDLAQE4"):
-        state.write_bytes(letters + kept[8:])
-        trial.ends("a state of an older form", disk.start("serve"), NO_STATE, line)
-    # One that was cut short, or in which a bit was flipped, is reported as damaged.
-    line = "oramdisk: settings/disk.state is damaged, and is left as it is: put back the newest copy of it, if there is one; oramdisk refuses an older one"
-    middle = len(kept) // 2
-    for torn in (kept[:-1], kept[:middle], kept[:middle] + bytes([kept[middle] ^ 1]) + kept[middle + 1 :]):
-        state.write_bytes(torn)
-        trial.ends("a damaged state", disk.start("serve"), NO_STATE, line)
-        trial.check("a damaged state stays", state.read_bytes() == torn)
-    state.write_bytes(kept)
+    trial.check("the state is as it was", disk.kept.text() == kept)
+    try_older_states(trial, disk)
     check_and_end(trial, "with its own settings: what it holds", disk, DiskArray())
     try_older_disk(trial, changed.format("leaf_load", 1))
+
+
+def try_older_states(trial, disk):
+    """States of older versions, which have no log, are reported as such, and left as they are. So is a file that is no state."""
+    files, text = disk.kept.read(), disk.kept.text()
+    state, log = files
+    log.unlink()
+    line = "oramdisk: settings/disk.state is the state of a disk of an older version, and is left as it is: serve it with that version, and copy what is in it to a new disk"
+    other = "oramdisk: settings/disk.state isn't the state of a disk, and is left as it is: see that the settings name the right file"
+    for whole, says in [*((b"VIDLAQE%d" % number + text, line) for number in range(1, 7)), (b"VIDLAQE7" + text, other), (b"", other), (b"VIDLAQEC", other)]:
+        state.write_bytes(whole)
+        for command in ("serve", "status", "check"):
+            trial.ends(f"{command} with a state that begins with {whole[:8]}", disk.start(command), NO_STATE, says)
+        trial.check(f"a state that begins with {whole[:8]} stays", state.read_bytes() == whole and disk.kept.left() == [state.name])
+    disk.kept.put(files)
 
 
 def try_older_disk(trial, line):

@@ -15,7 +15,8 @@ MOST_STASH = 30
 
 
 def try_space(trial):
-    """A disk takes at most 2.1 times its size at its host, also once all of it was written and read at random; its stash stays small."""
+    """A disk takes at most 2.1 times its size at its host, also once all of it was written and read at random; its stash stays small, and so
+    does the log of its state."""
     disk = Disk(trial, "space", size=f"{SIZE}", sync=False, table=BLOCKS).formatted()
     fresh = disk.host.path().stat().st_size
     client = disk.serve().client()
@@ -31,10 +32,12 @@ def try_space(trial):
     client.close()
     disk.stop()
     bytes_kept = disk.host.path().stat().st_size
+    state, log = (file.stat().st_size for file in (disk.kept.state, disk.kept.log))
+    trial.check("space: the log of its state", log <= disk.kept.longest_log(), (state, log))
     trial.check("space: the host's file", fresh <= bytes_kept <= MOST * SIZE, (fresh, bytes_kept))
     status = disk.status()
     made, stash = int(status["accesses"].split()[0]), int(status["stash"].split()[0])
     trial.check("space: its accesses", made >= 2 * BLOCKS, status)
     trial.check("space: its stash", stash <= MOST_STASH, status)
     disk.host.stop()
-    print(f"space: {SIZE} bytes take {bytes_kept} at the host; after {made} accesses the stash has {status['stash']}", flush=True)
+    print(f"space: {SIZE} bytes take {bytes_kept} at the host; after {made} accesses the stash has {status['stash']}; its state has {state} bytes, and the log {log}", flush=True)

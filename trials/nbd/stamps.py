@@ -1,16 +1,14 @@
 """A host whose file is older than what its disk knows, or whose stamps are forged; and a process that slept while another one went on."""
 
 import copy
-import hashlib
 import shutil
 import signal
-import tomllib
 
 from trials.bucket_file import BucketFile
 from trials.bucket_messages import NO_ROOM, PUT, STORE, fetch, is_a, refused
 from trials.disk import Disk
 from trials.disk_array import DiskArray, check_and_end, check_disk, lose_write, make_requests, write_block
-from trials.formats.ciphers import derived
+from trials.kept_files import KeptFiles
 from trials.nbd.tampering import STAMP_TREE
 from trials.statuses import NO_STAMPS, OLDER_HOST, REPLACED_STATE
 
@@ -40,12 +38,12 @@ def host_line(disk, says):
 def try_older_file(trial):
     """An older file of buckets that is put back is noticed before anything is stored. With the newest file the disk goes on."""
     disk, array, before = used_disk(trial, "older")
-    newest, state = disk.host_files(), disk.state_file.read_bytes()
+    newest, state = disk.host_files(), disk.kept.text()
     disk.put_host_files(before)
     disk.start_host()
     trial.ends("an older file: served over it", disk.start("serve"), OLDER_HOST, host_line(disk, OLDER))
     disk.host.stop()
-    trial.check("an older file: the state is as it was", disk.state_file.read_bytes() == state)
+    trial.check("an older file: the state is as it was", disk.kept.text() == state)
     disk.put_host_files(newest)
     disk.start_host()
     check_and_end(trial, "an older file: what it holds with the newest file", disk, array)
@@ -141,33 +139,6 @@ def try_forged_stamps(trial):
     check_and_end(trial, "forged stamps: what it holds afterwards", disk, array)
 
 
-def try_fifth_format(trial):
-    """A state of the format before is served beside the stamps that its program has put, which have the checksum of its whole text."""
-    disk, array, _ = used_disk(trial, "fifth_format")
-    state, own = disk.state_file.read_bytes(), stamps_of(disk)
-    answer = stamps_before(disk, state, own[1:9])
-    disk.start_host()
-    disk.relay.instead = lambda body: answer if body == fetch(STAMP_TREE, 0) else None
-    trial.ends("fifth format: its stamps beside the newest format", disk.start("serve"), REPLACED_STATE, f"oramdisk: {disk.name}/disk.state {REPLACED}")
-    disk.state_file.write_bytes(b"VIDLAQE5" + state[8:])
-    client = disk.serve().client()
-    disk.relay.instead = lambda body: None
-    check_disk(trial, "fifth format: what it holds", client, array)
-    disk.end(client)
-    trial.check("fifth format: what is kept next", disk.state_file.read_bytes()[:8] == b"VIDLAQE6")
-    disk.start_host()
-    check_and_end(trial, "fifth format: what it holds afterwards", disk, array)
-
-
-def stamps_before(disk, state, number):
-    """The stamps of this number that the program of the format before has put beside this state."""
-    settings = tomllib.loads(disk.settings_file.read_text())
-    key = derived(bytes.fromhex(settings["key"]), b"vidlaqe stamp key", state[8:40])
-    start = b"\0\0\0\1" + key
-    stamp = number + hashlib.sha256(start + b"\2" + state[-8:]).digest()[:8]
-    return b"\x80" + b"".join(stamp + hashlib.sha256(start + place + stamp).digest() for place in (b"\0", b"\1"))
-
-
 def stamps_of(disk):
     """The answer in which a host shows its stamps, given its files."""
     buckets = BucketFile(disk.host.path())
@@ -181,9 +152,10 @@ def copied(trial, disk, name):
     other = copy.copy(disk)
     other.name, other.folder = name, trial.folder / name
     other.folder.mkdir()
-    for file in ("disk.toml", "disk.state"):
-        shutil.copy(disk.folder / file, other.folder / file)
+    for file in (disk.settings_file, disk.kept.state, disk.kept.log):
+        shutil.copy(file, other.folder / file.name)
     other.state_file, other.settings_file = other.folder / "disk.state", other.folder / "disk.toml"
+    other.kept = KeptFiles(other.state_file)
     other.set(host=f"127.0.0.1:{disk.host.port}")
     return other
 

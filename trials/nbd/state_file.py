@@ -1,119 +1,146 @@
-"""The file of a disk's state: what a killed process may leave beside it, what stands in its way, and who may use it."""
+"""The two files of a disk's state: what a killed process leaves of them, what is in their way, who may use them, and who may look at them."""
 
 import signal
 import socket
+import threading
 
 from trials import strace
 from trials.bucket_file import BucketFile
 from trials.disk import Disk
-from trials.disk_array import DiskArray, ask_at_random, check_and_end, check_disk, lose_write, make_requests, write_block
+from trials.disk_array import DiskArray, ask_at_random, check_and_end, check_disk, make_requests, write_block
+from trials.host.kills import kill_children
 from trials.ports import free_port
+from trials.processes import end_of
 from trials.settings import put_values
-from trials.statuses import CANNOT_KEEP, IN_USE, LISTENER_TAKEN, REPLACED_STATE
+from trials.statuses import BAD_FILE, IN_USE, LISTENER_TAKEN, REPLACED_STATE
 
-TORN = b"torn" * 300_000
-
-
-def try_kept_file(trial):
-    """What a process that was killed may leave beside the state, and what stands in the state's way."""
-    for sync in (False, True):
-        disk = Disk(trial, f"kept-sync-{sync}".lower(), table=16, sync=sync).formatted()
-        array = DiskArray()
-        try_torn_beside_state(trial, disk, array)
-        try_older_beside_state(trial, disk, array)
-        if sync:
-            try_in_the_way(trial, disk, array)
-        disk.host.stop()
+# The calls before which a process is killed while it opens its files and keeps some states, each with the greatest number of the call. The
+# first writes make the copy of the log, and the next ones write its entries to their places.
+KILLING_CALLS = [("rename,renameat,renameat2", 1), ("fsync", 3), ("fdatasync", 12), ("pwrite64", 60)]
+# How many of the writes are tried.
+MOST_KILLS = 8
+# A process that is killed before one of these calls makes so many writes at most.
+MOST_WRITES = 6
 
 
-def try_torn_beside_state(trial, disk, array):
-    """A torn new file is beside the state, and then beside the state that was set aside: in both cases the state is read."""
-    state, aside = disk.state_file, disk.folder / "disk.state.aside"
-    for what, before in (("whole", state), ("set aside", aside)):
-        if before != state:
-            state.rename(before)
-        (disk.folder / "disk.state.new").write_bytes(TORN)
-        trial.check(f"{disk.name}: the state, {what}", disk.status().get("state") == "it is sound")
-        client = disk.serve().client()
-        check_disk(trial, f"{disk.name}: what it holds, with the state {what}", client, array)
-        make_requests(trial, client, array, 5)
-        client.close()
-        disk.stop(signal.SIGKILL)
-
-
-def try_older_beside_state(trial, disk, array):
-    """An older state that was set aside is beside the newer one: the newer one is read."""
-    older = disk.state_file.read_bytes()
-    client = disk.serve().client()
-    make_requests(trial, client, array, 5)
-    client.close()
-    disk.stop(signal.SIGKILL)
-    (disk.folder / "disk.state.aside").write_bytes(older)
-    client = disk.serve().client()
-    check_disk(trial, f"{disk.name}: what it holds, with an older state beside it", client, array)
-    client.close()
-    disk.stop()
-
-
-def try_in_the_way(trial, disk, array):
-    """A folder is where the state is to be put: the service ends without a reply, and what was acknowledged is there."""
-    client = disk.serve().client()
-    trial.check("in the way: a reply before", ask_at_random(trial, client, array))
-    held = disk.state_file.with_name("held")
-    disk.state_file.rename(held)
-    disk.state_file.mkdir()
-    lose_write(trial, "in the way: no reply", client, array)
-    status = disk.wait()
-    line = "oramdisk: can't keep the state in disk.state (the new file can't take the old one's place: it is a folder): see that its folder may be written and has room, and start again"
-    trial.check("in the way: how it ends", (status, disk.lines()[-1]) == (CANNOT_KEEP, line), (status, disk.lines()[-1]))
-    disk.state_file.rmdir()
-    held.rename(disk.state_file)
-    client = disk.serve().client()
-    check_disk(trial, "in the way: what it holds afterwards", client, array)
-    client.close()
-    disk.stop()
-
-
-def try_torn_file(trial):
-    """A new file that a killed process left torn is written over whole. So the next state is found, even if its process is killed as well
-    before it keeps another one."""
+def try_killed_keeping(trial):
+    """A process is killed right before one of the calls with which it opens its files or keeps a state, whichever it is: what was acknowledged
+    is there, and the files are sound."""
     if not strace.is_usable():
         trial.skip()
         return
-    disk = Disk(trial, "torn", table=16, sync=True).formatted()
-    array = DiskArray()
-    (disk.folder / "disk.state.new").write_bytes(TORN)
-    disk.serve(strace.killing_before("rename,renameat,renameat2", 2))
-    lose_write(trial, "torn: it is killed before it keeps a second state", disk.client(), array)
+    for sync in (True, False):
+        disk, array = Disk(trial, f"killed-keeping-{sync}".lower(), table=16, sync=sync).formatted(), DiskArray()
+        killed = 0
+        for calls, most in KILLING_CALLS:
+            for when in sorted(trial.dice.sample(range(1, most + 1), min(most, MOST_KILLS))):
+                killed += kill_before(trial, disk, array, calls, when)
+        trial.check(f"{disk.name}: it was killed often", killed > MOST_KILLS, killed)
+        check_and_end(trial, f"{disk.name}: what it holds at last", disk, array)
+
+
+def kill_before(trial, disk, array, calls, when):
+    """The process that serves the disk is killed before this call, or once it has made some writes. Returns whether it was killed before the call."""
+    what = f"{disk.name}, killed before {calls} {when}"
+    client = disk.serve(strace.killing_before(calls, when)).client()
+    is_killed = client is None or not all(write_block(trial, client, array, trial.dice.randrange(60)) for _ in range(MOST_WRITES))
+    if client:
+        client.stream.close()
+    if not is_killed:
+        kill_children(disk.process)
     disk.wait()
-    trial.check("torn: the state", disk.status().get("state") == "it is sound")
-    check_and_end(trial, "torn: what it holds", disk, array)
+    trial.check(f"{what}: the state", b"state: it is sound\n" in end_of(disk.start("status")).out)
+    client = disk.serve().client()
+    check_disk(trial, f"{what}: what it holds", client, array)
+    client.close()
+    disk.stop(signal.SIGKILL)
+    return is_killed
+
+
+def try_in_the_way(trial):
+    """What is in the place where the copy of the log is made: a half-made copy and a link are replaced, and what the link leads to stays. A
+    folder is left as it is, and nothing else is changed either."""
+    disk, array = Disk(trial, "way", table=16).formatted(), DiskArray()
+    copy, other = disk.folder / "disk.state-log.unfinished", disk.folder / "other"
+    other.write_bytes(b"other")
+    for what, put in (("a half-made copy", lambda: copy.write_bytes(b"half a copy")), ("a link", lambda: copy.symlink_to(other.name))):
+        put()
+        client = disk.serve().client()
+        check_disk(trial, f"beside {what}: what it holds", client, array)
+        make_requests(trial, client, array, 5)
+        client.close()
+        disk.stop(signal.SIGKILL)
+        trial.check(f"beside {what}: no copy is left", disk.kept.left() == ["disk.state", "disk.state-log"], disk.kept.left())
+    trial.check("what the link led to has its bytes", other.read_bytes() == b"other" and not other.is_symlink())
+    copy.mkdir()
+    before = disk.kept.read()
+    line = "oramdisk: can't open, read or write way/disk.state: see that it is there and may be written, and that its disk has room"
+    trial.ends("a folder in the way of the copy", disk.start("serve"), BAD_FILE, line)
+    trial.check("a folder in the way of the copy: the state", disk.status().get("state") == "it is sound")
+    trial.check("a folder in the way of the copy: the files are left as they are", disk.kept.read() == before)
+    copy.rmdir()
+    check_and_end(trial, "without the folder: what it holds", disk, array)
+
+
+def try_status_meanwhile(trial):
+    """While a disk is served under load, and while its next process opens the files, each look at it finds a sound state."""
+    for sync in (True, False):
+        disk, array = Disk(trial, f"looks-{sync}".lower(), table=16, sync=sync).formatted(), DiskArray()
+        for turn in range(2):
+            look_meanwhile(trial, f"{disk.name}, {turn}", disk, array)
+        check_and_end(trial, f"{disk.name}: what it holds", disk, array)
+
+
+def look_meanwhile(trial, what, disk, array, looks=20, most=500, batches=5):
+    """Looks so often at a disk from the start of its process on, and goes on until these batches of random requests have had their replies."""
+    ended, answered = threading.Event(), []
+    disk.serve()
+    seen = [end_of(disk.start("status")) for _ in range(3)]
+    client = disk.client()
+    load = threading.Thread(target=ask_until, args=(trial, client, array, ended, answered))
+    load.start()
+    while len(seen) < looks or (len(answered) < batches and len(seen) < most):
+        seen.append(end_of(disk.start("status")))
+    ended.set()
+    load.join()
+    wrong = [str(end) for end in seen if end.status != 0 or b"\nstate: it is sound\n" not in end.out or end.err]
+    trial.check(f"{what}: each look finds a sound state", not wrong, wrong[:2])
+    trial.check(f"{what}: it was served meanwhile", len(answered) >= batches and all(answered), len(answered))
+    client.close()
+    disk.stop(signal.SIGKILL)
+
+
+def ask_until(trial, client, array, ended, answered):
+    """Makes random requests, four at a time, until that is to end. Notes of each time whether all had a reply."""
+    while not ended.is_set():
+        answered.append(ask_at_random(trial, client, array, 4))
 
 
 def try_replaced(trial):
     """An older state that is put back is refused, and nothing is stored by it. With the newest state the disk goes on."""
     disk = Disk(trial, "replaced", table=16).formatted()
-    array, states = DiskArray(), [disk.state_file.read_bytes()]
+    array, states = DiskArray(), [disk.kept.read()]
     client = disk.serve().client()
     for turn in range(6):
         # The state after each write is the one of its round.
         for number in (turn, turn + 1, 2 * turn):
             write_block(trial, client, array, number)
-        states.append(disk.state_file.read_bytes())
+        states.append(disk.kept.read())
     # So the last of these states is only one round older than the newest one.
     write_block(trial, client, array, 3)
     disk.end(client)
-    newest, records = disk.state_file.read_bytes(), records_at(disk.host)
+    newest, records = disk.kept.read(), records_at(disk.host)
     disk.start_host()
     line = "oramdisk: replaced/disk.state is an older state of its disk, and nothing was stored by it: put the newest one back; if a loss of power with sync = false took that one, the disk is lost"
     for number, state in enumerate(states):
-        disk.state_file.write_bytes(state)
+        disk.kept.put(state)
+        text = disk.kept.text()
         trial.ends(f"replaced: served with older state {number}", disk.start("serve"), REPLACED_STATE, line)
-        trial.check(f"replaced: older state {number} is left as it is", disk.state_file.read_bytes() == state)
+        trial.check(f"replaced: older state {number} is left as it is", disk.kept.text() == text)
     disk.host.stop()
     trial.check("replaced: the host's records", records_at(disk.host) == records)
     disk.start_host()
-    disk.state_file.write_bytes(newest)
+    disk.kept.put(newest)
     check_and_end(trial, "replaced: what it holds with the newest state", disk, array)
 
 
@@ -142,7 +169,7 @@ def try_in_use(trial):
 
 def try_second_process(trial, disk):
     """A second process ends at once with a line, even if it is to serve at another address."""
-    before = disk.state_file.read_bytes()
+    before = disk.kept.read()
     line = "oramdisk: the disk of used/disk.state is in use by another process: end that one first"
     for command in ("serve", "format", "retry"):
         trial.ends(f"a second process, {command}", disk.start(command), IN_USE, line)
@@ -155,18 +182,20 @@ def try_second_process(trial, disk):
     put_values(other, {"state": "linked.state"})
     line = line.replace("used/disk.state", str(disk.state_file.resolve()))
     trial.ends("a second process by a link to the state", trial.start("serve", "used/other.toml"), IN_USE, line)
-    trial.check("the state is as it was", disk.state_file.read_bytes() == before)
+    trial.check("the files are as they were", disk.kept.read() == before)
 
 
 def try_linked(trial, disk, array):
-    """A disk whose settings name a link to its state: the state is replaced where it is, and the link stays."""
-    before = disk.state_file.read_bytes()
+    """A disk whose settings name a link to its state: the state is kept where it is, with the log beside it, and the link stays."""
+    before, folder = disk.kept.text(), sorted(path.name for path in disk.folder.iterdir())
     disk.set(state="linked.state")
     client = disk.serve().client()
     make_requests(trial, client, array, 5)
     disk.end(client)
     trial.check("the link stays", (disk.folder / "linked.state").is_symlink())
-    trial.check("the state that it leads to is a new one", disk.state_file.read_bytes() != before)
+    trial.check("the files that it leads to have a new state", disk.kept.text() != before)
+    found = sorted(path.name for path in disk.folder.iterdir())
+    trial.check("no other file is beside the link", found == folder, found)
     disk.set(state="disk.state")
     disk.start_host()
 
@@ -177,7 +206,7 @@ def try_taken_port(trial, disk):
         disk.stop(signal.SIGKILL)
         address = f"127.0.0.1:{taken.getsockname()[1]}"
         disk.set(listen=address)
-        before = disk.state_file.read_bytes()
+        before = disk.kept.text()
         line = f"oramdisk: can't listen at {address}: see that no other program listens there, that it is a place of this machine, and that you may use it"
         trial.ends("a port that is taken", disk.start("serve"), LISTENER_TAKEN, line)
-        trial.check("and the state is as it was", disk.state_file.read_bytes() == before)
+        trial.check("and the state is as it was", disk.kept.text() == before)

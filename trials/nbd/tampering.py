@@ -51,7 +51,7 @@ def check_retry(trial, disk, status, out, err):
 
 
 def check_that_retry_works(trial, disk):
-    check_retry(trial, disk, 0, b"oramdisk serve goes on from the kept state\n", "")
+    check_retry(trial, disk, 0, b"oramdisk serve goes on from the saved state\n", "")
 
 
 def try_tampered(trial):
@@ -63,10 +63,10 @@ def try_tampered(trial):
     disk.end(client)
     changed = tamper(disk.host.path())
     reason = fail_disk(trial, disk, array)
-    failed = disk.state_file.read_bytes()
+    failed = disk.kept.read()
     refused = "oramdisk: the disk of tampered/disk.state has failed, and oramdisk status says why: see that its own host is reached, with its own file, and then say oramdisk retry; oramdisk check says what is lost at the host, and oramdisk export --salvage saves the rest"
     trial.ends("tampered: served again", disk.start("serve"), DISK_FAILED, refused)
-    trial.check("tampered: its state is left as it is", disk.state_file.read_bytes() == failed and disk.status().get("state") == reason)
+    trial.check("tampered: its state is left as it is", disk.kept.read() == failed and disk.status().get("state") == reason)
     disk.host.stop()
     mend(disk.host.path(), changed)
     disk.start_host()
@@ -105,10 +105,10 @@ def try_each_level(trial):
     """A record that was changed at any level of a path is found at that level."""
     disk = Disk(trial, "levels", table=16, leaf_load=1).formatted()
     disk.host.stop()
-    before, kept = disk.host_files(), disk.state_file.read_bytes()
+    before, kept = disk.host_files(), disk.kept.read()
     for level in range(7):
         disk.put_host_files(before)
-        disk.state_file.write_bytes(kept)
+        disk.kept.put(kept)
         tamper(disk.host.path(), level)
         reason = failure_of(trial, disk, f"level {level}")
         trial.check(f"level {level}: why", is_failure(reason, 0, level), reason)

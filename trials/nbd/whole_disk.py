@@ -79,10 +79,10 @@ def check_image(trial, what, array, path):
 
 
 def state_and_host(disk):
-    """The bytes of the disk's state, and its host's records by tree and node, but for those of its stamps."""
+    """The bytes of the files of the disk's state, and its host's records by tree and node, but for those of its stamps."""
     disk.settle_host()
     records = BucketFile(disk.host.path()).records()
-    return disk.state_file.read_bytes(), {key: record for key, record in records.items() if key[0] < 254}
+    return disk.kept.read(), {key: record for key, record in records.items() if key[0] < 254}
 
 
 def try_export(trial):

@@ -17,7 +17,7 @@ def try_wrong_host(trial):
         one.settle_host()
         one.host.stop()
     leave_write_waiting(trial, disk, array)
-    kept, state = other.settled_files(), disk.state_file.read_bytes()
+    kept, state = other.settled_files(), disk.kept.text()
     empty = Host(trial.oramdisk, trial.folder / "empty")
     for what, host, status, says in (("another disk", other.host, OTHER_DISK, "keeps another disk"), ("no disk", empty, NO_DISK, "keeps no disk")):
         host.start()
@@ -28,7 +28,7 @@ def try_wrong_host(trial):
         trial.check(f"a host that keeps {what}: one message", disk.relay.messages == 1, disk.relay.messages)
         host.stop()
     trial.check("the other disk is as it was", other.settled_files() == kept)
-    trial.check("the state is as it was", disk.state_file.read_bytes() == state)
+    trial.check("the state is as it was", disk.kept.text() == state)
     disk.start_host()
     check_and_end(trial, "after the wrong hosts: what it holds", disk, array)
 

@@ -1,0 +1,90 @@
+"""The two files in which a disk's client keeps it, as docs/formats.md describes them: a file, and its redo log beside it."""
+
+import os
+import struct
+
+from trials.bucket_file import BucketFile, log_of
+from trials.formats.ciphers import siphash
+from trials.formats.reader import Misread
+
+# What the two files begin with, where the head stands, and the pages of the table behind it.
+LETTERS, LOG_LETTERS = b"VIDLAQEC\x01" + bytes(7), b"VIDLAQCL\x01" + bytes(7)
+HEAD_AT, TABLE_AT, PAGE_LEN, NUMBERS = 4096, 8192, 1024, 254
+# A log whose entries have more bytes is emptied before the next keeping.
+LONG_LOG = 64 << 20
+# The salt, the key check and the sealer's byte, which stand before the text of the process.
+TITLE_LEN = 65
+
+
+class KeptFiles:
+    """What the files of a state hold. Nothing here changes them."""
+
+    def __init__(self, state):
+        self.state, self.log = state, log_of(state)
+
+    def read(self):
+        """The bytes of both files."""
+        return {file: file.read_bytes() for file in (self.state, self.log)}
+
+    def put(self, files):
+        """Puts these bytes in place of both files."""
+        for file, whole in files.items():
+            file.write_bytes(whole)
+
+    def longest_log(self):
+        """The most bytes that the log may have: it is emptied before a keeping once its entries have more than 64 MiB, and no keeping adds more
+        than the file has, but for the heads of a few entries. It grows by a mebibyte at a time."""
+        return LONG_LOG + self.state.stat().st_size + (1 << 20)
+
+    def left(self):
+        """The names of what is in the place of these files, or lies where they are made or copied."""
+        return sorted(path.name for file in (self.state, self.log) for path in (file, file.with_name(f"{file.name}.unfinished")) if os.path.lexists(path))
+
+    def text(self):
+        """The title, and the text of the process behind it: what the file holds once the entries of the log are written to their places."""
+        return text_in(replayed(self.state.read_bytes(), self.log.read_bytes()))
+
+
+def replayed(records, log):
+    """The bytes of a file after the entries of its log are written to their places."""
+    if (records[:16], log[:16]) != (LETTERS, LOG_LETTERS) or records[16:32] != log[16:32]:
+        raise Misread("the files of a state begin so, with one identity")
+    whole, at = bytearray(records), BucketFile.LOG_START
+    while log[at : at + 1] == BucketFile.OPEN:
+        place, length = struct.unpack_from("<QI", log, at + 1)
+        begin = at + BucketFile.HEAD_LEN
+        said, check = log[at + 1 : begin + length], log[begin + length : begin + length + BucketFile.CHECK_LEN]
+        check_sum(said, check, "the checksum of an entry")
+        whole.extend(bytes(max(0, place + length - len(whole))))
+        whole[place : place + length] = log[begin : begin + length]
+        at = begin + length + BucketFile.CHECK_LEN
+    if log[at : at + 1] != BucketFile.SHUT:
+        raise Misread("the gate at the end of the log")
+    return bytes(whole)
+
+
+def check_sum(text, check, what):
+    if siphash(text).to_bytes(8, "little") != check:
+        raise Misread(what)
+
+
+def text_in(records):
+    """The text that the bytes of a file hold."""
+    head = records[HEAD_AT : HEAD_AT + 40]
+    check_sum(head[:32], head[32:], "the checksum of the head")
+    before_len, numbers, after_len, check = struct.unpack("<4Q", head[:32])
+    pages = -(-numbers // NUMBERS)
+    table = b"".join(page_in(records, page, min(NUMBERS, numbers - page * NUMBERS)) for page in range(pages))
+    at = TABLE_AT + pages * PAGE_LEN
+    before, after = records[at : at + before_len], records[at + before_len : at + before_len + after_len]
+    if (len(before), len(after)) != (before_len, after_len) or siphash(before + after) != check:
+        raise Misread("the checksum of the text around the table")
+    return before + table + after
+
+
+def page_in(records, page, count):
+    """The numbers on a page, in four bytes each, the high byte first."""
+    at = TABLE_AT + page * PAGE_LEN
+    text = records[at : at + 4 * count]
+    check_sum(text, records[at + 4 * count : at + 4 * count + 8], "the checksum of a page")
+    return text
