@@ -31,8 +31,8 @@ def connect_or_exit(place, process):
 class MeasuredDisk:
     """A disk of this program in a folder of its own, formatted."""
 
-    def __init__(self, oramdisk, folder, size, is_one_tree):
-        self.oramdisk, self.folder = oramdisk, folder
+    def __init__(self, oramdisk, folder, size, is_one_tree, syncs=True):
+        self.oramdisk, self.folder, self.syncs = oramdisk, folder, syncs
         subprocess.run([oramdisk, "new", folder, "--size", size], check=True, stderr=subprocess.DEVNULL)
         text = (folder / "disk.toml").read_text()
         self.size, self.key = re.search(r"^size = (\d+)", text, re.M)[1], re.search(r'^key = "(\w+)"', text, re.M)[1]
@@ -46,7 +46,8 @@ class MeasuredDisk:
 
     def set_host(self, port):
         """Writes all of its settings anew, so that programs of several versions are measured with the same ones."""
-        values = f'block = {BLOCK}\nslots = 4\ntable = {self.table}\nsealer = "chacha"\nstate = "disk.state"\nsync = true\nreconnect_timeout = 600\n'
+        kept = f'state = "disk.state"\nsync = {"true" if self.syncs else "false"}\n'
+        values = f'block = {BLOCK}\nslots = 4\ntable = {self.table}\nsealer = "chacha"\n{kept}reconnect_timeout = 600\n'
         reached = f'host = "127.0.0.1:{port}"\nlisten = "unix:disk.sock"\n'
         (self.folder / "disk.toml").write_text(f'size = {self.size}\nkey = "{self.key}"\n{reached}{values}')
 
@@ -74,13 +75,14 @@ class MeasuredDisk:
         shutil.rmtree(self.folder)
 
 
-def measure_disks(programs, top, size, is_one_tree, ways, count):
+def measure_disks(options, top, is_one_tree, ways):
     """Rows of the figures of each program's disk, one program right after the other over each line."""
     disks = {}
     try:
-        for name, oramdisk in programs.items():
-            disks[name] = MeasuredDisk(oramdisk, top / f"{'one' if is_one_tree else 'two'}{name}", size, is_one_tree)
-        return [(way, {name: disk.measure(way, count) for name, disk in disks.items()}) for way in ways]
+        for name, oramdisk in options.programs.items():
+            folder = top / f"{'one' if is_one_tree else 'two'}{name}"
+            disks[name] = MeasuredDisk(oramdisk, folder, options.size, is_one_tree, not options.no_sync)
+        return [(way, {name: disk.measure(way, options.requests) for name, disk in disks.items()}) for way in ways]
     finally:
         for disk in disks.values():
             disk.end()
