@@ -16,3 +16,4 @@ pub mod InTurn
 pub mod InTurnExample
 pub mod Made
 pub mod WholeRuns
+pub mod NotedTables

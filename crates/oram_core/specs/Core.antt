@@ -1,5 +1,5 @@
 -- A core as plain data, and the properties that every core has.
-use Rattle.std.specs.Prelude.{◌≡◌, ℕ, ◌+◌, ◌-◌, ◌*◌, ◌%◌, ◌^◌, ◌<◌, ◌≤◌, ◌==◌, if◌then◌else◌, false, List, [], ◌∷◌, length, slice_index_or, Option, Some, None}
+use Rattle.std.specs.Prelude.{◌≡◌, ℕ, ◌+◌, ◌-◌, ◌*◌, ◌%◌, ◌^◌, ◌<◌, ◌≤◌, ◌==◌, if◌then◌else◌, false, List, [], ◌∷◌, length, slice_index_or, Option, Some, None, ⊤}
 use Rattle.std.specs.List.{All}
 use Rattle.oram_geometry.specs.declared.Sizes.{Sizes}
 use Rattle.oram_geometry.specs.Sizes.{IsDevice, trees_of, depth_of, blocks_in, record_len_of}
@@ -13,9 +13,12 @@ use Rattle.oram_semantics.specs.Content.{entry_tree}
 use Rattle.oram_semantics.specs.Moves.{fetch_at}
 use Rattle.oram_semantics.specs.Nonces.{next_nonce}
 use Rattle.oram_semantics.specs.State.{State, failed_state, map_entry_now, no_tree}
+use Rattle.oram_semantics.specs.declared.events.Event.{Event}
+use Rattle.oram_semantics.specs.declared.events.Event.TheVariants.{Submit, Answer, Lost, Reopen, Retry}
 use Rattle.oram_semantics.specs.declared.events.Reason.{Reason}
 use Rattle.oram_semantics.specs.declared.events.Reason.TheVariants.{Malformed, Tampered, HostRefused}
 use Rattle.oram_semantics.specs.declared.events.Submission.{Submission}
+use Rattle.oram_core.specs.Changes.{AreNoted, Noted}
 use Rattle.oram_core.specs.PlainSteps.{fetch_of}
 
 -- a core, as the clauses of contracts see it
@@ -23,6 +26,7 @@ pub record CoreValue (S : Type 0) : Type 0 where
   pub device : Sizes
   pub sealer : S
   pub state : State
+  pub noted : Noted  -- the entries of the table that may have changed since the changes were last forgotten
 
 -- a device with a sealer, given by what the sealer does
 abbrev pub scheme_with : {S : Type 0} → (S → Cipher) → Sizes → S → Scheme
@@ -35,6 +39,22 @@ scheme_of cipher c = scheme_with cipher c.device c.sealer
 -- the device and the sealer are the same
 abbrev pub IsSameDevice : {S : Type 0} → CoreValue S → CoreValue S → Type 0
 IsSameDevice c d = (d.device ≡ c.device) × (d.sealer ≡ c.sealer)
+
+-- the core has noted each entry of its table that differs from this table
+abbrev pub IsNotedSince : {S : Type 0} → List ℕ → CoreValue S → Type 0
+IsNotedSince table c = AreNoted c.noted table c.state.table
+
+-- the event is no answer of the host, so it changes no table
+abbrev pub IsNoAnswer : Event → Type 0
+IsNoAnswer (Answer bytes) = ⊥
+IsNoAnswer (Submit session c words) = ⊤
+IsNoAnswer Lost = ⊤
+IsNoAnswer Reopen = ⊤
+IsNoAnswer Retry = ⊤
+
+-- whatever a core has noted, it notes what changes of its table, too
+abbrev pub NotesChanges : {S : Type 0} → CoreValue S → CoreValue S → Type 0
+NotesChanges c d = (table : List ℕ) → IsNotedSince table c → IsNotedSince table d
 
 -- the core's tree i has this number and only blocks that can be in tree i
 pub record IsTreeKept (d : Sizes) (i : ℕ) (t : Tree) : Type 0 where

@@ -1,3 +1,4 @@
+pub mod Changes
 pub mod Core
 pub mod InTurn
 pub mod Parts

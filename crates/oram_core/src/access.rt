@@ -1,5 +1,5 @@
 //! The core has received a path: it changes the oldest command's block and stores the path again.
-ghost use Rattle.std.specs.Prelude.{◌≡◌, ◌+◌, ◌-◌, ◌*◌, ◌%◌, ◌<◌, ◌≤◌, ◌^◌, ℕ, List, [], ◌∷◌, length, IfOk, OnErr, slice_set, ◌==◌, if◌then◌else◌};
+ghost use Rattle.std.specs.Prelude.{◌≡◌, ◌+◌, ◌-◌, ◌*◌, ◌%◌, ◌<◌, ◌≤◌, ◌^◌, ℕ, List, [], ◌∷◌, length, IfOk, None, OnErr, slice_set, ◌==◌, if◌then◌else◌};
 ghost use Rattle.oram_geometry.specs.Sizes.{trees_of, depth_of, blocks_in};
 ghost use Rattle.oram_hash.specs.Path.{path_of};
 ghost use Rattle.oram_hash.specs.Tree.{IsPathOf};
@@ -15,12 +15,14 @@ ghost use Rattle.oram_semantics.specs.Progress.Status.{Waiting};
 ghost use Rattle.oram_semantics.specs.Run.{shown_by};
 ghost use Rattle.oram_semantics.specs.State.{World, status_in};
 ghost use Rattle.oram_semantics.specs.declared.events.Submission.{Submission};
-ghost use Rattle.oram_core.specs.Core.{IsPathStore, IsSameDevice, scheme_of};
+ghost use Rattle.oram_core.specs.Core.{IsPathStore, IsSameDevice, NotesChanges, scheme_of};
+ghost use Rattle.oram_core.specs.Changes.{AreNoted, NotesFew};
 ghost use Rattle.oram_core.specs.Steps.{Heard};
 ghost use Rattle.oram_core.specs.AnswerMeaning.{IsUseOf};
 ghost use Rattle.oram_core.specs.PlainSteps.{done, failed_by, stored_by, is_misled};
 ghost use Rattle.oram_core.specs.Rooms.{IsRoom};
 
+use crate::changes::NotedChanges;
 use crate::machine::Core;
 use crate::messages::{MessageCopies, Room, begun_store};
 use crate::path_access::{PathAccess, edit_for, map_entry_below};
@@ -32,13 +34,22 @@ use oram_tree::{AccessRequest, Lookup, TreeFault};
 use oram_wire::HEADER_LEN;
 use std::alloc::{AllocError, Global};
 
-/// At a command's first access, enters the new leaf of its block into the table.
-fn set_map_entry(table: &mut Vec<u32>, entry_number: u8, block: u32, leaf: u32)
+/// At a command's first access, enters the new leaf of its block into the table, and notes that this entry changes.
+fn set_map_entry(
+    table: &mut Vec<u32>,
+    noted: &mut NotedChanges,
+    entry_number: u8,
+    block: u32,
+    leaf: u32,
+)
     requires block { entry_number ≡ 0 → block < length table.old.items }
     requires leaf { leaf < 2 ^ 24 }
-    ensures { table.new.items ≡ (if entry_number == 0 then slice_set table.old.items block (leaf + 1) else table.old.items) }
+    ensures set { table.new.items ≡ (if entry_number == 0 then slice_set table.old.items block (leaf + 1) else table.old.items) }
+    ensures noted { (since : List ℕ) → AreNoted noted.old since table.old.items → AreNoted noted.new since table.new.items }
+    ensures few { NotesFew noted.old noted.new }
 {
     if entry_number == 0 {
+        noted.note(block);
         table[block as usize] = leaf + 1;
     }
 }
@@ -66,6 +77,8 @@ impl<S: Sealer> Core<S> {
         requires path { let v = scheme_of S.cipher self.old in let s = self.old.state in
             path.now ≡ path_of v.device (entry_tree v.device s.entry_number) (requested s.message).leaf v.cipher.overhead path.now.bytes }
         ensures kept { IsSameDevice self.old self.new }
+        ensures noted { NotesChanges self.old self.new }
+        ensures few { self.new.state.failure ≡ None → NotesFew self.old.noted self.new.noted }
         ensures moves { let v = scheme_of S.cipher self.old in let s = self.old.state in
             (w : World) → Fits v s w → IsPathOf (w.records (entry_tree v.device s.entry_number)) path.now
             → IfOk result (λ r. MovesTo v s w (on_answer v s w Waiting Good) (shown_by r) self.new.state) }
@@ -148,6 +161,8 @@ impl<S: Sealer> Core<S> {
         requires message { IsPathStore self.old.device (S.cipher self.old.sealer).overhead path_access.tree path_access.leaf message.items }
         requires room { IsRoom (length message.items) (length self.old.state.queue) room }
         ensures kept { IsSameDevice self.old self.new }
+        ensures noted { NotesChanges self.old self.new }
+        ensures few { self.new.state.failure ≡ None → NotesFew self.old.noted self.new.noted }
         ensures ok { let v = scheme_of S.cipher self.old in let s = self.old.state in
             (x : Submission) (rest : List Submission) (records : List ℕ) → s.queue ≡ x ∷ rest
             → message.items ≡ store_body path_access.tree path_access.leaf records
@@ -186,6 +201,8 @@ impl<S: Sealer> Core<S> {
         requires leaf { path_access.new_leaf < 2 ^ depth_of self.old.device path_access.tree }
         requires map_entry { map_entry ≤ 2 ^ depth_of self.old.device (path_access.tree - 1) }
         ensures kept { IsSameDevice self.old self.new }
+        ensures noted { NotesChanges self.old self.new }
+        ensures few { NotesFew self.old.noted self.new.noted }
         ensures ok { let s = self.old.state in
             done result self.new.state ≡ record {
               note = note.Taken;
@@ -203,6 +220,7 @@ impl<S: Sealer> Core<S> {
     {
         set_map_entry(
             &mut self.table,
+            &mut self.noted,
             self.entry_number,
             path_access.block,
             path_access.new_leaf,

@@ -1,5 +1,5 @@
 //! What a core does with the host's answers.
-ghost use Rattle.std.specs.Prelude.{◌≡◌, ◌≢◌, ◌-◌, ◌<◌, false, map, IsOk, IfOk, OnErr};
+ghost use Rattle.std.specs.Prelude.{◌≡◌, ◌≢◌, ◌-◌, ◌<◌, false, map, IsOk, IfOk, None, OnErr};
 ghost use Rattle.oram_semantics.specs.Answers.{outcome_of, pair_in};
 ghost use Rattle.oram_semantics.specs.Events.{failed_reply};
 ghost use Rattle.oram_semantics.specs.Messages.{requested};
@@ -7,7 +7,8 @@ ghost use Rattle.oram_semantics.specs.Moves.{Fits, MovesTo, on_answer};
 ghost use Rattle.oram_semantics.specs.Progress.Status.{Waiting};
 ghost use Rattle.oram_semantics.specs.Run.{shown_by};
 ghost use Rattle.oram_semantics.specs.State.{World, status_in};
-ghost use Rattle.oram_core.specs.Core.{IsReasonOf, IsSameDevice, scheme_of};
+ghost use Rattle.oram_core.specs.Changes.{NotesFew};
+ghost use Rattle.oram_core.specs.Core.{IsReasonOf, IsSameDevice, NotesChanges, scheme_of};
 ghost use Rattle.oram_core.specs.Steps.{Heard};
 ghost use Rattle.oram_core.specs.AnswerMeaning.{IsVerdict};
 ghost use Rattle.oram_core.specs.PlainSteps.{done, stalled_by, failed_by};
@@ -30,6 +31,8 @@ impl<S: Sealer> Core<S> {
     ) -> Result<Reaction, AllocError>
         requires { status_in self.old.state ≡ Waiting }
         ensures kept { IsSameDevice self.old self.new }
+        ensures noted { NotesChanges self.old self.new }
+        ensures few { self.new.state.failure ≡ None → NotesFew self.old.noted self.new.noted }
         ensures moves { let v = scheme_of S.cipher self.old in let s = self.old.state in
             (w : World) → Fits v s w → pair_in v w.records (requested s.message) bytes.now ≡ false
             → IfOk result (λ r. let outcome = outcome_of v w.records (requested s.message) bytes.now in
@@ -59,8 +62,10 @@ impl<S: Sealer> Core<S> {
         requires replies { replies.items ≡ map failed_reply self.old.state.queue }
         requires reason { IsReasonOf self.old.device reason }
         ensures kept { IsSameDevice self.old self.new }
+        ensures noted { NotesChanges self.old self.new }
         ensures ok { done result self.new.state ≡ failed_by self.old.state reason }
     {
+        self.noted.note_any();
         self.table = Vec::new(alloc);
         self.trees = Vec::new(alloc);
         self.queue.clear();

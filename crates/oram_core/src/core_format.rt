@@ -7,6 +7,7 @@ ghost use Rattle.oram_semantics.specs.Nonces.{formatted, formatted_below};
 ghost use Rattle.oram_core.specs.Core.{scheme_with};
 ghost use Rattle.oram_core.specs.Formatting.{AreMade, IsMade, IsNew};
 
+use crate::changes::NotedChanges;
 use crate::machine::Core;
 use oram_bucket::Sealer;
 use oram_bytes::Bytes;
@@ -94,6 +95,7 @@ impl<S: Sealer> Core<S> {
         let Formatted { trees, nonce } = format_trees(alloc, &device, &sealer, sink)?;
         let blocks = device.blocks_in(device.trees() - 1) as usize;
         let table = vec![in alloc; 0; blocks]?;
+        let noted = NotedChanges::any(alloc)?;
         Ok(Core {
             device,
             sealer,
@@ -108,6 +110,7 @@ impl<S: Sealer> Core<S> {
             message: Bytes::from_vec(Vec::new(alloc)),
             lost: false,
             failure: None,
+            noted,
         })
     }
 }

@@ -8,6 +8,7 @@
 
 mod access;
 mod answers;
+mod changes;
 mod core_format;
 mod machine;
 mod messages;
@@ -19,6 +20,7 @@ mod progress;
 mod verdicts;
 mod whole;
 
+pub use changes::TableChanges;
 pub use machine::{Core, MOST_WAITING};
 pub use next_fetches::sound_cores_are_in_turn;
 pub use oram_semantics::{

@@ -7,10 +7,12 @@ ghost use Rattle.oram_semantics.specs.declared.events.Note.TheVariants as note;
 ghost use Rattle.oram_semantics.specs.State.{no_tree, status_in};
 ghost use Rattle.oram_semantics.specs.Moves.{leaf_for};
 ghost use Rattle.oram_semantics.specs.Agree.{IsAllowed};
-ghost use Rattle.oram_core.specs.Core.{CoreValue, IsSound, IsSameDevice, scheme_of};
+ghost use Rattle.oram_core.specs.Changes.{NotesFew};
+ghost use Rattle.oram_core.specs.Core.{CoreValue, IsSound, IsNoAnswer, IsSameDevice, NotesChanges, scheme_of};
 ghost use Rattle.oram_core.specs.Steps.{Steps};
 ghost use Rattle.oram_core.specs.PlainSteps.{is_idle, is_stalled, Done, plain_step, is_free_note, done, accepted_by, stalled_by, resent_by, first_message};
 
+use crate::changes::NotedChanges;
 use crate::messages::MessageCopies;
 use crate::path_access::leaf_for;
 use oram_bucket::Sealer;
@@ -53,9 +55,12 @@ pub struct Core<S: Sealer> {
     /// Whether the message sent last counts as lost.
     pub(crate) lost: bool,
     pub(crate) failure: Option<Reason>,
+    /// The entries of the table that may have changed since the changes were last forgotten.
+    pub(crate) noted: NotedChanges,
 }
 
 impl<S: Sealer> Model for Core<S> {
+    ghost use Rattle.oram_core.specs.Changes.{NotesFew};
     ghost use Rattle.oram_core.specs.Core.{CoreValue, IsSound};
 
     ghost Value = { CoreValue S };
@@ -76,6 +81,7 @@ impl<S: Sealer> Model for Core<S> {
         lost = c.lost;
         failure = c.failure;
       };
+      noted = c.noted;
     } };
 
     ghost invariant = { λ c. IsSound c.device (S.cipher c.sealer).overhead (record {
@@ -168,9 +174,12 @@ impl<S: Sealer> Core<S> {
     }
 
     /// Makes one step: takes an event and returns the reaction to it. If memory runs out, the core is unchanged, and the
-    /// caller can make the same step again.
+    /// caller can make the same step again. A step notes at most one entry of the table that changes.
     pub fn step(&mut self, alloc: Global, event: &Event) -> Result<Reaction, AllocError>
         ensures kept { IsSameDevice self.old self.new }
+        ensures noted { NotesChanges self.old self.new }
+        ensures quiet { IsNoAnswer event.now → self.new.noted ≡ self.old.noted }
+        ensures few { self.new.state.failure ≡ None → NotesFew self.old.noted self.new.noted }
         ensures promise { let v = scheme_of S.cipher self.old in
             IfOk result (λ r. Steps v self.old.state event.now (shown_by r) self.new.state) }
         ensures free { let v = scheme_of S.cipher self.old in
@@ -234,6 +243,8 @@ impl<S: Sealer> Core<S> {
         requires { let s = self.old.state in
             refusal_of self.old.device (is_over (status_in s)) (length s.queue) s.next command.now words.now ≡ None }
         ensures kept { IsSameDevice self.old self.new }
+        ensures noted { NotesChanges self.old self.new }
+        ensures quiet { self.new.noted ≡ self.old.noted }
         ensures ok { let v = scheme_of S.cipher self.old in let s = self.old.state in
             IfOk result (λ r. done r self.new.state
             ≡ accepted_by v s (record { session = session; ticket = s.next; command = command.now; words = words.now })) }
@@ -260,6 +271,8 @@ impl<S: Sealer> Core<S> {
         requires idle { length self.old.state.queue ≡ 0 }
         requires lifetime { self.old.state.next < self.old.device.lifetime }
         ensures kept { IsSameDevice self.old self.new }
+        ensures noted { NotesChanges self.old self.new }
+        ensures quiet { self.new.noted ≡ self.old.noted }
         ensures ok { let s = self.old.state in let m = first_message self.old.device s submission in
             IfOk result (λ r. done r self.new.state ≡ record {
               note = note.Accepted s.next;
@@ -289,6 +302,8 @@ impl<S: Sealer> Core<S> {
         requires few { length self.old.state.queue < 64 }
         requires lifetime { self.old.state.next < self.old.device.lifetime }
         ensures kept { IsSameDevice self.old self.new }
+        ensures noted { NotesChanges self.old self.new }
+        ensures quiet { self.new.noted ≡ self.old.noted }
         ensures ok { let s = self.old.state in
             IfOk result (λ r. done r self.new.state ≡ record {
               note = note.Accepted s.next;
@@ -332,6 +347,8 @@ impl<S: Sealer> Core<S> {
     pub(crate) fn stall(&mut self, alloc: Global) -> Reaction
         requires { status_in self.old.state ≡ Waiting }
         ensures kept { IsSameDevice self.old self.new }
+        ensures noted { NotesChanges self.old self.new }
+        ensures quiet { self.new.noted ≡ self.old.noted }
         ensures ok { done result self.new.state ≡ stalled_by self.old.state }
     {
         self.lost = true;
@@ -341,6 +358,8 @@ impl<S: Sealer> Core<S> {
     /// Sends the message that counts as lost again, byte for byte.
     fn resend(&mut self, alloc: Global) -> Result<Reaction, AllocError>
         ensures kept { IsSameDevice self.old self.new }
+        ensures noted { NotesChanges self.old self.new }
+        ensures quiet { self.new.noted ≡ self.old.noted }
         ensures ok { IfOk result (λ r. done r self.new.state ≡ resent_by self.old.state) }
         ensures err { OnErr result (self.new ≡ self.old) }
     {

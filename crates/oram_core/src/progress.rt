@@ -9,7 +9,7 @@ ghost use Rattle.oram_semantics.specs.Progress.Status.{Waiting};
 ghost use Rattle.oram_semantics.specs.Run.{shown_by};
 ghost use Rattle.oram_semantics.specs.State.{World, status_in};
 ghost use Rattle.oram_semantics.specs.declared.events.Submission.{Submission};
-ghost use Rattle.oram_core.specs.Core.{IsSameDevice, scheme_of};
+ghost use Rattle.oram_core.specs.Core.{IsSameDevice, NotesChanges, scheme_of};
 ghost use Rattle.oram_core.specs.Steps.{Heard};
 ghost use Rattle.oram_core.specs.PlainSteps.{done, fetched_by, finished_by, first_message, fetch_of};
 
@@ -70,6 +70,8 @@ impl<S: Sealer> Core<S> {
         requires waiting { status_in self.old.state ≡ Waiting }
         requires entry_number { self.old.state.entry_number % 2 ≡ 1 }
         ensures kept { IsSameDevice self.old self.new }
+        ensures noted { NotesChanges self.old self.new }
+        ensures quiet { self.new.noted ≡ self.old.noted }
         ensures moves { let v = scheme_of S.cipher self.old in let s = self.old.state in
             (w : World) → Fits v s w
             → IfOk result (λ r. MovesTo v s w (on_answer v s w Waiting Good) (shown_by r) self.new.state) }
@@ -109,6 +111,8 @@ impl<S: Sealer> Core<S> {
         requires entry_number { self.old.state.entry_number % 2 ≡ 1 }
         requires more { self.old.state.entry_number + 1 < 2 * trees_of self.old.device }
         ensures kept { IsSameDevice self.old self.new }
+        ensures noted { NotesChanges self.old self.new }
+        ensures quiet { self.new.noted ≡ self.old.noted }
         ensures ok { (x : Submission) (rest : List Submission) → self.old.state.queue ≡ x ∷ rest
             → IfOk result (λ r. done r self.new.state ≡ fetched_by (scheme_of S.cipher self.old) self.old.state x) }
         ensures err { OnErr result (self.new ≡ self.old) }
@@ -128,6 +132,8 @@ impl<S: Sealer> Core<S> {
         requires waiting { status_in self.old.state ≡ Waiting }
         requires last { self.old.state.entry_number + 1 ≡ 2 * trees_of self.old.device }
         ensures kept { IsSameDevice self.old self.new }
+        ensures noted { NotesChanges self.old self.new }
+        ensures quiet { self.new.noted ≡ self.old.noted }
         ensures ok { (x : Submission) (rest : List Submission) → self.old.state.queue ≡ x ∷ rest
             → IfOk result (λ r. done r self.new.state ≡ finished_by (scheme_of S.cipher self.old) self.old.state x rest) }
         ensures err { OnErr result (self.new ≡ self.old) }
@@ -154,6 +160,8 @@ impl<S: Sealer> Core<S> {
         requires sends { sending.sends.items ≡ sending.kept ∷ [] }
         requires more { 1 < length self.old.state.queue }
         ensures kept { IsSameDevice self.old self.new }
+        ensures noted { NotesChanges self.old self.new }
+        ensures quiet { self.new.noted ≡ self.old.noted }
         ensures ok { (x : Submission) (rest : List Submission) → self.old.state.queue ≡ x ∷ rest
             → IfOk result (λ r. done r self.new.state ≡ finished_by (scheme_of S.cipher self.old) self.old.state x rest) }
         ensures err { OnErr result (self.new ≡ self.old) }
@@ -175,6 +183,8 @@ impl<S: Sealer> Core<S> {
         requires last { self.old.state.entry_number + 1 ≡ 2 * trees_of self.old.device }
         requires alone { length self.old.state.queue ≡ 1 }
         ensures kept { IsSameDevice self.old self.new }
+        ensures noted { NotesChanges self.old self.new }
+        ensures quiet { self.new.noted ≡ self.old.noted }
         ensures ok { (x : Submission) (rest : List Submission) → self.old.state.queue ≡ x ∷ rest
             → IfOk result (λ r. done r self.new.state ≡ finished_by (scheme_of S.cipher self.old) self.old.state x rest) }
         ensures err { OnErr result (self.new ≡ self.old) }

@@ -4,7 +4,7 @@ ghost use Rattle.std.specs.List.{flat_map};
 ghost use Rattle.oram_semantics.specs.Progress.Status.{Stalling};
 ghost use Rattle.oram_semantics.specs.State.{status_in};
 ghost use Rattle.oram_semantics.specs.declared.events.Event.TheVariants.{Reopen, Retry};
-ghost use Rattle.oram_core.specs.Core.{IsSameDevice, scheme_of};
+ghost use Rattle.oram_core.specs.Core.{IsSameDevice, NotesChanges, scheme_of};
 ghost use Rattle.oram_core.specs.PlainSteps.{done};
 ghost use Rattle.oram_session.specs.Exchanges.{Runs, Delivery};
 ghost use Rattle.oram_session.specs.CoreWork.{HasNoWork, IsUnderWay, has_no_work_in};
@@ -28,6 +28,7 @@ pub fn has_no_work<S: Sealer>(core: &Core<S>) -> bool
 pub fn reopen<S: Sealer>(alloc: Global, core: &mut Core<S>) -> Result<Reaction, AllocError>
     requires { ¬ HasNoWork core.old.state }
     ensures kept { IsSameDevice core.old core.new }
+    ensures noted { NotesChanges core.old core.new }
     ensures ok { let v = scheme_of S.cipher core.old in
         OnOk result (Runs v core.old.state (Reopen ∷ Retry ∷ []) [] core.new.state) }
     ensures under_way { IfOk result (λ r. IsUnderWay (done r core.new.state)) }

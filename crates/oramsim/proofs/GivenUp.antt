@@ -85,10 +85,10 @@ late_cut r m n bytes e old new w f h q = elim q.1 [
   | inr a ↦ (q.0, inr (bytes, n.server, replies_as r m n bytes f h, a), q.2, (λ faithful. q.3 (r.host, late_at r m n bytes w f h, rw h.core faithful)), q.4)
 ]
 
-pub reopen_cut : (r : Running) (m k : Machine) (e : SimFault) (old new : Option (List ℕ)) → k ≡ m
-    → GivesUp r (IsHonestAt r k.core.state event.Reopen) (λ later. (later ≡ r) ⊎ AtEvent r event.Reopen later) e old new
+pub reopen_cut : (r : Running) (m : Machine) (again : State) (e : SimFault) (old new : Option (List ℕ)) → again ≡ m.core.state
+    → GivesUp r (IsHonestAt r again event.Reopen) (λ later. (later ≡ r) ⊎ AtEvent r event.Reopen later) e old new
     → GivesUp r (IsFaithful r m.core.state) (λ later. (later ≡ r) ⊎ Obeys r line.Reopen later) e old new
-reopen_cut r m k e old new same q = (q.0, q.1, q.2, (λ h. q.3 (honest_unheard r k.core.state event.Reopen refl (rw same h))), q.4)
+reopen_cut r m again e old new same q = (q.0, q.1, q.2, (λ h. q.3 (honest_unheard r again event.Reopen refl (rw same h))), q.4)
 
 pub drain_cut : (r mid : Running) (s : State) (m : Machine) (e : SimFault) (old between new : Option (List ℕ)) (xs : List Shown) → FoldsTo IsDrained r xs mid → RunsOn r mid m old between
     → is_some m.outstanding ≡ true → (IsFaithful r s → IsFaithful mid m.core.state) → GivesUp mid (IsFaithful mid m.core.state) (λ later. (later ≡ mid) ⊎ ((x : Shown) × IsAnswered mid x later)) e between new

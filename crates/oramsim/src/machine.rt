@@ -75,10 +75,10 @@ fn left_at(event: &Event, outstanding: Option<Bytes>) -> Option<Bytes>
     }
 }
 
-/// Saves a core and reads it back.
+/// Saves a core and reads it back. A file doesn't say which entries of the table have changed.
 fn read_back(alloc: Global, core: &Core<PlainSeal>) -> Result<Core<PlainSeal>, AllocError>
     requires { core.now.device.leaf_load ≡ 1 }
-    ensures { IfOk result (λ again. again ≡ core.now) }
+    ensures { IfOk result (λ again. again ≡ record core.now { noted = again.noted }) }
 {
     let file = encode_state(alloc, core)?;
     match decode_state(alloc, PlainSeal, &file) {

@@ -6,6 +6,7 @@ ghost use Rattle.oram_core.specs.Parts.{AreParts, state_of, submissions_from, tr
 
 use super::validity::is_fitting;
 use super::{Parts, Pending};
+use crate::changes::NotedChanges;
 use crate::machine::Core;
 use oram_bucket::Sealer;
 use oram_geometry::Device;
@@ -89,6 +90,7 @@ impl<S: Sealer> Core<S> {
             stalled,
         } = parts;
         let trees = trees_of(alloc, &device, trees)?;
+        let noted = NotedChanges::any(alloc)?;
         Ok(Core {
             device,
             sealer,
@@ -103,6 +105,7 @@ impl<S: Sealer> Core<S> {
             message,
             lost: stalled,
             failure,
+            noted,
         })
     }
 }

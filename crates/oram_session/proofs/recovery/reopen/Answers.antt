@@ -72,3 +72,9 @@ returns-clause-err g c =
     on_err_weaker c.step-2.result
     (λ same. subst (λ (t : State). Runs v s (Reopen ∷ []) [] t) (sym (ap (λ w. w.state) same)) (only_reopened v s mid.state x first none))
     c.step-2.ensures.err
+
+pub returns-in_err-_stalled-clause-noted : goal.returns-in_err-_stalled-clause-noted
+returns-in_err-_stalled-clause-noted g c = c.step.ensures.noted
+
+pub returns-clause-noted : goal.returns-clause-noted
+returns-clause-noted g c = λ table noted. c.step-2.ensures.noted table (c.step.ensures.noted table noted)

@@ -41,3 +41,12 @@ returns-in_err-table-clause-sealer g c = IfOk-from_err c.from_residual-in_err-ta
 
 pub returns-in_err-table-clause-made : goal.returns-in_err-table-clause-made
 returns-in_err-table-clause-made g c = IfOk-from_err c.from_residual-in_err-table.result _ c.from_residual-in_err-table.ensures.0
+
+pub returns-in_err-noted-clause-broken_off : goal.returns-in_err-noted-clause-broken_off
+returns-in_err-noted-clause-broken_off g c =
+    let d = c.args.device in
+    let s = c.args.sealer in
+    let v = scheme_with g.S.Sealer.cipher d s in
+    let law : IsCipher v.cipher = g.met.S.Sealer.lawful s in
+    if_err c.from_residual-in_err-noted.result _ _ c.from_residual-in_err-noted.ensures.1
+    (λ fault memory. broken_between v g.K.Sink.putting g.K.Sink.refusing c.trees.ensures.ranges law c.args.sink.now c.format_trees.new.sink (trees_of d) c.in_ok-trees.field-0.trees.items fault (omega arith) c.in_ok-trees.ensures.made memory)

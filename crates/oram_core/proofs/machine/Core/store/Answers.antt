@@ -4,7 +4,7 @@ use Rattle.oram_geometry.specs.Sizes.{depth_of, trees_of, blocks_in}
 use Rattle.oram_bucket.specs.Bucket.{IsBlockOf}
 use Rattle.oram_semantics.specs.Content.{block_of, new_leaf}
 use Rattle.oram_semantics.specs.declared.events.Submission.{Submission}
-use Rattle.oram_core.specs.Core.{CoreValue, IsSound, scheme_of}
+use Rattle.oram_core.specs.Core.{CoreValue, IsNotedSince, IsSound, scheme_of}
 use Rattle.oram_core.proofs.Sound.{nonce_small, stage_within}
 use Rattle.oram_semantics.specs.Content.{entry_tree}
 use Rattle.oram_semantics.specs.declared.events.Reason.TheVariants as reason
@@ -346,3 +346,11 @@ access_to-looked-requires-clause-path g c =
     let h = lends g.S.Sealer.cipher _ c.args.self.now c.index_mut.result.now c.from.result c.path_access-path_access.result.tree c.self.view_is c.self.invariant c.requires.waiting c.from.ensures c.path_access-path_access.ensures.tree c.index_mut.ensures.value in
     subst (λ (u : CoreValue g.row.S.Denot). c.args.path.now ≡ path_of u.device c.index_mut.result.now.number c.path_access-path_access.result.leaf (g.S.Sealer.cipher u.sealer).overhead c.args.path.now.bytes) (sym c.self.view_is)
     (rw (h.number, c.path_access-path_access.ensures.tree, c.path_access-path_access.ensures.leaf) c.requires.path)
+
+pub returns-in-Ok-clause-noted : goal.returns-in-Ok-clause-noted
+returns-in-Ok-clause-noted g c = λ table noted.
+    c.adopt_access.ensures.noted table (subst (λ (u : CoreValue g.row.S.Denot). IsNotedSince table u) (sym c.self.view_is) noted)
+
+pub returns-in-Unreadable-clause-noted : goal.returns-in-Unreadable-clause-noted
+returns-in-Unreadable-clause-noted g c = λ table noted.
+    c.fail.ensures.noted table (subst (λ (u : CoreValue g.row.S.Denot). IsNotedSince table u) (sym c.self.view_is) noted)

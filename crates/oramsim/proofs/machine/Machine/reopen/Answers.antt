@@ -8,7 +8,8 @@ use Rattle.oramsim.proofs.machine.Machine.reopen.Goals as goal
 pub returns-clause-ok : goal.returns-clause-ok
 returns-clause-ok g c = λ r f.
     let same = ap (λ k. record c.args.self.now { core = k }) c.in_ok-self.ensures in
-    on_ok _ _ c.tell.result (λ q. reopened r c.args.self.now _ c.tell.new.self _ _ same q) (c.tell.ensures.ok r (same_stands r c.args.self.now _ same f))
+    on_ok _ _ c.tell.result (λ q. reopened r c.args.self.now c.tell.new.self _ _ _ (ap (λ k. k.state) c.in_ok-self.ensures) q)
+    (c.tell.ensures.ok r (same_stands r c.args.self.now _ _ same f))
 
 pub returns-in_err-self-clause-err : goal.returns-in_err-self-clause-err
 returns-in_err-self-clause-err g c = λ r f. raised _ _ OutOfMemory c.from_residual.ensures.1 (stays r c.args.self.now _ _ _ _ f (λ h. h.calm) (inl refl) refl)
@@ -16,4 +17,5 @@ returns-in_err-self-clause-err g c = λ r f. raised _ _ OutOfMemory c.from_resid
 pub returns-clause-err : goal.returns-clause-err
 returns-clause-err g c = λ r f.
     let same = ap (λ k. record c.args.self.now { core = k }) c.in_ok-self.ensures in
-    if_err _ _ c.tell.result (λ e q. reopen_cut r c.args.self.now _ e _ _ same q) (c.tell.ensures.err r (same_stands r c.args.self.now _ same f))
+    if_err _ _ c.tell.result (λ e q. reopen_cut r c.args.self.now _ e _ _ (ap (λ k. k.state) c.in_ok-self.ensures) q)
+    (c.tell.ensures.err r (same_stands r c.args.self.now _ _ same f))
