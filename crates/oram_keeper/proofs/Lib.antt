@@ -1,2 +1,4 @@
 pub mod Texts
 pub mod ReadBack
+pub mod Told
+pub mod Found

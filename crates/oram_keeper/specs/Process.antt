@@ -1,14 +1,16 @@
 -- The process of a disk in the text that is kept of it.
-use Rattle.std.specs.Prelude.{◌≡◌, ◌<◌, ◌⊎◌, ℕ, List, [], ◌∷◌, ◌++◌, length, ⊤}
+use Rattle.std.specs.Prelude.{◌≡◌, ◌<◌, ◌^◌, ◌⊎◌, ℕ, List, [], ◌∷◌, ◌++◌, length, All, ⊤}
 use Rattle.oram_kept.specs.Keeper.{KeeperValue}
 use Rattle.oram_kept.specs.Kept.{Finds, bounds}
 use Rattle.oram_kept.specs.Layout.{Holds}
 use Rattle.oram_kept.specs.Opening.{IsNotOpened}
 use Rattle.oram_kept.specs.Text.{Parts, text_of}
+use Rattle.oram_state.specs.StateBytes.{with_table}
 use Rattle.oram_redo.specs.FilePair.{Contents, FileModel}
 use Rattle.oram_redo.specs.declared.file_pair.FileKind.TheVariants.{Records}
 use Rattle.oram_rounds.specs.KeptParts.{text_of as process_of}
 use Rattle.oram_keeper.specs.declared.first_process.FirstProcess.{FirstProcess}
+use Rattle.oram_keeper.specs.declared.found_process.FoundProcess.{FoundProcess}
 use Rattle.oram_keeper.specs.declared.pair_keeper.KeeperFault.{KeeperFault}
 use Rattle.oram_keeper.specs.declared.pair_keeper.KeeperFault.TheVariants.{Files, NoTitle, OutOfMemory}
 
@@ -28,6 +30,18 @@ IsAmong title process (p ∷ ps) = IsTextOf title process p ⊎ IsAmong title pr
 -- The process may be read back: its text is one of those that may be found.
 abbrev pub MayReadBack : {F : Type 0} → PairKeeperState F → List ℕ → Type 0
 MayReadBack k process = IsAmong k.title process k.keeper.texts
+
+-- the table of the text that was kept last
+abbrev pub kept_table : {F : Type 0} → PairKeeperState F → List ℕ
+kept_table k = k.keeper.kept.table
+
+-- The table of a kept text stands in the text of a process that was found, at the place that is said of it.
+pub record IsFoundIn (found : FoundProcess) (p : Parts) : Type 0 where
+  pub before : List ℕ
+  pub text : found.text.items ≡ with_table before p.table p.after
+  pub place : length before ≡ found.table_at
+  pub count : length p.table ≡ found.table_len
+  pub numbers : All (λ n. n < 2 ^ 32) p.table
 
 -- Files hold a text that has fewer bytes before its table than a title.
 pub record HoldsNoTitle {F : Type 0} (model : FileModel F) (title_len : ℕ) (old new : F) : Type 0 where

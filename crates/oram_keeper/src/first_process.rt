@@ -2,7 +2,7 @@
 ghost use Rattle.std.specs.Prelude.{◌≡◌, ◌++◌};
 ghost use Rattle.oram_keeper.specs.Process.{HoldsFirst};
 
-use oram_kept::{FORMAT, TextParts, write_first};
+use oram_kept::{ChangedNumbers, FORMAT, TextParts, write_first};
 use oram_pair::{Fill, PairFault, PairFormat};
 use oram_redo::{FilePair, RedoError};
 use oram_rounds::KeptParts;
@@ -29,6 +29,7 @@ impl Fill for FirstProcess<'_> {
             title: self.title,
             before: self.text.before,
             table: self.text.table,
+            changes: ChangedNumbers::Any,
             after: self.text.after,
         };
         match write_first(self.alloc, files, &parts) {

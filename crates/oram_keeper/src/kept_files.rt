@@ -1,9 +1,10 @@
 //! The files that keep a disk's process: how they are made, opened, and read beside a process that has them open.
 ghost use Rattle.std.specs.Prelude.{◌≡◌, ◌∷◌, [], IfOk, length};
-ghost use Rattle.oram_keeper.specs.Process.{IsTextOf};
+ghost use Rattle.oram_keeper.specs.Process.{IsFoundIn, IsTextOf, kept_table};
 ghost use Rattle.oram_kept.specs.Text.{Parts};
 
 use crate::first_process::FirstProcess;
+use crate::found_process::FoundProcess;
 use crate::pair_keeper::{KeeperFault, PairKeeper};
 use oram_kept::FORMAT;
 use oram_pair::{PairFault, copy_files, make_pair, open_files};
@@ -61,7 +62,7 @@ pub fn check_free(rt: &HostRuntime, alloc: Global, path: &str) -> Result<(), Pai
     oram_pair::check_free(rt, alloc, path, &FORMAT)
 }
 
-/// Opens the files of a disk at a path, and locks them. Returns their keeper, and the text of the process behind a title of `title_len` bytes.
+/// Opens the files of a disk at a path, and locks them. Returns their keeper, and the process behind a title of `title_len` bytes.
 /// Without `syncs`, what is kept outlives the end of the process, and not a loss of power.
 pub fn open_kept(
     rt: &HostRuntime,
@@ -69,8 +70,9 @@ pub fn open_kept(
     path: &str,
     title_len: usize,
     syncs: Syncs,
-) -> Result<(PairKeeper<SystemPair>, Vec<u8>), OpenFault>
-    ensures text { IfOk result (λ opened. (p : Parts) × (opened.0.keeper.texts ≡ p ∷ []) × IsTextOf opened.0.title opened.1.items p) }
+) -> Result<(PairKeeper<SystemPair>, FoundProcess), OpenFault>
+    ensures text { IfOk result (λ opened. (p : Parts) × (opened.0.keeper.texts ≡ p ∷ []) × IsTextOf opened.0.title opened.1.text.items p) }
+    ensures table { IfOk result (λ opened. (p : Parts) × IsFoundIn opened.1 p × (p.table ≡ kept_table opened.0)) }
     ensures title { IfOk result (λ opened. length opened.0.title ≡ title_len) }
 {
     let pair = open_files(rt, alloc, path, &FORMAT)?;
@@ -82,8 +84,7 @@ pub fn open_kept(
 #[derive(Drop)]
 pub struct ReadProcess {
     pub title: Vec<u8>,
-    /// The text of the process.
-    pub text: Vec<u8>,
+    pub process: FoundProcess,
 }
 
 /// Reads the files of a disk at a path once.
@@ -95,9 +96,9 @@ fn read_once(
 ) -> Result<ReadProcess, OpenFault> {
     let pair = copy_files(rt, alloc, path, &FORMAT)?;
     let files = SystemPair::of_copies(pair.records, pair.log);
-    let (keeper, text) = PairKeeper::open(alloc, files, pair.generation, title_len)?;
+    let (keeper, process) = PairKeeper::open(alloc, files, pair.generation, title_len)?;
     let title = keeper.title().to_vec(alloc).map_err(KeeperFault::from)?;
-    Ok(ReadProcess { title, text })
+    Ok(ReadProcess { title, process })
 }
 
 /// Returns whether files that are read while a process writes them may give this fault, although they are sound.

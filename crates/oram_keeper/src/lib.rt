@@ -7,11 +7,13 @@
 #![tactic(auto)]
 
 mod first_process;
+mod found_process;
 mod kept_files;
 mod law;
 mod pair_keeper;
 
 pub use first_process::FirstProcess;
+pub use found_process::FoundProcess;
 pub use kept_files::{OpenFault, ReadProcess, check_free, make_kept, open_kept, read_kept};
-pub use law::{found_pair_begins, found_process_was_noted};
+pub use law::{changes_are_told, found_pair_begins, found_process_was_noted};
 pub use pair_keeper::{KeepFailure, KeeperFault, PairKeeper};

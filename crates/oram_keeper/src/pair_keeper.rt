@@ -1,15 +1,19 @@
 //! A keeper that keeps the process of a disk in a pair of files.
 ghost use Rattle.std.specs.Prelude.{◌≡◌, ◌⊎◌, ◌∷◌, [], ℕ, List, length, IfErr, IfOk, OnErr, OnOk, true};
-ghost use Rattle.oram_keeper.specs.Process.{IsNotRead, IsTextOf, MayReadBack};
+ghost use Rattle.oram_core.specs.Changes.{AreTold};
+ghost use Rattle.oram_keeper.specs.Process.{IsFoundIn, IsNotRead, IsTextOf, MayReadBack, kept_table};
 ghost use Rattle.oram_kept.specs.Keeper.{FindsOneOf, Knows};
 ghost use Rattle.oram_kept.specs.Kept.{Finds, bounds};
 ghost use Rattle.oram_kept.specs.Opening.{FindsSame};
+ghost use Rattle.oram_kept.specs.Pages.{AreTold as AreToldNumbers};
 ghost use Rattle.oram_kept.specs.Text.{Parts};
 ghost use Rattle.oram_redo.specs.FilePair.{ComesAfter, LeavesOnly};
 ghost use Rattle.oram_rounds.specs.KeptParts.{text_of};
 ghost use Rattle.oram_state.specs.StateBytes.{with_table};
 
-use oram_kept::{OpenError, TextKeeper, TextParts};
+use crate::found_process::{FoundProcess, fit};
+use oram_core::TableChanges;
+use oram_kept::{ChangedNumbers, OpenError, Text, TextKeeper, TextParts};
 use oram_pair::Generation;
 use oram_redo::{FilePair, RedoError};
 use oram_rounds::{KeepError, Keeper, KeptParts};
@@ -107,18 +111,30 @@ fn process_text(
     Ok(text)
 }
 
+/// Returns the numbers of a table that have changed where these entries of it have.
+fn changed_numbers(changes: TableChanges<'_>) -> ChangedNumbers<'_>
+    ensures { (old new : List ℕ) → AreTold changes.entry old new → AreToldNumbers result old new }
+{
+    match changes {
+        TableChanges::Any => ChangedNumbers::Any,
+        TableChanges::Blocks(blocks) => ChangedNumbers::At(blocks),
+    }
+}
+
 impl<F: FilePair + Drop> PairKeeper<F> {
-    /// Opens the files of a process, as a crash or an end has left them, and returns its text, too. The first `title_len` bytes of what
+    /// Opens the files of a process, as a crash or an end has left them, and returns the process, too. The first `title_len` bytes of what
     /// the files hold are the title. Their fronts say this generation of the log.
     pub fn open(
         alloc: Global,
         files: F,
         generation: Generation,
         title_len: usize,
-    ) -> Result<(PairKeeper<F>, Vec<u8>), KeeperFault>
+    ) -> Result<(PairKeeper<F>, FoundProcess), KeeperFault>
         // The text is the one that the files hold, and the only one that is read back from then on.
-        ensures text { IfOk result (λ opened. (p : Parts) × (opened.0.keeper.texts ≡ p ∷ []) × IsTextOf opened.0.title opened.1.items p
+        ensures text { IfOk result (λ opened. (p : Parts) × (opened.0.keeper.texts ≡ p ∷ []) × IsTextOf opened.0.title opened.1.text.items p
             × (F.model.is_honest opened.0.keeper.kept.files → Finds bounds p (F.model.seen files))) }
+        // Its table is the one that was kept last.
+        ensures table { IfOk result (λ opened. (p : Parts) × IsFoundIn opened.1 p × (p.table ≡ kept_table opened.0)) }
         ensures title { IfOk result (λ opened. length opened.0.title ≡ title_len) }
         ensures knows { IfOk result (λ opened. F.model.is_honest opened.0.keeper.kept.files → Knows F.model opened.0.keeper) }
 
@@ -127,19 +143,26 @@ impl<F: FilePair + Drop> PairKeeper<F> {
             → LeavesOnly F.model files opened.0.keeper.kept.files (λ c. F.model.may_leave files c ⊎ FindsSame (F.model.seen files) c)) }
         ensures err { IfErr result (IsNotRead F.model title_len files) }
     {
-        let (texts, around) = TextKeeper::open(alloc, files, generation)?;
+        let (texts, text) = TextKeeper::open(alloc, files, generation)?;
+        let Text { table, around } = text;
         if around.before.len() < title_len {
             return Err(KeeperFault::NoTitle);
         }
         let (title, rest) = around.before.split_at(title_len);
-        let process = process_text(alloc, rest, texts.table(), &around.after)?;
+        let numbers: &[u32] = &table;
+        fit(numbers);
+        let found = FoundProcess {
+            text: process_text(alloc, rest, numbers, &around.after)?,
+            table_at: rest.len(),
+            table_len: numbers.len(),
+        };
         let title = title.to_vec(alloc)?;
         let keeper = PairKeeper {
             texts,
             title,
             failure: None,
         };
-        Ok((keeper, process))
+        Ok((keeper, found))
     }
 }
 
@@ -158,15 +181,21 @@ impl<F: FilePair> PairKeeper<F> {
 }
 
 impl<F: FilePair> Keeper for PairKeeper<F> {
-    ghost use Rattle.oram_keeper.specs.Process.{MayReadBack};
+    ghost use Rattle.oram_keeper.specs.Process.{MayReadBack, kept_table};
 
     ghost reads_back = { MayReadBack };
 
-    /// Keeps the process in the files. A crash at any moment leaves it or one that might have been found before, whole.
+    ghost kept_table = { kept_table };
+
+    /// Keeps the process in the files, and writes of its table only the pages of the entries that may have changed. A crash at any
+    /// moment leaves it or one that might have been found before, whole.
     fn keep(&mut self, text: &KeptParts<'_>) -> Result<(), KeepError>
+        requires { AreTold text.now.changes (kept_table self.old) text.now.table.now }
         ensures there { OnOk result (MayReadBack self.new (text_of text.now)) }
         ensures only { OnOk result ((bytes : List ℕ) → MayReadBack self.new bytes → bytes ≡ text_of text.now) }
         ensures failed { OnErr result ((bytes : List ℕ) → MayReadBack self.new bytes → (bytes ≡ text_of text.now) ⊎ MayReadBack self.old bytes) }
+        ensures table { OnOk result (kept_table self.new ≡ text.now.table.now) }
+        ensures table_before { OnErr result (kept_table self.new ≡ kept_table self.old) }
         ensures knows { Knows F.model self.old.keeper → Knows F.model self.new.keeper }
         ensures any_moment { Knows F.model self.old.keeper → (p : Parts) × IsTextOf self.old.title (text_of text.now) p
             × LeavesOnly F.model self.old.keeper.kept.files self.new.keeper.kept.files (FindsOneOf (p ∷ self.old.keeper.texts)) }
@@ -178,6 +207,7 @@ impl<F: FilePair> Keeper for PairKeeper<F> {
             title: &self.title,
             before: text.before,
             table: text.table,
+            changes: changed_numbers(text.changes),
             after: text.after,
         };
         match self.texts.keep(&parts) {

@@ -2,6 +2,7 @@ pub mod Checks
 pub mod FirstText
 pub mod Tables
 pub mod Written
+pub mod Renewed
 pub mod Held
 pub mod One
 pub mod Heads

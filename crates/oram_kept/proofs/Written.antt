@@ -9,7 +9,7 @@ use Rattle.oram_kept.proofs.Tables.{length-page-within}
 use Rattle.oram_redo.specs.Content.{Content, Has, put}
 use Rattle.oram_redo.specs.Log.{Patch, Spares, put_all}
 use Rattle.oram_redo.proofs.Bytes.{has-put, has_same, put_outside}
-use Rattle.oram_redo.proofs.Heal.{put_all-append, put_all_spares}
+use Rattle.oram_redo.proofs.Heal.{put_all-append}
 
 -- With these patches, a content that has the old table has the first i pages of the new one. They reach nothing but these pages.
 pub record AreWritten (old new : List ℕ) (i : ℕ) (patches : List Patch) : Type 0 where
@@ -36,27 +36,6 @@ later : {i : ℕ} {p : Patch} → Ends i p → Ends (i + 1) p
 later ends = record { before = omega (arith, ends.before); short = ends.short }
 
 module _ (old new : List ℕ) (i : ℕ) (patches : List Patch) (were : AreWritten old new i patches) where
-  -- the page stays as it is
-  pub page_stays : i < pages_for (length old) → numbers_on old i ≡ numbers_on new i → AreWritten old new (i + 1) patches
-  page_stays within same = record {
-    pages = λ c has j below. elim (cases_eq j i) [
-      | inl last ↦
-          let there : Has (page_of (numbers_on new i)) (page_at i) (put_all patches c) =
-          has_same (page_of (numbers_on new i)) (page_at i) c (put_all patches c)
-          (λ x from to. put_all_spares patches c x (were.within.spares x (inr from)))
-          (subst (λ (ns : List ℕ). Has (page_of ns) (page_at i) c) same (has i within)) in
-          subst (λ (k : ℕ). Has (page_of (numbers_on new k)) (page_at k) (put_all patches c)) (sym last) there
-      | inr other ↦ were.pages c has j (omega (arith, other))
-    ];
-    within = record {
-      spares = λ x out. elim out [
-        | inl before ↦ were.within.spares x (inl before)
-        | inr behind ↦ were.within.spares x (inr (omega arith))
-      ];
-      ends = λ k d below. later (were.within.ends k d below);
-    };
-  }
-
   -- the page is written
   pub page_put : (bytes : List ℕ) → bytes ≡ page_of (numbers_on new i) → AreWritten old new (i + 1) (patches ++ (page_at i, bytes) ∷ [])
   page_put bytes is =

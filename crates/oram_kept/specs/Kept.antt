@@ -1,5 +1,5 @@
 -- A text that is kept in a pair of files, between two calls and after a crash.
-use Rattle.std.specs.Prelude.{◌≡◌, ◌⊎◌, ℕ, ◌^◌, Bool, List, []}
+use Rattle.std.specs.Prelude.{◌≡◌, ◌⊎◌, ℕ, ◌^◌, Bool, List, [], ◌∷◌}
 use Rattle.oram_redo.specs.Content.{Content}
 use Rattle.oram_redo.specs.FilePair.{Contents, FileModel}
 use Rattle.oram_redo.specs.Log.{StandsFor}
@@ -23,6 +23,11 @@ pub record KeptValue (F : Type 0) : Type 0 where
   pub redo : Redo
   pub table : List ℕ  -- as it was kept last
   pub has_stopped : Bool  -- a call has failed: the files have to be opened again
+
+-- the table of the first of these texts
+abbrev pub newest_table : List Parts → List ℕ
+newest_table [] = []
+newest_table (p ∷ ps) = p.table
 
 -- These files are those of a text with these parts: whoever opens them finds it.
 pub record Finds (bounds : Bounds) (p : Parts) (c : Contents) : Type 0 where

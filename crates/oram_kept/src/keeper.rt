@@ -4,13 +4,13 @@ ghost use Rattle.oram_kept.specs.Keeper.{FindsOneOf, Knows};
 ghost use Rattle.oram_kept.specs.Kept.{Finds, bounds};
 ghost use Rattle.oram_kept.specs.Layout.{HaveRoom};
 ghost use Rattle.oram_kept.specs.Opening.{FindsSame, IsNotOpened};
-ghost use Rattle.oram_kept.specs.Pages.{parts_of};
+ghost use Rattle.oram_kept.specs.Pages.{AreTold, parts_of};
 ghost use Rattle.oram_kept.specs.Reading.{parts_around};
 ghost use Rattle.oram_redo.specs.FilePair.{ComesAfter, HasFailed, LeavesOnly, Rises};
 
 use crate::kept_text::KeptText;
 use crate::opening::OpenError;
-use crate::reading::Around;
+use crate::reading::Text;
 use crate::text::TextParts;
 use crate::text_history::TextHistory;
 use oram_pair::Generation;
@@ -35,14 +35,15 @@ impl<F: FilePair> Model for TextKeeper<F> {
 }
 
 impl<F: FilePair + Drop> TextKeeper<F> {
-    /// Opens the files of a text, as [`KeptText::open`] does, and reads it. Its table stays in what is returned first.
+    /// Opens the files of a text, as [`KeptText::open`] does, and reads it.
     pub fn open(
         alloc: Global,
         files: F,
         generation: Generation,
-    ) -> Result<(TextKeeper<F>, Around), OpenError>
-        ensures texts { IfOk result (λ opened. opened.0.texts ≡ parts_around opened.0.kept.table opened.1 ∷ []) }
-        ensures found { IfOk result (λ opened. F.model.is_honest opened.0.kept.files → Finds bounds (parts_around opened.0.kept.table opened.1) (F.model.seen files)) }
+    ) -> Result<(TextKeeper<F>, Text), OpenError>
+        ensures texts { IfOk result (λ opened. opened.0.texts ≡ parts_around opened.0.kept.table opened.1.around ∷ []) }
+        ensures table { IfOk result (λ opened. opened.1.table.items ≡ opened.0.kept.table) }
+        ensures found { IfOk result (λ opened. F.model.is_honest opened.0.kept.files → Finds bounds (parts_around opened.0.kept.table opened.1.around) (F.model.seen files)) }
         ensures knows { IfOk result (λ opened. F.model.is_honest opened.0.kept.files → Knows F.model opened.0) }
 
         // A crash at any moment leaves what an earlier one might have left, or files with the same text.
@@ -50,21 +51,14 @@ impl<F: FilePair + Drop> TextKeeper<F> {
             → LeavesOnly F.model files opened.0.kept.files (λ c. F.model.may_leave files c ⊎ FindsSame (F.model.seen files) c)) }
         ensures err { IfErr result (λ why. (last : F) × IsNotOpened F.model why files last) }
     {
-        let (kept, around) = KeptText::open(alloc, files, generation)?;
+        let (kept, text) = KeptText::open(alloc, files, generation)?;
         let mut history = TextHistory::new();
-        history.note(&[], &around.before, kept.table(), &around.after);
-        Ok((TextKeeper { kept, history }, around))
+        history.note(&[], &text.around.before, &text.table, &text.around.after);
+        Ok((TextKeeper { kept, history }, text))
     }
 }
 
 impl<F: FilePair> TextKeeper<F> {
-    /// Returns the table of the text, as it was kept last.
-    pub fn table(&self) -> &[u32]
-        ensures { result.now ≡ self.now.kept.table }
-    {
-        self.kept.table()
-    }
-
     /// Returns the number of the system's error for which a call of the files failed last, if the system gave one.
     pub fn errno(&self) -> Option<i32> {
         self.kept.errno()
@@ -80,6 +74,9 @@ impl<F: FilePair> TextKeeper<F> {
     /// Keeps a text in place of the one before, as [`KeptText::keep`] does. Once it returns `Ok`, this text alone is found. After an error this one
     /// may be found, or what might have been found before.
     pub fn keep(&mut self, text: &TextParts<'_>) -> Result<(), RedoError>
+        requires { AreTold text.now.changes self.old.kept.table text.now.table.now }
+        ensures table { OnOk result (self.new.kept.table ≡ text.now.table.now) }
+        ensures table_before { OnErr result (self.new.kept.table ≡ self.old.kept.table) }
         ensures texts { OnOk result (self.new.texts ≡ parts_of text.now ∷ []) }
         ensures tried { OnErr result (self.new.texts ≡ parts_of text.now ∷ self.old.texts) }
         ensures knows { Knows F.model self.old → Knows F.model self.new }

@@ -1,9 +1,9 @@
 //! A text that is kept in a pair of files.
-ghost use Rattle.std.specs.Prelude.{◌≡◌, ◌⊎◌, ◌<◌, ◌≤◌, ◌+◌, ◌^◌, ◌++◌, ◌∷◌, [], ℕ, All, IfErr, IfOk, IsErr, IsErrOf, OnErr, OnOk, false, length, true};
+ghost use Rattle.std.specs.Prelude.{◌≡◌, ◌⊎◌, ◌<◌, ◌≤◌, ◌+◌, ◌^◌, ◌++◌, ◌∷◌, [], ℕ, All, List, IfErr, IfOk, IsErr, IsErrOf, OnErr, OnOk, false, length, true};
 ghost use Rattle.oram_kept.specs.Kept.{FindsEither, Keeps, StandsEither, bounds};
 ghost use Rattle.oram_kept.specs.Layout.{HasTable, HaveRoom, Holds, head_of, pages_for};
 ghost use Rattle.oram_kept.specs.Text.{Parts};
-ghost use Rattle.oram_kept.specs.Pages.{AreWithin, batch_for, parts_of, patches_of as pages_of};
+ghost use Rattle.oram_kept.specs.Pages.{AreTold, AreWithin, IsFor, batch_for, parts_of, patches_of as pages_of};
 ghost use Rattle.oram_redo.specs.Batch.{patches_of};
 ghost use Rattle.oram_redo.specs.Content.{Agrees, Content};
 ghost use Rattle.oram_redo.specs.FilePair.{ComesAfter, Contents, HasFailed, LeavesOnly, Rises, WritesNothing};
@@ -12,9 +12,10 @@ ghost use Rattle.oram_redo.specs.Redo.{IsCrashConsistent, bounds_of, end_of};
 ghost use Rattle.oram_redo.specs.declared.file_pair.FileKind.TheVariants.{Log, Records};
 
 use crate::head::HEAD_AT;
-use crate::pages::{Page, all_pages, changed_pages};
-use crate::reading::{Around, Text};
-use crate::text::TextParts;
+use crate::pages::{Page, all_pages, pages_for, pages_with};
+use crate::reading::Text;
+use crate::text::{ChangedNumbers, TextParts};
+use crate::text_history::TextHistory;
 use oram_pair::{Generation, PairFormat, PairLetters};
 use oram_redo::{Bounds, FileKind, FilePair, Patch, Redo, RedoError};
 use std::alloc::{AllocError, Global};
@@ -47,39 +48,43 @@ pub struct KeptText<F: FilePair> {
     redo: Redo,
     /// The generation of the log, which both fronts say. No clause says what fronts hold.
     generation: Generation,
-    /// The table as it was kept last.
-    table: Vec<u32>,
+    /// The text that was kept last. Only contracts read it.
+    last: TextHistory,
     /// Whether a call has failed, so that the files have to be opened again.
     has_stopped: bool,
 }
 
 impl<F: FilePair> Model for KeptText<F> {
     ghost use Rattle.std.specs.Prelude.{◌≡◌};
-    ghost use Rattle.oram_kept.specs.Kept.{KeptValue, bounds};
+    ghost use Rattle.oram_kept.specs.Kept.{KeptValue, bounds, newest_table};
     ghost use Rattle.oram_redo.specs.Redo.{bounds_of};
 
     ghost Value = { KeptValue F };
 
-    ghost view = { λ k. record { files = k.files; redo = k.redo; table = k.table.items; has_stopped = k.has_stopped } };
+    ghost view = { λ k. record { files = k.files; redo = k.redo; table = newest_table k.last.texts; has_stopped = k.has_stopped } };
 
     ghost invariant = { λ k. bounds_of k.redo ≡ bounds };
 }
 
-/// Puts the numbers of `new` into a table, and returns the pages that this changes: all of them if the table had another length.
-fn pages_to_write(alloc: Global, table: &mut Vec<u32>, new: &[u32]) -> Result<Vec<Page>, AllocError>
-    requires { length new.now < 2 ^ 32 }
-    ensures table { IfOk result (λ pages. table.new.items ≡ new.now) }
-    ensures pages { IfOk result (λ pages. (c : Content) → HasTable table.old.items c → HasTable new.now (put_all (pages_of pages.items) c)) }
-    ensures within { IfOk result (λ pages. AreWithin (pages_for (length new.now)) (pages_of pages.items)) }
-    ensures few { IfOk result (λ pages. length pages.items ≤ pages_for (length new.now)) }
+/// Returns the pages of a table in which numbers may have changed: all of them if there are at least as many changes as pages.
+fn pages_to_write(
+    alloc: Global,
+    table: &[u32],
+    changes: ChangedNumbers<'_>,
+) -> Result<Vec<Page>, AllocError>
+    requires { length table.now < 2 ^ 32 }
+    ensures pages { IfOk result (λ pages. (old : List ℕ) (c : Content) → AreTold changes.entry old table.now → HasTable old c → HasTable table.now (put_all (pages_of pages.items) c)) }
+    ensures changed { IfOk result (λ pages. IsFor changes.entry (pages_for (length table.now)) (pages_of pages.items)) }
+    ensures within { IfOk result (λ pages. AreWithin (pages_for (length table.now)) (pages_of pages.items)) }
+    ensures few { IfOk result (λ pages. length pages.items ≤ pages_for (length table.now)) }
 {
-    if table.len() == new.len() {
-        return changed_pages(alloc, table, new);
+    let ChangedNumbers::At(indexes) = changes else {
+        return all_pages(alloc, table);
+    };
+    if indexes.len() < pages_for(table.len()) {
+        return pages_with(alloc, table, indexes);
     }
-    let pages = all_pages(alloc, new)?;
-    table.clear();
-    table.extend_from_slice(new)?;
-    Ok(pages)
+    all_pages(alloc, table)
 }
 
 /// What a keeping changes besides the two texts around the table.
@@ -89,15 +94,15 @@ struct Change {
     head: Vec<u8>,
 }
 
-/// Puts the numbers of a text's table into a table, and returns what this changes in the file.
+/// Returns what a text changes in the file, if these numbers of its table may have changed.
 fn change_for(
     alloc: Global,
-    table: &mut Vec<u32>,
     text: &TextParts<'_>,
+    changes: ChangedNumbers<'_>,
 ) -> Result<Change, RedoError>
     ensures room { OnOk result (HaveRoom (parts_of text.now)) }
-    ensures table { OnOk result (table.new.items ≡ text.now.table.now) }
-    ensures pages { IfOk result (λ change. (c : Content) → HasTable table.old.items c → HasTable text.now.table.now (put_all (pages_of change.pages.items) c)) }
+    ensures pages { IfOk result (λ change. (old : List ℕ) (c : Content) → AreTold changes.entry old text.now.table.now → HasTable old c → HasTable text.now.table.now (put_all (pages_of change.pages.items) c)) }
+    ensures changed { IfOk result (λ change. IsFor changes.entry (pages_for (length text.now.table.now)) (pages_of change.pages.items)) }
     ensures within { IfOk result (λ change. AreWithin (pages_for (length text.now.table.now)) (pages_of change.pages.items)) }
     ensures few { IfOk result (λ change. length change.pages.items ≤ pages_for (length text.now.table.now)) }
     ensures head { IfOk result (λ change. change.head.items ≡ head_of (parts_of text.now)) }
@@ -107,7 +112,7 @@ fn change_for(
     if !text.have_room() {
         return Err(RedoError::LogFull);
     }
-    let pages = pages_to_write(alloc, table, text.table)?;
+    let pages = pages_to_write(alloc, text.table, changes)?;
     let head = text.head(alloc)?;
     Ok(Change { pages, head })
 }
@@ -180,8 +185,7 @@ pub fn write_first<F: FilePair>(
     ensures full { IsErrOf result RedoError.LogFull → HaveRoom (parts_of text.now) → ⊥ }
     ensures after { ComesAfter F.model files.old files.new }
 {
-    let mut table = Vec::new(alloc);
-    let change = change_for(alloc, &mut table, text)?;
+    let change = change_for(alloc, text, ChangedNumbers::Any)?;
     let batch = change.batch_of(alloc, text.lent())?;
     write_all(files, &batch)
 }
@@ -247,34 +251,29 @@ fn commit<F: FilePair>(
 }
 
 impl<F: FilePair> KeptText<F> {
-    /// Makes what keeps a text of opened files, whose log has this generation, and of the text that was read from them, and returns what stands
-    /// around its table, too.
+    /// Makes what keeps a text of opened files, whose log has this generation, and of the text that was read from them, which is
+    /// returned, too.
     pub(crate) fn over(
         alloc: Global,
         files: F,
         redo: Redo,
         generation: Generation,
         text: Text,
-    ) -> (KeptText<F>, Around)
+    ) -> (KeptText<F>, Text)
         requires { bounds_of redo ≡ bounds }
-        ensures { result ≡ (record { files = files; redo = redo; table = text.table.items; has_stopped = false }, text.around) }
+        ensures { result ≡ (record { files = files; redo = redo; table = text.table.items; has_stopped = false }, text) }
     {
+        let mut last = TextHistory::new();
+        last.note(&[], &text.around.before, &text.table, &text.around.after);
         let kept = KeptText {
             alloc,
             files,
             redo,
             generation,
-            table: text.table,
+            last,
             has_stopped: false,
         };
-        (kept, text.around)
-    }
-
-    /// Returns the table of the text, as it was kept last.
-    pub fn table(&self) -> &[u32]
-        ensures { result.now ≡ self.now.table }
-    {
-        &self.table
+        (kept, text)
     }
 }
 
@@ -293,8 +292,10 @@ impl<F: FilePair> KeptText<F> {
 
     /// Writes a text over the one before.
     fn put(&mut self, text: &TextParts<'_>) -> Result<(), RedoError>
+        requires { AreTold text.now.changes self.old.table text.now.table.now }
         ensures ok { IsCrashConsistent F.model self.old.redo [] self.old.files → HasTable self.old.table (F.model.seen self.old.files Records)
-            → OnOk result (Keeps F.model (parts_of text.now) self.new) }
+            → OnOk result (Keeps F.model (parts_of text.now) (record self.new { table = text.now.table.now })) }
+        ensures table { self.new.table ≡ self.old.table }
         ensures any_moment { (p : Parts) → Keeps F.model p self.old
             → LeavesOnly F.model self.old.files self.new.files (FindsEither bounds p (parts_of text.now)) }
         ensures failed { IsErrOf result RedoError.Failed → HasFailed F.model self.old.files self.new.files }
@@ -305,17 +306,21 @@ impl<F: FilePair> KeptText<F> {
         ensures stopped { self.new.has_stopped ≡ self.old.has_stopped }
     {
         let alloc = self.alloc;
-        let change = change_for(alloc, &mut self.table, text)?;
+        let change = change_for(alloc, text, text.changes)?;
         let batch = change.batch_of(alloc, text.lent())?;
         let (redo, generation) = (&mut self.redo, &mut self.generation);
         commit(alloc, &mut self.files, redo, generation, &batch)
     }
 
-    /// Keeps a text in place of the one before. Writes what has changed of the table, and the texts around it.
+    /// Keeps a text in place of the one before. The text tells which numbers of its table may have changed: this writes the pages
+    /// with these numbers, and the texts around the table. It never looks at the other numbers.
     ///
     /// A crash at any moment leaves files with the text of before or with this one, and once this returns `Ok`, only with this one. After an
     /// error nothing more is kept: the files have to be opened again, and hold one of the two.
     pub fn keep(&mut self, text: &TextParts<'_>) -> Result<(), RedoError>
+        requires { AreTold text.now.changes self.old.table text.now.table.now }
+        ensures table { OnOk result (self.new.table ≡ text.now.table.now) }
+        ensures table_before { OnErr result (self.new.table ≡ self.old.table) }
         ensures ok { (p : Parts) → Keeps F.model p self.old → OnOk result (Keeps F.model (parts_of text.now) self.new) }
         ensures any_moment { (p : Parts) → Keeps F.model p self.old
             → LeavesOnly F.model self.old.files self.new.files (FindsEither bounds p (parts_of text.now)) }
@@ -336,7 +341,11 @@ impl<F: FilePair> KeptText<F> {
             return Err(RedoError::Failed);
         }
         match self.put(text) {
-            Ok(()) => Ok(()),
+            Ok(()) => {
+                self.last
+                    .note(text.title, text.before, text.table, text.after);
+                Ok(())
+            }
             Err(error) => {
                 self.has_stopped = true;
                 Err(error)

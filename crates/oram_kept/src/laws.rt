@@ -10,7 +10,7 @@ ghost use Rattle.oram_kept.specs.Examples.{Rows};
 
 use crate::kept_text::{KeptText, write_first};
 use crate::opening::OpenError;
-use crate::text::TextParts;
+use crate::text::{ChangedNumbers, TextParts};
 use oram_pair::Generation;
 use oram_redo::FilePair;
 use std::alloc::Global;
@@ -24,11 +24,12 @@ pub fn first_life<F: FilePair + Drop>(
     first: &TextParts<'_>,
     second: &TextParts<'_>,
 ) -> Result<KeptText<F>, OpenError>
-    requires { F.model.seen files Log bounds.log_start ≡ 15 }
+    requires shut { F.model.seen files Log bounds.log_start ≡ 15 }
+    requires changes { second.now.changes ≡ ChangedNumbers.Any }
     ensures { IfOk result (λ kept. F.model.is_honest kept.files → (c : Contents) → F.model.may_leave kept.files c → Finds bounds (parts_of second.now) c) }
 {
     write_first(alloc, &mut files, first)?;
-    let (mut kept, _around) = KeptText::open(alloc, files, generation)?;
+    let (mut kept, _text) = KeptText::open(alloc, files, generation)?;
     kept.keep(second)?;
     Ok(kept)
 }

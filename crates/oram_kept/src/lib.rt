@@ -20,5 +20,5 @@ pub use keeper::TextKeeper;
 pub use kept_text::{FORMAT, KeptText, write_first};
 pub use laws::{first_life, one_text, rows, written_files_hold};
 pub use opening::OpenError;
-pub use reading::Around;
-pub use text::{TextParts, check_of};
+pub use reading::{Around, Text};
+pub use text::{ChangedNumbers, TextParts, check_of};

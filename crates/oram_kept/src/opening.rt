@@ -13,7 +13,7 @@ ghost use Rattle.oram_redo.specs.declared.file_pair.FileKind.TheVariants.{Record
 use crate::head::{HEAD_AT, HEAD_LEN, Head};
 use crate::kept_text::{FORMAT, KeptText};
 use crate::pages::TABLE_AT;
-use crate::reading::{Around, Text, text_in};
+use crate::reading::{Text, text_in};
 use oram_pair::Generation;
 use oram_redo::{FilePair, Redo, RedoError, recover};
 use std::alloc::{AllocError, Global};
@@ -76,17 +76,17 @@ fn read_text<F: FilePair>(alloc: Global, files: &mut F, redo: &Redo) -> Result<T
 }
 
 impl<F: FilePair + Drop> KeptText<F> {
-    /// Opens the files of a text, as a crash or an end has left them, and reads the text. Its table stays in what is returned first
-    /// ([`KeptText::table`]). Their fronts say this generation of the log. The log is empty then, so that a copy of it that was made before is told
+    /// Opens the files of a text, as a crash or an end has left them, and reads the text. Their fronts say this generation of the log. The log is empty then, so that a copy of it that was made before is told
     /// from the log that goes on.
     pub fn open(
         alloc: Global,
         mut files: F,
         generation: Generation,
-    ) -> Result<(KeptText<F>, Around), OpenError>
+    ) -> Result<(KeptText<F>, Text), OpenError>
         // It is the text that was kept last, and is kept again from then on.
-        ensures found { IfOk result (λ opened. F.model.is_honest opened.0.files → Finds bounds (parts_around opened.0.table opened.1) (F.model.seen files)) }
-        ensures kept { IfOk result (λ opened. F.model.is_honest opened.0.files → Keeps F.model (parts_around opened.0.table opened.1) opened.0) }
+        ensures found { IfOk result (λ opened. F.model.is_honest opened.0.files → Finds bounds (parts_around opened.0.table opened.1.around) (F.model.seen files)) }
+        ensures kept { IfOk result (λ opened. F.model.is_honest opened.0.files → Keeps F.model (parts_around opened.0.table opened.1.around) opened.0) }
+        ensures table { IfOk result (λ opened. opened.1.table.items ≡ opened.0.table) }
         ensures goes_on { IfOk result (λ opened. opened.0.has_stopped ≡ false) }
 
         // A crash at any moment leaves what an earlier one might have left, or files with the same text.

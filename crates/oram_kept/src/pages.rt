@@ -1,7 +1,8 @@
 //! The pages of a table, and which of them a keeping writes.
-ghost use Rattle.std.specs.Prelude.{◌≡◌, ◌≢◌, ◌⊎◌, ◌↔◌, ◌<◌, ◌≤◌, ◌^◌, ℕ, false, length, All, IfOk, IsTrue};
+ghost use Rattle.std.specs.Prelude.{◌≡◌, ◌↔◌, ◌<◌, ◌≤◌, ◌^◌, List, ℕ, length, All, IfOk, IsTrue, OnOk};
 ghost use Rattle.oram_kept.specs.Layout.{HasTable, numbers_on, page_at, page_of, pages_for};
-ghost use Rattle.oram_kept.specs.Pages.{AreWithin, IsOfChange, patches_of};
+ghost use Rattle.std.specs.List.Sorted.{IsPermutation};
+ghost use Rattle.oram_kept.specs.Pages.{AddsPage, AreWithin, DifferAtMost, IsAmong, IsOfChange, patches_of};
 ghost use Rattle.oram_redo.specs.Content.{Content};
 ghost use Rattle.oram_redo.specs.Log.{check_bytes, put_all};
 
@@ -71,49 +72,65 @@ fn page_of(alloc: Global, numbers: &[u32]) -> Result<Vec<u8>, AllocError>
     Ok(page)
 }
 
-/// Puts the numbers of a page into a table that has its length, and returns whether they are others than before.
-fn change_page(table: &mut [u32], index: usize, numbers: &[u32]) -> bool
-    requires index { index < pages_for (length table.old) }
-    requires fits { length table.old < 2 ^ 32 }
-    requires long { length numbers.now ≡ length (numbers_on table.old index) }
-    ensures there { numbers_on table.new index ≡ numbers.now }
-    ensures others { (i : ℕ) → i ≢ index → numbers_on table.new i ≡ numbers_on table.old i }
-    ensures len { length table.new ≡ length table.old }
-    ensures same { result ≡ false → numbers_on table.old index ≡ numbers.now }
-    ensures changed { IsTrue result → numbers_on table.old index ≢ numbers.now }
+/// Copies these indexes in rising order.
+fn rising(alloc: Global, indexes: &[u32]) -> Result<Vec<u32>, AllocError>
+    ensures same { IfOk result (λ all. IsPermutation indexes.now all.items) }
+    ensures len { IfOk result (λ all. length all.items ≡ length indexes.now) }
 {
-    if numbers_on(table, index) == numbers {
-        return false;
-    }
-    let start = index * NUMBERS;
-    table[start..start + numbers.len()].copy_from_slice(numbers);
-    true
+    let mut all = indexes.to_vec(alloc)?;
+    all.sort_unstable();
+    Ok(all)
 }
 
-/// Puts the numbers of `new` into a table of the same length, and returns the pages that this changes.
-pub(crate) fn changed_pages(
-    alloc: Global,
-    table: &mut [u32],
-    new: &[u32],
-) -> Result<Vec<Page>, AllocError>
-    requires long { length table.old ≡ length new.now }
-    requires fits { length new.now < 2 ^ 32 }
-    ensures table { IfOk result (λ pages. table.new ≡ new.now) }
-    // A content with the table of before has the new one once these pages are put.
-    ensures pages { IfOk result (λ pages. (c : Content) → HasTable table.old c → HasTable new.now (put_all (patches_of pages.items) c)) }
-    ensures few { IfOk result (λ pages. length pages.items ≤ pages_for (length new.now)) }
-    // Each is of a page whose numbers are others than before.
-    ensures changed { IfOk result (λ pages. All (IsOfChange table.old new.now) (patches_of pages.items)) }
-    ensures within { IfOk result (λ pages. AreWithin (pages_for (length new.now)) (patches_of pages.items)) }
+/// Returns whether the last of these pages has this place.
+fn ends_with(pages: &[Page], at: u64) -> bool
+    ensures { IsTrue result → IsAmong at (patches_of pages.now) }
 {
+    match pages.last() {
+        Some(page) => page.at == at,
+        None => false,
+    }
+}
+
+/// Adds a page of a table to these pages, unless it is the last of them already.
+fn add_page(
+    alloc: Global,
+    table: &[u32],
+    page: usize,
+    pages: &mut Vec<Page>,
+) -> Result<(), AllocError>
+    requires { page < 2 ^ 32 }
+    ensures { OnOk result (AddsPage table.now page (patches_of pages.old.items) (patches_of pages.new.items)) }
+{
+    let at = page_at(page);
+    if ends_with(pages, at) {
+        return Ok(());
+    }
+    let bytes = page_of(alloc, numbers_on(table, page))?;
+    pages.push(Page { at, bytes })?;
+    Ok(())
+}
+
+/// Returns the pages of a table that have numbers at these indexes, each once.
+pub(crate) fn pages_with(
+    alloc: Global,
+    table: &[u32],
+    indexes: &[u32],
+) -> Result<Vec<Page>, AllocError>
+    requires { length table.now < 2 ^ 32 }
+    // If a table differs from this one at most at these indexes, then a content that has it has this one once these pages are put.
+    ensures pages { IfOk result (λ pages. (old : List ℕ) (c : Content) → DifferAtMost indexes.now old table.now → HasTable old c → HasTable table.now (put_all (patches_of pages.items) c)) }
+    ensures few { IfOk result (λ pages. length pages.items ≤ length indexes.now) }
+    ensures changed { IfOk result (λ pages. All (IsOfChange indexes.now) (patches_of pages.items)) }
+    ensures within { IfOk result (λ pages. AreWithin (pages_for (length table.now)) (patches_of pages.items)) }
+{
+    let sorted = rising(alloc, indexes)?;
+    let count = pages_for(table.len());
     let mut pages = Vec::new(alloc);
-    for index in 0..pages_for(new.len()) {
-        let numbers = numbers_on(new, index);
-        if change_page(table, index, numbers) {
-            pages.push(Page {
-                at: page_at(index),
-                bytes: page_of(alloc, numbers)?,
-            })?;
+    for index in &sorted {
+        let page = *index as usize / NUMBERS;
+        if page < count {
+            add_page(alloc, table, page, &mut pages)?;
         }
     }
     Ok(pages)

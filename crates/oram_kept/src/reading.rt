@@ -23,9 +23,10 @@ pub struct Around {
 
 /// A text that was read.
 #[derive(Debug, Drop)]
-pub(crate) struct Text {
-    pub(crate) table: Vec<u32>,
-    pub(crate) around: Around,
+pub struct Text {
+    pub table: Vec<u32>,
+    /// What stands around the table.
+    pub around: Around,
 }
 
 /// Returns the number in four bytes, the high byte first.

@@ -8,6 +8,15 @@ use crate::pages::{page_at, pages_for};
 use std::alloc::{AllocError, Global};
 use std::hash::{DefaultHasher, Hasher};
 
+/// The numbers of a table that may have changed since it was kept last.
+#[derive(Clone, Copy, Debug)]
+pub enum ChangedNumbers<'a> {
+    /// Any of them.
+    Any,
+    /// Those at these indexes. An index may stand here more than once.
+    At(&'a [u32]),
+}
+
 /// The parts of a text: what stands before its table, the numbers of the table, and what stands behind it.
 #[derive(Clone, Copy, Debug)]
 pub struct TextParts<'a> {
@@ -16,6 +25,8 @@ pub struct TextParts<'a> {
     /// The other bytes before the table.
     pub before: &'a [u8],
     pub table: &'a [u32],
+    /// The numbers of the table that may differ from those of the table that was kept last.
+    pub changes: ChangedNumbers<'a>,
     pub after: &'a [u8],
 }
 
@@ -47,6 +58,7 @@ impl TextParts<'_> {
             title: self.title,
             before: self.before,
             table: self.table,
+            changes: self.changes,
             after: self.after,
         }
     }

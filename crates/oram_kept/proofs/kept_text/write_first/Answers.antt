@@ -1,10 +1,10 @@
-use Rattle.std.proofs.Common.{◌≡◌, ℕ, [], List, refl, ap, sym, subst, ◌∙◌}
+use Rattle.std.proofs.Common.{◌≡◌, [], List, refl, ap, sym, subst, ◌∙◌}
 use Rattle.oram_redo.specs.Batch.{patches_of}
 use Rattle.oram_redo.specs.Content.{Content}
 use Rattle.oram_redo.specs.Log.{Patch, put_all}
 use Rattle.oram_redo.specs.declared.file_pair.FileKind.TheVariants.{Records}
 use Rattle.oram_redo.proofs.Moments.{same_content}
-use Rattle.oram_kept.specs.Layout.{HasTable, Holds}
+use Rattle.oram_kept.specs.Layout.{Holds}
 use Rattle.oram_kept.specs.Pages.{batch_for, parts_of, patches_of as pages_of}
 use Rattle.oram_kept.specs.Text.{Parts}
 use Rattle.oram_kept.proofs.FirstText.{front_stays, no_table}
@@ -21,7 +21,7 @@ returns-clause-holds g c =
     let holds : Holds q (put_all (patches_of c.deref.result.now) seen) =
     subst (λ (ps : List Patch). Holds q (put_all ps seen)) (sym batch)
     (held [] q c.args.text.now.title.now c.args.text.now.before.now (pages_of change.pages.items) change.head.items seen refl c.in_ok-change.ensures.room c.in_ok-change.ensures.head
-    (λ d has. c.in_ok-change.ensures.pages d (subst (λ (t : List ℕ). HasTable t d) (sym c.new-table.ensures.items) has)) (no_table seen)) in
+    (λ d has. c.in_ok-change.ensures.pages [] d tt has) (no_table seen)) in
     on_ok c.write_all.result c.write_all.ensures.records (λ same. subst (λ (d : Content). Holds q d) (sym (same_content _ _ same)) holds)
 
 pub returns-clause-front : goal.returns-clause-front

@@ -4,7 +4,7 @@ use Rattle.oram_kept.specs.Kept.{Keeps, KeptValue, bounds}
 use Rattle.oram_redo.specs.Log.{StandsFor}
 use Rattle.oram_kept.specs.Opening.{FindsSame}
 use Rattle.oram_kept.specs.Reading.{parts_around}
-use Rattle.oram_kept.specs.declared.reading.Around.{Around}
+use Rattle.oram_kept.specs.declared.reading.Text.{Text}
 use Rattle.oram_kept.specs.Layout.{Holds}
 use Rattle.oram_kept.specs.Text.{Parts}
 use Rattle.oram_redo.specs.Content.{Content}
@@ -62,7 +62,7 @@ returns-clause-kept g c honest =
     let model = g.F.FilePair.model in
     let reads = c.in_ok-text.ensures.reads in
     let text = c.in_ok-text.text in
-    let Opened : Type 0 = KeptValue g.row.F.Denot × Around in
+    let Opened : Type 0 = KeptValue g.row.F.Denot × Text in
     let p : Parts = parts_around text.table.items text.around in
     let kept : KeptValue g.row.F.Denot = record { files = c.restart.new.files; redo = c.restart.new.self; table = text.table.items; has_stopped = false } in
     let sure : model.is_honest c.restart.new.files = subst (λ (o : Opened). model.is_honest o.0.files) c.over.ensures honest in
@@ -70,14 +70,14 @@ returns-clause-kept g c honest =
     let consistent = reads.consistent [] (c.in_ok-redo.ensures.consistent (reads.after.honest before)) in
     let holds : Holds p (model.seen c.read_text.new.files Records) =
     subst (λ (d : Content). Holds p d) (sym (same_content (model.seen c.read_text.new.files Records) (model.seen c.recover.new.files Records) (reads.nothing_written.seen_same Records))) (c.in_ok-text.ensures.found before) in
-    subst (λ (o : Opened). Keeps model (parts_around o.0.table o.1) o.0) (sym c.over.ensures)
+    subst (λ (o : Opened). Keeps model (parts_around o.0.table o.1.around) o.0) (sym c.over.ensures)
     (keeps_emptied model p c.read_text.new.files kept (c.in_ok-restart.ensures.consistent [] consistent) c.restart.ensures.records holds refl (c.restart.ensures.bounds ∙ c.in_ok-redo.ensures.bounds))
 
 pub returns-clause-any_moment : goal.returns-clause-any_moment
 returns-clause-any_moment g c honest =
     let model = g.F.FilePair.model in
     let reads = c.in_ok-text.ensures.reads in
-    let Opened : Type 0 = KeptValue g.row.F.Denot × Around in
+    let Opened : Type 0 = KeptValue g.row.F.Denot × Text in
     let sure : model.is_honest c.restart.new.files = subst (λ (o : Opened). model.is_honest o.0.files) c.over.ensures honest in
     let before = c.restart.ensures.after.honest sure in
     let old = c.args.files in

@@ -9,30 +9,20 @@ use Rattle.oram_redo.specs.declared.bounds.Bounds.{Bounds}
 use Rattle.oram_redo.specs.declared.file_pair.FileKind.TheVariants.{Records}
 use Rattle.std.proofs.lemmas.List.{length-map}
 use Rattle.oram_redo.proofs.Moments.{leads_to}
-use Rattle.oram_kept.specs.Kept.{FindsEither, Keeps, KeptValue, StandsEither, bounds}
+use Rattle.oram_kept.specs.Kept.{FindsEither, Keeps, KeptValue, StandsEither, bounds, newest_table}
 use Rattle.oram_kept.specs.Layout.{HasTable, Holds}
-use Rattle.oram_kept.specs.Pages.{batch_for, parts_of, patch_of, patches_of as pages_of}
+use Rattle.oram_kept.specs.Pages.{AreTold, batch_for, parts_of, patch_of, patches_of as pages_of}
 use Rattle.oram_kept.specs.Text.{Parts}
 use Rattle.oram_kept.proofs.Held.{batch_fits, batch_has_room, found_either, held, kept_after, length-head, lent_batch, nothing_done}
 use Rattle.oram_kept.proofs.kept_text.KeptText.put.Goals as goal
 
 pub returns-in_err-change-clause-any_moment : goal.returns-in_err-change-clause-any_moment
 returns-in_err-change-clause-any_moment g c p keeps =
-    let model = g.F.FilePair.model in
-    let inside : KeptValue g.row.F.Denot = record { files = c.self.inside.files; redo = c.self.inside.redo; table = c.self.inside.table.items; has_stopped = c.self.inside.has_stopped } in
-    let kept : Keeps model p inside = subst (λ (v : KeptValue g.row.F.Denot). Keeps model p v) (sym c.self.view_is) keeps in
-    let q : Parts = parts_of c.args.text.now in
-    subst (λ (v : KeptValue g.row.F.Denot). LeavesOnly model v.files c.self.inside.files (FindsEither bounds p q)) c.self.view_is
-    (nothing_done model p q inside kept (λ d left. g.met.F.FilePair.only_now c.self.inside.files d left))
+    nothing_done g.F.FilePair.model p (parts_of c.args.text.now) c.args.self.now keeps (λ d left. g.met.F.FilePair.only_now c.args.self.now.files d left)
 
 pub returns-in_err-batch-clause-any_moment : goal.returns-in_err-batch-clause-any_moment
 returns-in_err-batch-clause-any_moment g c p keeps =
-    let model = g.F.FilePair.model in
-    let inside : KeptValue g.row.F.Denot = record { files = c.self.inside.files; redo = c.self.inside.redo; table = c.self.inside.table.items; has_stopped = c.self.inside.has_stopped } in
-    let kept : Keeps model p inside = subst (λ (v : KeptValue g.row.F.Denot). Keeps model p v) (sym c.self.view_is) keeps in
-    let q : Parts = parts_of c.args.text.now in
-    subst (λ (v : KeptValue g.row.F.Denot). LeavesOnly model v.files c.self.inside.files (FindsEither bounds p q)) c.self.view_is
-    (nothing_done model p q inside kept (λ d left. g.met.F.FilePair.only_now c.self.inside.files d left))
+    nothing_done g.F.FilePair.model p (parts_of c.args.text.now) c.args.self.now keeps (λ d left. g.met.F.FilePair.only_now c.args.self.now.files d left)
 
 pub commit-requires : goal.commit-requires
 commit-requires g c =
@@ -47,34 +37,36 @@ commit-requires g c =
 pub returns-clause-ok : goal.returns-clause-ok
 returns-clause-ok g c consistent has =
     let model = g.F.FilePair.model in
-    let inside : KeptValue g.row.F.Denot = record { files = c.self.inside.files; redo = c.self.inside.redo; table = c.self.inside.table.items; has_stopped = c.self.inside.has_stopped } in
+    let inside : KeptValue g.row.F.Denot = record { files = c.self.inside.files; redo = c.self.inside.redo; table = newest_table c.self.inside.last.texts; has_stopped = c.self.inside.has_stopped } in
     let q : Parts = parts_of c.args.text.now in
     let change = c.in_ok-change.change in
     let seen : Content = model.seen c.self.inside.files Records in
     let batch : patches_of c.deref.result.now ≡ batch_for (pages_of change.pages.items) q c.args.text.now.title.now c.args.text.now.before.now change.head.items =
     ap patches_of c.deref.ensures.value ∙ c.in_ok-batch.ensures ∙ lent_batch (pages_of change.pages.items) change.head.items c.lent.ensures.parts c.lent.ensures.pieces.0 c.lent.ensures.pieces.1 in
-    let has_inside : HasTable c.self.inside.table.items seen = subst (λ (v : KeptValue g.row.F.Denot). HasTable v.table (model.seen v.files Records)) (sym c.self.view_is) has in
+    let told : AreTold c.args.text.now.changes inside.table c.args.text.now.table.now = subst (λ (v : KeptValue g.row.F.Denot). AreTold c.args.text.now.changes v.table c.args.text.now.table.now) (sym c.self.view_is) c.requires in
+    let has_inside : HasTable inside.table seen = subst (λ (v : KeptValue g.row.F.Denot). HasTable v.table (model.seen v.files Records)) (sym c.self.view_is) has in
     let sure : IsCrashConsistent model c.self.inside.redo [] c.self.inside.files = subst (λ (v : KeptValue g.row.F.Denot). IsCrashConsistent model v.redo [] v.files) (sym c.self.view_is) consistent in
     let holds : Holds q (put_all (patches_of c.deref.result.now) seen) =
     subst (λ (ps : List Patch). Holds q (put_all ps seen)) (sym batch)
-    (held c.self.inside.table.items q c.args.text.now.title.now c.args.text.now.before.now (pages_of change.pages.items) change.head.items seen refl c.in_ok-change.ensures.room c.in_ok-change.ensures.head c.in_ok-change.ensures.pages has_inside) in
-    kept_after model q _ c.commit.result (put_all (patches_of c.deref.result.now) seen) holds c.in_ok-change.ensures.table (c.commit.ensures.bounds ∙ c.self.invariant)
+    (held inside.table q c.args.text.now.title.now c.args.text.now.before.now (pages_of change.pages.items) change.head.items seen refl c.in_ok-change.ensures.room c.in_ok-change.ensures.head (λ d was. c.in_ok-change.ensures.pages inside.table d told was) has_inside) in
+    kept_after model q _ c.commit.result (put_all (patches_of c.deref.result.now) seen) holds refl (c.commit.ensures.bounds ∙ c.self.invariant)
     (c.commit.ensures.consistent sure) c.commit.ensures.records
 
 pub returns-clause-any_moment : goal.returns-clause-any_moment
 returns-clause-any_moment g c p keeps =
     let model = g.F.FilePair.model in
-    let inside : KeptValue g.row.F.Denot = record { files = c.self.inside.files; redo = c.self.inside.redo; table = c.self.inside.table.items; has_stopped = c.self.inside.has_stopped } in
+    let inside : KeptValue g.row.F.Denot = record { files = c.self.inside.files; redo = c.self.inside.redo; table = newest_table c.self.inside.last.texts; has_stopped = c.self.inside.has_stopped } in
     let kept : Keeps model p inside = subst (λ (v : KeptValue g.row.F.Denot). Keeps model p v) (sym c.self.view_is) keeps in
     let q : Parts = parts_of c.args.text.now in
     let change = c.in_ok-change.change in
     let seen : Content = model.seen c.self.inside.files Records in
     let batch : patches_of c.deref.result.now ≡ batch_for (pages_of change.pages.items) q c.args.text.now.title.now c.args.text.now.before.now change.head.items =
     ap patches_of c.deref.ensures.value ∙ c.in_ok-batch.ensures ∙ lent_batch (pages_of change.pages.items) change.head.items c.lent.ensures.parts c.lent.ensures.pieces.0 c.lent.ensures.pieces.1 in
-    let has : HasTable c.self.inside.table.items seen = subst (λ (t : List ℕ). HasTable t seen) (sym kept.table) kept.holds.table in
+    let told : AreTold c.args.text.now.changes inside.table c.args.text.now.table.now = subst (λ (v : KeptValue g.row.F.Denot). AreTold c.args.text.now.changes v.table c.args.text.now.table.now) (sym c.self.view_is) c.requires in
+    let has : HasTable inside.table seen = subst (λ (t : List ℕ). HasTable t seen) (sym kept.table) kept.holds.table in
     let holds : Holds q (put_all (patches_of c.deref.result.now) seen) =
     subst (λ (ps : List Patch). Holds q (put_all ps seen)) (sym batch)
-    (held c.self.inside.table.items q c.args.text.now.title.now c.args.text.now.before.now (pages_of change.pages.items) change.head.items seen refl c.in_ok-change.ensures.room c.in_ok-change.ensures.head c.in_ok-change.ensures.pages has) in
+    (held inside.table q c.args.text.now.title.now c.args.text.now.before.now (pages_of change.pages.items) change.head.items seen refl c.in_ok-change.ensures.room c.in_ok-change.ensures.head (λ d was. c.in_ok-change.ensures.pages inside.table d told was) has) in
     subst (λ (v : KeptValue g.row.F.Denot). LeavesOnly model v.files c.commit.new.files (FindsEither bounds p q)) c.self.view_is
     (leads_to model c.self.inside.files c.commit.new.files _ (FindsEither bounds p q) (c.commit.ensures.any_moment kept.consistent)
     (λ d stands. found_either p q seen (put_all (patches_of c.deref.result.now) seen) d kept.holds holds
