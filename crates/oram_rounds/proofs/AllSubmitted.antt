@@ -141,6 +141,12 @@ module _ {S : Type 0} (cipher : S → Cipher) (start now : CoreValue S) (session
         (refused.1 ∙ h.0, counted_no notes r.note refused.0 ∙ h.1)
   ]
 
+-- the first command that was accepted began on the core as it was; and if none was, the core is as it was
+pub first_or_same : {S : Type 0} (start now : CoreValue S) (begun : Option Reaction) (count : ℕ) → IsSameDevice start now → now.noted ≡ start.noted → HasBegun start.state begun count now.state
+    → MatchOption begun (now ≡ start) (λ first. first.note ≡ Accepted start.state.next)
+first_or_same start now None count kept noted h = λ i. record { device = kept.0 i; sealer = kept.1 i; state = h.0 i; noted = noted i }
+first_or_same start now (Some first) count kept noted h = h.1
+
 -- what is submitted to a core is submitted to its process
 pub submitted_to_processes : (B K : Type 0) → SubmittedToProcesses B K
 submitted_to_processes B K v words session [] s t l k same = ap (λ (core : State). process core l k) same

@@ -3,7 +3,7 @@ ghost use Rattle.std.specs.Prelude.{◌≡◌, ◌≢◌, ◌⊎◌, [], ◌∷�
 ghost use Rattle.oram_semantics.specs.Run.{shown_by};
 ghost use Rattle.oram_semantics.specs.State.{status_in};
 ghost use Rattle.oram_semantics.specs.Progress.Status.{Stalling, Waiting};
-ghost use Rattle.oram_core.specs.Core.{IsSameDevice, scheme_of};
+ghost use Rattle.oram_core.specs.Core.{IsSameDevice, NotesChanges, scheme_of};
 ghost use Rattle.oram_core.specs.PlainSteps.{done};
 ghost use Rattle.oram_core.specs.Steps.{Heard, Steps};
 ghost use Rattle.oram_session.specs.Exchanges.{Delivery, IsAnswered, IsCutOff, IsGivenUp, IsSent, event_of};
@@ -26,6 +26,7 @@ fn attempt<S: Sealer, L: Link>(
     message: &[u8],
 ) -> Result<Reaction, AllocError>
     ensures kept { IsSameDevice core.old core.new }
+    ensures noted { NotesChanges core.old core.new }
     ensures ok { let v = scheme_of S.cipher core.old in
         IfOk result (λ r. (o : Outcome) × L.calls link.old message.now o link.new
         × Steps v core.old.state (event_of o) (shown_by r) core.new.state × (o ≢ Err OutOfMemory)) }
@@ -55,6 +56,7 @@ pub(crate) fn deliver<S: Sealer, L: Link>(
     requires waits { status_in core.old.state ≡ Waiting }
     requires message { message.now ≡ core.old.state.message }
     ensures kept { IsSameDevice core.old core.new }
+    ensures noted { NotesChanges core.old core.new }
     ensures ok { let v = scheme_of S.cipher core.old in
         IfOk result (λ r. (x : Delivery) × IsSent v L.calls most (core.old.state, link.old) x (core.new.state, link.new)
         × IsAnswered x × (x.replies ≡ r.replies.items)) }

@@ -4,7 +4,7 @@ ghost use Rattle.oram_semantics.specs.Progress.Status.{Stalling};
 ghost use Rattle.oram_semantics.specs.State.{status_in};
 ghost use Rattle.oram_semantics.specs.declared.events.Reply.{Reply};
 ghost use Rattle.oram_semantics.specs.declared.events.ReplyBody.{ReplyBody};
-ghost use Rattle.oram_core.specs.Core.{IsSameDevice, scheme_of};
+ghost use Rattle.oram_core.specs.Core.{IsSameDevice, NotesChanges, scheme_of};
 ghost use Rattle.oram_core.specs.PlainSteps.{done};
 ghost use Rattle.oram_session.specs.Honesty.{HasFailed};
 ghost use Rattle.oram_session.specs.CoreWork.{IsBodyOf, HasNoWork, IsUnderWay};
@@ -32,6 +32,7 @@ pub fn carry_out_all<S: Sealer, B: BatchLink>(
 ) -> Result<Vec<Reply>, ServeFault>
     requires { IsUnderWay (done reaction core.old.state) }
     ensures kept { IsSameDevice core.old core.new }
+    ensures noted { NotesChanges core.old core.new }
     ensures ok { let v = scheme_of S.cipher core.old in
         IfOk result (λ replies. HasTalked v B.batches (core.old.state, link.old) replies.items (core.new.state, link.new)) }
     ensures count { IfOk result (λ replies. length replies.items ≡ length core.old.state.queue) }

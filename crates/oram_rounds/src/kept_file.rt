@@ -11,6 +11,7 @@ ghost use Rattle.std.specs.Prelude.{◌≡◌, ◌≢◌, ◌⊎◌, ◌++◌, �
 ghost use Rattle.std.specs.Int.{w64, to_be_bytes};
 ghost use Rattle.oram_geometry.specs.declared.Sizes.{Sizes};
 ghost use Rattle.oram_semantics.specs.State.{State};
+ghost use Rattle.oram_core.specs.Changes.{AreTold};
 ghost use Rattle.oram_core.specs.Core.{scheme_of};
 ghost use Rattle.oram_rounds.specs.Batches.{texts};
 ghost use Rattle.oram_rounds.specs.Files.{AreCounted, IsFileOf, IsFileWith, IsShort, IsWhole, check_of, checksum, kept_text, sized_text, stores_text};
@@ -19,7 +20,7 @@ ghost use Rattle.oram_state.specs.StateBytes.{with_table};
 use crate::keeper::KeptParts;
 use crate::lists::push;
 use oram_bucket::Sealer;
-use oram_core::Core;
+use oram_core::{Core, TableChanges};
 use oram_state::{StateFault, decode_fields, encode_around_table, split_around_table};
 use std::alloc::{AllocError, Global};
 use std::fmt;
@@ -51,15 +52,17 @@ pub struct ProcessText {
 }
 
 impl ProcessText {
-    /// Returns the text with the table.
-    pub fn with_table<'a>(&'a self, table: &'a [u32]) -> KeptParts<'a>
+    /// Returns the text with the table, and what of it has changed.
+    pub fn with_table<'a>(&'a self, table: &'a [u32], changes: TableChanges<'a>) -> KeptParts<'a>
         ensures before { result.before.now ≡ self.now.before.items }
         ensures table { result.table.now ≡ table.now }
+        ensures changes { (old : List ℕ) → AreTold changes.entry old table.now → AreTold result.changes old table.now }
         ensures after { result.after.now ≡ self.now.after.items }
     {
         KeptParts {
             before: &self.before,
             table,
+            changes,
             after: &self.after,
         }
     }

@@ -1,13 +1,15 @@
 //! A round: commands are kept, and then carried out together.
-ghost use Rattle.std.specs.Prelude.{◌≡◌, ◌⊎◌, [], ◌∷◌, ◌++◌, List, All, true, false, length, IfErr, IfOk, IsErrOf, IsOkAnd, OnErr, OnOk};
+ghost use Rattle.std.specs.Prelude.{◌≡◌, ◌⊎◌, [], ◌∷◌, ◌++◌, List, ℕ, All, true, false, length, IfErr, IfOk, IsErrOf, IsOkAnd, OnErr, OnOk};
 ghost use Rattle.std.specs.List.{flat_map};
 ghost use Rattle.oram_semantics.specs.Progress.Status.{Stalling};
 ghost use Rattle.oram_semantics.specs.State.{status_in};
 ghost use Rattle.oram_semantics.specs.declared.events.ReplyBody.{ReplyBody};
-ghost use Rattle.oram_core.specs.Core.{IsSameDevice, scheme_of};
+ghost use Rattle.oram_core.specs.Changes.{nothing_noted};
+ghost use Rattle.oram_core.specs.Core.{IsNotedSince, IsSameDevice, scheme_of};
 ghost use Rattle.oram_core.specs.PlainSteps.{done};
 ghost use Rattle.oram_session.specs.Honesty.{HasFailed};
 ghost use Rattle.oram_session.specs.CoreWork.{IsBodyOf, HasNoWork, IsUnderWay};
+ghost use Rattle.oram_rounds.specs.KeptParts.{whole_text};
 ghost use Rattle.oram_rounds.specs.Keeping.{DoesAllNoted, IsKeptWithNote, MayBeKeptWithNote};
 ghost use Rattle.oram_rounds.specs.Process.{Act, GoesAheadFirst, IsBrokenResumption, IsBrokenRound, IsResumption, IsRound, process, replies_of};
 ghost use Rattle.oram_rounds.specs.Process.Act.{Keeps};
@@ -15,8 +17,8 @@ ghost use Rattle.oram_rounds.specs.Rounds.{waiting};
 
 use crate::batch::BatchLink;
 use crate::exchanges::carry_out_all;
-use crate::keeper::Keeper;
-use crate::kept_file::encode_kept;
+use crate::keeper::{KeepError, Keeper};
+use crate::kept_file::{ProcessText, encode_kept};
 use crate::round_fault::RoundFault;
 use crate::round_link::RoundLink;
 use oram_bucket::Sealer;
@@ -25,28 +27,51 @@ use oram_host::ServeFault;
 use oram_session::{has_no_work, reopen};
 use std::alloc::Global;
 
+/// Hands a process's text to the keeper, with the table of its core and the entries of it that have changed.
+fn hand_over<S: Sealer, K: Keeper>(
+    core: &Core<S>,
+    text: &ProcessText,
+    keeper: &mut K,
+) -> Result<(), KeepError>
+    requires { IsNotedSince (K.kept_table keeper.old) core.now }
+    ensures there { OnOk result (K.reads_back keeper.new (whole_text text.now core.now.state.table)) }
+    ensures only { OnOk result ((bytes : List ℕ) → K.reads_back keeper.new bytes → bytes ≡ whole_text text.now core.now.state.table) }
+    ensures failed { OnErr result ((bytes : List ℕ) → K.reads_back keeper.new bytes → (bytes ≡ whole_text text.now core.now.state.table) ⊎ K.reads_back keeper.old bytes) }
+    ensures table { OnOk result (K.kept_table keeper.new ≡ core.now.state.table) }
+    ensures table_before { OnErr result (K.kept_table keeper.new ≡ K.kept_table keeper.old) }
+{
+    keeper.keep(&text.with_table(core.table(), core.changes()))
+}
+
 /// Keeps the core, the STOREs that wait, and the note of the link below. The STOREs may leave from then on, and the link below
-/// learns the check of what was kept.
+/// learns the check of what was kept. The keeper is told which entries of the core's table have changed, and the core forgets them
+/// once they are kept.
 pub fn keep<S: Sealer, B: BatchLink, K: Keeper>(
     alloc: Global,
-    core: &Core<S>,
+    core: &mut Core<S>,
     link: &mut RoundLink<B>,
     keeper: &mut K,
 ) -> Result<(), RoundFault>
+    requires { IsNotedSince (K.kept_table keeper.old) core.old }
+    // From then on the changes of the core's table are counted from the table that is kept now. After a fault they still are
+    // counted from the one before.
+    ensures forgotten { OnOk result ((core.new ≡ record core.old { noted = nothing_noted }) × (K.kept_table keeper.new ≡ core.old.state.table)) }
+    ensures unchanged { OnErr result ((core.new ≡ core.old) × (K.kept_table keeper.new ≡ K.kept_table keeper.old)) }
     // What is read back then is the file of the core, of these STOREs and of this note.
-    ensures ok { let v = scheme_of S.cipher core.now in
-        OnOk result (IsKeptWithNote v B.notes B.learns K.reads_back (process core.now.state link.old keeper.old) (process core.now.state link.new keeper.new)
+    ensures ok { let v = scheme_of S.cipher core.old in
+        OnOk result (IsKeptWithNote v B.notes B.learns K.reads_back (process core.old.state link.old keeper.old) (process core.old.state link.new keeper.new)
         × (link.new ≡ record link.old { inner = link.new.inner; kept = waiting link.old; held = []; ahead = [] })) }
     // After a fault it is that file, or what was there before.
-    ensures err { let v = scheme_of S.cipher core.now in
-        OnErr result (MayBeKeptWithNote v B.notes B.learns K.reads_back (process core.now.state link.old keeper.old) (process core.now.state link.new keeper.new)
+    ensures err { let v = scheme_of S.cipher core.old in
+        OnErr result (MayBeKeptWithNote v B.notes B.learns K.reads_back (process core.old.state link.old keeper.old) (process core.old.state link.new keeper.new)
         × (link.new ≡ link.old)) }
     ensures memory { IsErrOf result RoundFault.OutOfMemory → keeper.new ≡ keeper.old }
     ensures fault { IfErr result (λ e. (e ≡ RoundFault.NotKept) ⊎ (e ≡ RoundFault.OutOfMemory)) }
 {
     let note = link.note(alloc)?;
     let text = encode_kept(alloc, link.waiting(), &note, core)?;
-    keeper.keep(&text.with_table(core.table()))?;
+    hand_over(core, &text, keeper)?;
+    core.forget_changes();
     link.keep(alloc, text.check);
     Ok(())
 }
@@ -63,7 +88,9 @@ pub fn perform<S: Sealer, B: BatchLink, K: Keeper>(
     keeper: &mut K,
     reaction: Reaction,
 ) -> Result<Vec<Reply>, RoundFault>
-    requires { IsUnderWay (done reaction core.old.state) }
+    requires under_way { IsUnderWay (done reaction core.old.state) }
+    requires noted { IsNotedSince (K.kept_table keeper.old) core.old }
+    ensures noted { IsNotedSince (K.kept_table keeper.new) core.new }
     ensures kept { IsSameDevice core.old core.new }
     ensures ok { let v = scheme_of S.cipher core.old in
         IfOk result (λ replies. (acts : List Act) × (flat_map replies_of acts ≡ replies.items)
@@ -104,6 +131,8 @@ pub fn resume<S: Sealer, B: BatchLink, K: Keeper>(
     link: &mut RoundLink<B>,
     keeper: &mut K,
 ) -> Result<Vec<Reply>, RoundFault>
+    requires { IsNotedSince (K.kept_table keeper.old) core.old }
+    ensures noted { IsNotedSince (K.kept_table keeper.new) core.new }
     ensures kept { IsSameDevice core.old core.new }
     ensures no_work { OnOk result (HasNoWork core.new.state) }
     // In an idle or failed core nothing waits.

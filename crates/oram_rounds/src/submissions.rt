@@ -4,7 +4,7 @@ ghost use Rattle.oram_semantics.specs.Run.{is_accepted, shown_by};
 ghost use Rattle.oram_semantics.specs.declared.events.Command.{Command};
 ghost use Rattle.oram_semantics.specs.declared.events.Event.TheVariants.{Submit};
 ghost use Rattle.oram_semantics.specs.declared.events.Note.TheVariants.{Accepted};
-ghost use Rattle.oram_core.specs.Core.{IsSameDevice, scheme_of};
+ghost use Rattle.oram_core.specs.Core.{IsSameDevice, NotesChanges, scheme_of};
 ghost use Rattle.oram_core.specs.PlainSteps.{done};
 ghost use Rattle.oram_core.specs.Steps.{Steps};
 ghost use Rattle.oram_session.specs.CoreWork.{HasNoWork, IsUnderWay};
@@ -35,6 +35,8 @@ fn submit_next<S: Sealer, T: Tape>(
     command: Command,
 ) -> Result<Reaction, AllocError>
     ensures kept { IsSameDevice core.old core.new }
+    ensures noted { NotesChanges core.old core.new }
+    ensures quiet { core.new.noted ≡ core.old.noted }
     ensures ok { let v = scheme_of S.cipher core.old in
         IfOk result (λ r. Steps v core.old.state (Submit session command (T.words tape.old core.old.state.next count)) (shown_by r) core.new.state) }
     ensures tape { T.words tape.new ≡ T.words tape.old }
@@ -77,6 +79,7 @@ pub fn submit_all<S: Sealer, T: Tape>(
 ) -> Result<Submitted, AllocError>
     requires { HasNoWork core.old.state }
     ensures kept { IsSameDevice core.old core.new }
+    ensures noted { NotesChanges core.old core.new }
     ensures tape { T.words tape.new ≡ T.words tape.old }
     ensures ok { let v = scheme_of S.cipher core.old in
         IfOk result (λ s. (submitted : List SubmittedCommand) × (map (λ a. a.command) submitted ≡ commands.items) × (map (λ a. a.shown.note) submitted ≡ s.notes.items)

@@ -38,7 +38,7 @@ use Rattle.oram_volume.specs.CarriedOut.{AsksRound, Had, IsAfterFirst, Stops, Ta
 use Rattle.oram_rounds.specs.ProcessSteps.ProcessStep.{Acts, Takes}
 use Rattle.oram_volume.specs.HeldArrays.{HostHears, HoldsArray, KeepsArray, Running, running}
 use Rattle.oram_volume.specs.RangeCommands.{FitsDevice}
-use Rattle.oram_volume.specs.declared.volume.Volume.{Volume}
+use Rattle.oram_volume.specs.Parts.{VolumeParts as Volume}
 use Rattle.oram_rounds.specs.Rounds.{Round}
 use Rattle.oram_rounds.proofs.Start.{resting}
 use Rattle.oram_volume.proofs.Answered.{NoneFailed, bodies, none_failed, replies_go_on}

@@ -19,7 +19,7 @@ use Rattle.oram_rounds.specs.ProcessSteps.ProcessStep.{Acts, Takes}
 use Rattle.oram_volume.specs.DiskCalls.{VolumeGoesOn}
 use Rattle.oram_volume.proofs.KeptFirst.{sends_join}
 use Rattle.oram_volume.specs.HeldArrays.{HostBeside, HostHears, HoldsArray, HoldsBytes, KeepsArray, KeepsBytes, Running, running}
-use Rattle.oram_volume.specs.declared.volume.Volume.{Volume}
+use Rattle.oram_volume.specs.Parts.{VolumeParts as Volume}
 
 module _ {B K : Type 0} (batches : B → List (List ℕ) → BatchOutcome → List Exchange → B → Type 0) (reads_back : K → List ℕ → Type 0) where
   -- calls that were made one after the other are one call with the exchanges of them all

@@ -1,5 +1,5 @@
 -- A process sends nothing before the commands that it has taken are kept.
-use Rattle.std.proofs.Common.{◌≡◌, ◌⊎◌, Bool, true, false, List, [], ◌∷◌, ◌++◌, map, refl, sym, ap, subst, inl, inr}
+use Rattle.std.proofs.Common.{◌≡◌, Bool, true, false, List, [], ◌∷◌, ◌++◌, map, refl, sym, subst, inl, inr}
 use Rattle.oram_rounds.specs.Process.{Act, IsBrokenResumption, IsBrokenRound, IsResumption, IsRound}
 use Rattle.oram_rounds.specs.Process.Act.{Calls, GoesAhead, Hears, Keeps, Misses}
 use Rattle.oram_rounds.specs.ProcessSteps.{ProcessStep}

@@ -1,12 +1,10 @@
 -- How the blocks of a call are cut into rounds.
 use Rattle.std.proofs.Common.{◌≡◌, ◌⊎◌, ℕ, zero, suc, ◌/◌, ◌<◌, ◌≤◌, List, [], ◌∷◌, ◌++◌, drop, length, length-append, map, take, refl, sym, ap, ◌∙◌, subst, arith, inl, inr}
-use Rattle.std.proofs.lemmas.List.{append-nil, drop_all, drop_at, length-map, map-append, take_all, take_at}
-use Rattle.std.specs.List.{flat_map}
+use Rattle.std.proofs.lemmas.List.{append-nil, drop_all, drop_at, map-append, take_all, take_at}
 use Rattle.oram_nbd.specs.Accesses.{blocks_of, numbers_from, range_of, whole_blocks}
 use Rattle.oram_nbd.specs.declared.operations.Operation.{Operation}
 use Rattle.oram_nbd.specs.declared.operations.Operation.TheVariants as operation
 use Rattle.oram_semantics.specs.Events.{address_of}
-use Rattle.oram_semantics.specs.declared.events.Command.{Command}
 use Rattle.oram_volume.specs.CarriedOut.{AreRounds}
 use Rattle.oram_volume.specs.RangeCommands.{all_commands, commands_of, discard_commands, read_commands, write_commands}
 

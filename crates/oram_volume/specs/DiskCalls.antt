@@ -8,7 +8,7 @@ use Rattle.oram_nbd.specs.Beside.{GoesOn, Arrays, HasArrays}
 use Rattle.oram_rounds.specs.Batches.{BatchOutcome}
 use Rattle.oram_volume.specs.CarriedOut.{Had}
 use Rattle.oram_volume.specs.HeldArrays.{HostHears, HoldsBytes, KeepsBytes, running}
-use Rattle.oram_volume.specs.declared.volume.Volume.{Volume}
+use Rattle.oram_volume.specs.Parts.{VolumeParts as Volume}
 
 -- the bytes of a reply
 abbrev pub data_of : ReplyBody → List ℕ

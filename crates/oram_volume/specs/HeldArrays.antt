@@ -14,7 +14,7 @@ use Rattle.oram_rounds.specs.Process.{IsSafe, Process, begun, process}
 use Rattle.oram_rounds.specs.Rounds.{waiting}
 use Rattle.oram_rounds.specs.Service.{WillHoldAfter}
 use Rattle.oram_volume.specs.Blocks.{IsLaidOut}
-use Rattle.oram_volume.specs.declared.volume.Volume.{Volume}
+use Rattle.oram_volume.specs.Parts.{VolumeParts as Volume}
 
 -- a host, and the scheme of the device beside which it stands
 pub record HostBeside : Type 0 where

@@ -1,4 +1,5 @@
 pub mod Blocks
+pub mod Parts
 pub mod RangeCommands
 pub mod HeldArrays
 pub mod CarriedOut

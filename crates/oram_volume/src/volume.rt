@@ -21,6 +21,7 @@ use oram_rounds::{
 };
 use oram_session::Tape;
 use std::alloc::Global;
+use std::marker::Model;
 
 /// A volume has one client.
 const SESSION: u32 = 0;
@@ -29,13 +30,25 @@ const SESSION: u32 = 0;
 ///
 /// The link has to be made for the core's device, the keeper has to keep this process alone, and the tape has to be the
 /// device's own, with as many trees. The disk stops if the host is out of reach, if the process can't be kept, or if no access
-/// is left; if the host doesn't answer as it has to, the disk fails for good.
+/// is left; if the host doesn't answer as it has to, the disk fails for good. The core has noted each entry of its table that differs
+/// from the table that the keeper kept last; [`Core::note_any_change`] sees to that.
 #[derive(Drop)]
 pub struct Volume<S: Sealer, B: BatchLink, K: Keeper, T: Tape> {
     pub core: Core<S>,
     pub link: RoundLink<B>,
     pub keeper: K,
     pub tape: T,
+}
+
+impl<S: Sealer, B: BatchLink, K: Keeper, T: Tape> Model for Volume<S, B, K, T> {
+    ghost use Rattle.oram_core.specs.Core.{IsNotedSince};
+    ghost use Rattle.oram_volume.specs.Parts.{VolumeParts};
+
+    ghost Value = { VolumeParts S B K T };
+
+    ghost view = { λ v. record { core = v.core; link = v.link; keeper = v.keeper; tape = v.tape } };
+
+    ghost invariant = { λ v. IsNotedSince (K.kept_table v.keeper) v.core };
 }
 
 /// Returns the fault of a disk for the fault of a round.
@@ -144,10 +157,10 @@ impl<S: Sealer, B: BatchLink, K: Keeper, T: Tape> Volume<S, B, K, T> {
             first,
         );
         match performed {
-            Ok(replies) if has_failure(&replies) => Err(DiskFault::Failed),
-            Ok(replies) if replies.len() < count => Err(DiskFault::Stopped),
-            Ok(replies) => Ok(replies),
-            Err(fault) => Err(disk_fault(fault)),
+            Ok(replies) if has_failure(&replies) => return Err(DiskFault::Failed),
+            Ok(replies) if replies.len() < count => return Err(DiskFault::Stopped),
+            Ok(replies) => return Ok(replies),
+            Err(fault) => return Err(disk_fault(fault)),
         }
     }
 }

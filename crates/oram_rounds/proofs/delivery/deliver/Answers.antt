@@ -81,6 +81,7 @@ loop-reaction-preserved g c =
     c.attempt.new.core.state Retry (shown_by c.in_ok-_resent._resent) c.step.new.self.state c.in_ok-_resent.ensures.promise in
     record {
       kept = same_trans c.args.core.now c.attempt.new.core c.step.new.self kept c.step.ensures.kept;
+      noted = λ table noted. c.step.ensures.noted table (c.attempt.ensures.noted table (c.loop-reaction.invariant.noted table noted));
       tried = tried_more v g.L.Link.calls _ _ _ _ _ _ _ _ _ e.0 x (shown_by c.in_ok-_resent._resent) c.requires.waits k e.1 last step again;
       few = omega arith;
     }
@@ -109,3 +110,15 @@ returns-in_err-_resent-clause-memory g c = λ _.
           (taken_then v g.L.Link.calls c.args.most _ _ _
           (sent v g.L.Link.calls c.args.most _ _ _ _ _ _ _ _ e.0 (shown_by c.in_ok-reaction.reaction) c.requires.waits c.requires.message c.loop-reaction.invariant.few k e.1 step)),
     )
+
+pub returns-in_err-reaction-clause-noted : goal.returns-in_err-reaction-clause-noted
+returns-in_err-reaction-clause-noted g c = λ table noted. c.attempt.ensures.noted table (c.loop-reaction.invariant.noted table noted)
+
+pub returns-then-not-matches-clause-noted : goal.returns-then-not-matches-clause-noted
+returns-then-not-matches-clause-noted g c = λ table noted. c.attempt.ensures.noted table (c.loop-reaction.invariant.noted table noted)
+
+pub returns-then-retries-most-clause-noted : goal.returns-then-retries-most-clause-noted
+returns-then-retries-most-clause-noted g c = λ table noted. c.attempt.ensures.noted table (c.loop-reaction.invariant.noted table noted)
+
+pub returns-in_err-_resent-clause-noted : goal.returns-in_err-_resent-clause-noted
+returns-in_err-_resent-clause-noted g c = λ table noted. c.step.ensures.noted table (c.attempt.ensures.noted table (c.loop-reaction.invariant.noted table noted))

@@ -72,6 +72,7 @@ loop-message-preserved g c =
     let all : c.loop-message.replies.items ++ e.0.replies ≡ c.append.new.self.items = ap (λ (rs : List Reply). c.loop-message.replies.items ++ rs) e.3 ∙ sym c.in_ok-append.ensures.items in
     record {
       kept = same_trans c.args.core.now now after k.kept c.deliver.ensures.kept;
+      noted = λ table noted. c.deliver.ensures.noted table (k.noted table noted);
       going = elim (heard_going u now.state (done c.in_ok-reaction.reaction after.state) waits heard) [ inl a ↦ inl a | inr a ↦ inr (a.0, a.1, a.2) ];
       block = subst (All (HasBody c.args.core.now.device)) (sym c.in_ok-append.ensures.items)
           (All-append (HasBody c.args.core.now.device) c.loop-message.replies.items replies k.block
@@ -98,3 +99,9 @@ loop-message-smaller g c =
     let left = some_at_work now.state.failure now.state.queue now.state.lost waits in
     let fewer = left_heard u now.state (done c.in_ok-reaction.reaction after.state) (omega arith) c.in_ok-reaction.ensures.heard in
     subst (λ (d : Sizes). answers_left d after.state < answers_left now.device now.state) (sym c.deliver.ensures.kept.0) fewer
+
+pub returns-in_err-reaction-clause-noted : goal.returns-in_err-reaction-clause-noted
+returns-in_err-reaction-clause-noted g c = λ table noted. c.deliver.ensures.noted table (c.loop-message.invariant.noted table noted)
+
+pub returns-in_err-append-clause-noted : goal.returns-in_err-append-clause-noted
+returns-in_err-append-clause-noted g c = λ table noted. c.deliver.ensures.noted table (c.loop-message.invariant.noted table noted)

@@ -1,12 +1,23 @@
-use Rattle.std.proofs.Common.{List, ℕ, [], ◌∷◌, false, true, refl, subst, inl, inr}
+use Rattle.std.proofs.Common.{◌≡◌, ◌⊎◌, List, ℕ, [], ◌∷◌, false, true, refl, sym, ap, subst, inl, inr, ◌∙◌}
 use Rattle.std.proofs.lemmas.Result.{err_from_is_err_and}
-use Rattle.oram_core.specs.Core.{scheme_of}
-use Rattle.oram_rounds.specs.Process.{process}
+use Rattle.oram_semantics.specs.declared.events.Reply.{Reply}
+use Rattle.oram_core.specs.Core.{CoreValue, IsNotedSince, scheme_of}
+use Rattle.oram_core.specs.PlainSteps.{done}
+use Rattle.oram_core.proofs.NotedTables.{none_changed}
+use Rattle.oram_session.specs.CoreWork.{IsUnderWay}
+use Rattle.oram_rounds.specs.Process.{HasTalked, next_bodies, process}
 use Rattle.oram_rounds.specs.Process.Act.{GoesAhead, Keeps}
 use Rattle.oram_rounds.specs.Rounds.{WentAhead}
 use Rattle.oram_rounds.proofs.Noted.{keeps_not, keeps_noted, talks_beside}
 use Rattle.oram_rounds.proofs.Talk.{talks_keep_nothing}
 use Rattle.oram_rounds.proofs.rounds.perform.Goals as goal
+
+pub keep-requires : goal.keep-requires
+keep-requires g c = c.requires.noted
+
+pub carry_out_all-requires : goal.carry_out_all-requires
+carry_out_all-requires g c =
+    subst (λ (u : CoreValue g.row.S.Denot). IsUnderWay (done c.args.reaction u.state)) (sym c.in_ok-keep.ensures.forgotten.0) c.requires.under_way
 
 pub returns-in_err-keep-clause-err : goal.returns-in_err-keep-clause-err
 returns-in_err-keep-clause-err g c =
@@ -17,7 +28,11 @@ returns-in_err-keep-clause-err g c =
     rw p.1 (
       Keeps false ∷ [],
       inl refl,
-      (now, keeps_not g.B.BatchLink.batches g.B.BatchLink.notes g.B.BatchLink.learns g.K.Keeper.reads_back v _ now failed.0 refl failed.1, refl),
+      (
+        now,
+        keeps_not g.B.BatchLink.batches g.B.BatchLink.notes g.B.BatchLink.learns g.K.Keeper.reads_back v _ now failed.0 refl failed.1,
+        ap (λ (u : CoreValue g.row.S.Denot). process u.state c.keep.new.link c.keep.new.keeper) (sym c.in_err-keep.ensures.unchanged.0),
+      ),
     )
 
 pub returns-in_err-keep-clause-not_kept : goal.returns-in_err-keep-clause-not_kept
@@ -25,10 +40,20 @@ returns-in_err-keep-clause-not_kept g c = λ e.
     let v = scheme_of g.S.Sealer.cipher c.args.core.now in
     let failed = c.in_err-keep.ensures.err in
     let now = process c.args.core.now.state c.keep.new.link c.keep.new.keeper in (
-      refl,
+      c.in_err-keep.ensures.unchanged.0,
       failed.1,
-      (now, keeps_not g.B.BatchLink.batches g.B.BatchLink.notes g.B.BatchLink.learns g.K.Keeper.reads_back v _ now failed.0 refl failed.1, refl),
+      (
+        now,
+        keeps_not g.B.BatchLink.batches g.B.BatchLink.notes g.B.BatchLink.learns g.K.Keeper.reads_back v _ now failed.0 refl failed.1,
+        ap (λ (u : CoreValue g.row.S.Denot). process u.state c.keep.new.link c.keep.new.keeper) (sym c.in_err-keep.ensures.unchanged.0),
+      ),
     )
+
+pub returns-in_err-keep-clause-noted : goal.returns-in_err-keep-clause-noted
+returns-in_err-keep-clause-noted g c =
+    let same = c.in_err-keep.ensures.unchanged in
+    subst (λ (t : List ℕ). IsNotedSince t c.keep.new.core) (sym same.1)
+    (subst (λ (u : CoreValue g.row.S.Denot). IsNotedSince (g.K.Keeper.kept_table c.args.keeper.now) u) (sym same.0) c.requires.noted)
 
 pub returns-in_err-fetches-clause-err : goal.returns-in_err-fetches-clause-err
 returns-in_err-fetches-clause-err g c =
@@ -42,17 +67,34 @@ returns-in_err-fetches-clause-err g c =
       (
         now,
         keeps_noted g.B.BatchLink.batches g.B.BatchLink.notes g.B.BatchLink.learns g.K.Keeper.reads_back g.met.B.BatchLink.learning_sends_nothing v _ now kept.0 refl kept.1,
-        refl,
+        ap (λ (u : CoreValue g.row.S.Denot). process u.state c.keep.new.link c.keep.new.keeper) (sym c.in_ok-keep.ensures.forgotten.0),
       ),
     )
+
+pub returns-in_err-fetches-clause-noted : goal.returns-in_err-fetches-clause-noted
+returns-in_err-fetches-clause-noted g c =
+    let forgotten = c.in_ok-keep.ensures.forgotten in
+    none_changed c.args.core.now c.keep.new.core (g.K.Keeper.kept_table c.keep.new.keeper) forgotten.0 forgotten.1
+
+pub returns-in-Ok-clause-noted : goal.returns-in-Ok-clause-noted
+returns-in-Ok-clause-noted g c =
+    let forgotten = c.in_ok-keep.ensures.forgotten in
+    c.carry_out_all.ensures.noted _ (none_changed c.args.core.now c.keep.new.core (g.K.Keeper.kept_table c.keep.new.keeper) forgotten.0 forgotten.1)
+
+pub returns-in-Err-Stalled-clause-noted : goal.returns-in-Err-Stalled-clause-noted
+returns-in-Err-Stalled-clause-noted g c =
+    let forgotten = c.in_ok-keep.ensures.forgotten in
+    c.carry_out_all.ensures.noted _ (none_changed c.args.core.now c.keep.new.core (g.K.Keeper.kept_table c.keep.new.keeper) forgotten.0 forgotten.1)
 
 pub returns-in-Ok-clause-ok : goal.returns-in-Ok-clause-ok
 returns-in-Ok-clause-ok g c =
     let v = scheme_of g.S.Sealer.cipher c.args.core.now in
     let kept = c.in_ok-keep.ensures.ok in
+    let same = c.in_ok-keep.ensures.forgotten.0 in
     let sent = c.go_ahead.ensures in
-    let went = subst (λ (bodies : List (List ℕ)). WentAhead g.B.BatchLink.batches c.keep.new.link bodies sent.0 c.go_ahead.new.self) c.in_ok-fetches.ensures sent.1 in
-    let talked = c.in-Ok.ensures.ok in
+    let went = subst (λ (u : CoreValue g.row.S.Denot). WentAhead g.B.BatchLink.batches c.keep.new.link (next_bodies u.device u.state) sent.0 c.go_ahead.new.self) same
+    (subst (λ (bodies : List (List ℕ)). WentAhead g.B.BatchLink.batches c.keep.new.link bodies sent.0 c.go_ahead.new.self) c.in_ok-fetches.ensures sent.1) in
+    let talked = subst (λ (u : CoreValue g.row.S.Denot). HasTalked (scheme_of g.S.Sealer.cipher u) g.B.BatchLink.batches (u.state, c.go_ahead.new.self) c.in-Ok.replies.items (c.carry_out_all.new.core.state, c.carry_out_all.new.link)) same c.in-Ok.ensures.ok in
     let now = process c.args.core.now.state c.keep.new.link c.keep.new.keeper in (
       GoesAhead sent.0 ∷ talked.acts,
       talked.replied,
@@ -72,9 +114,12 @@ pub returns-in-Err-Stalled-clause-err : goal.returns-in-Err-Stalled-clause-err
 returns-in-Err-Stalled-clause-err g c =
     let v = scheme_of g.S.Sealer.cipher c.args.core.now in
     let kept = c.in_ok-keep.ensures.ok in
+    let same = c.in_ok-keep.ensures.forgotten.0 in
     let sent = c.go_ahead.ensures in
-    let went = subst (λ (bodies : List (List ℕ)). WentAhead g.B.BatchLink.batches c.keep.new.link bodies sent.0 c.go_ahead.new.self) c.in_ok-fetches.ensures sent.1 in
-    let talked = c.in-Err-Stalled.ensures.err.1 in
+    let went = subst (λ (u : CoreValue g.row.S.Denot). WentAhead g.B.BatchLink.batches c.keep.new.link (next_bodies u.device u.state) sent.0 c.go_ahead.new.self) same
+    (subst (λ (bodies : List (List ℕ)). WentAhead g.B.BatchLink.batches c.keep.new.link bodies sent.0 c.go_ahead.new.self) c.in_ok-fetches.ensures sent.1) in
+    let last = c.in-Err-Stalled.ensures.err in
+    let talked = subst (λ (u : CoreValue g.row.S.Denot). HasTalked (scheme_of g.S.Sealer.cipher u) g.B.BatchLink.batches (u.state, c.go_ahead.new.self) last.0 (c.carry_out_all.new.core.state, c.carry_out_all.new.link)) same last.1 in
     let now = process c.args.core.now.state c.keep.new.link c.keep.new.keeper in (
       Keeps true ∷ GoesAhead sent.0 ∷ talked.acts,
       inr (inr (GoesAhead sent.0 ∷ talked.acts, refl, (sent.0, talked.acts, refl, talks_keep_nothing g.B.BatchLink.batches v talked.acts _ _ talked.talks))),
@@ -93,12 +138,20 @@ pub returns-in-Err : goal.returns-in-Err
 returns-in-Err g c =
     let v = scheme_of g.S.Sealer.cipher c.args.core.now in
     let kept = c.in_ok-keep.ensures.ok in
+    let forgotten = c.in_ok-keep.ensures.forgotten in
+    let same = forgotten.0 in
     let sent = c.go_ahead.ensures in
-    let went = subst (λ (bodies : List (List ℕ)). WentAhead g.B.BatchLink.batches c.keep.new.link bodies sent.0 c.go_ahead.new.self) c.in_ok-fetches.ensures sent.1 in
-    let talked = c.in-Err.ensures.err.1 in
+    let went = subst (λ (u : CoreValue g.row.S.Denot). WentAhead g.B.BatchLink.batches c.keep.new.link (next_bodies u.device u.state) sent.0 c.go_ahead.new.self) same
+    (subst (λ (bodies : List (List ℕ)). WentAhead g.B.BatchLink.batches c.keep.new.link bodies sent.0 c.go_ahead.new.self) c.in_ok-fetches.ensures sent.1) in
+    let last = c.in-Err.ensures.err in
+    let talked = subst (λ (u : CoreValue g.row.S.Denot). HasTalked (scheme_of g.S.Sealer.cipher u) g.B.BatchLink.batches (u.state, c.go_ahead.new.self) last.0 (c.carry_out_all.new.core.state, c.carry_out_all.new.link)) same last.1 in
     let now = process c.args.core.now.state c.keep.new.link c.keep.new.keeper in
     record {
-      kept = c.in-Err.ensures.kept;
+      noted = c.carry_out_all.ensures.noted _ (none_changed c.args.core.now c.keep.new.core (g.K.Keeper.kept_table c.keep.new.keeper) forgotten.0 forgotten.1);
+      kept = (
+        c.in-Err.ensures.kept.0 ∙ ap (λ (u : CoreValue g.row.S.Denot). u.device) same,
+        c.in-Err.ensures.kept.1 ∙ ap (λ (u : CoreValue g.row.S.Denot). u.sealer) same,
+      );
       ok = tt;
       count = tt;
       no_work = tt;

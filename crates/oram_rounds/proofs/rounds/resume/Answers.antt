@@ -47,3 +47,9 @@ returns-clause-not_kept g c = λ e.
     let same = same_scheme g.S.Sealer.cipher c.args.core.now c.reopen.new.core c.reopen.ensures.kept in
     let resumes = reopened_talks batches v c.args.core.now.state c.reopen.new.core.state c.args.link.now c.in_ok-reaction.ensures.ok in
     kept_not batches g.B.BatchLink.notes g.B.BatchLink.learns g.K.Keeper.reads_back v u c.args.keeper.now _ _ _ same resumes.2 (c.perform.ensures.not_kept e).2
+
+pub perform-requires-clause-noted : goal.perform-requires-clause-noted
+perform-requires-clause-noted g c = c.reopen.ensures.noted _ c.requires
+
+pub returns-in_err-reaction-clause-noted : goal.returns-in_err-reaction-clause-noted
+returns-in_err-reaction-clause-noted g c = c.reopen.ensures.noted _ c.requires

@@ -5,7 +5,7 @@ use Rattle.oram_semantics.specs.Run.{is_accepted}
 use Rattle.oram_semantics.specs.declared.events.Note.{Note}
 use Rattle.oram_core.specs.Core.{scheme_of}
 use Rattle.oram_session.proofs.CoreSteps.{same_trans}
-use Rattle.oram_rounds.proofs.AllSubmitted.{HasSubmitted, HasBegun, submitted_more, begun_more, count_more}
+use Rattle.oram_rounds.proofs.AllSubmitted.{HasSubmitted, HasBegun, submitted_more, begun_more, count_more, first_or_same}
 use Rattle.oram_rounds.proofs.submissions.submit_all.Goals as goal
 
 pub returns-in_err-push-clause-err : goal.returns-in_err-push-clause-err
@@ -35,6 +35,8 @@ loop-command-preserved g c =
     let noted : c.loop-command.notes.items ++ r.note ∷ [] ≡ c.push.new.self.items = sym c.in_ok-push.ensures.items in
     record {
       kept = same_trans start now after k.kept c.submit_next.ensures.kept;
+      noted = λ table noted. c.submit_next.ensures.noted table (k.noted table noted);
+      quiet = c.submit_next.ensures.quiet ∙ k.quiet;
       tape = c.submit_next.ensures.tape ∙ k.tape;
       submitted = subst (λ (ns : List Note). HasSubmitted v words c.args.session c.args.commands.items rest start.state ns after.state) noted
           (submitted_more g.S.Sealer.cipher start now c.args.session c.in-Some.command later _ r after.state k.kept step words _ _ _ _ k.tape size next k.submitted);
@@ -44,3 +46,14 @@ loop-command-preserved g c =
           (begun_more g.S.Sealer.cipher start now c.args.session c.in-Some.command later _ r after.state k.kept step c.loop-command.notes.items c.loop-command.begun _ c.device.ensures.sound c.requires
           c.first_accepted-begun.ensures k.begun);
     }
+
+pub returns-in_err-reaction-clause-noted : goal.returns-in_err-reaction-clause-noted
+returns-in_err-reaction-clause-noted g c = λ table noted. c.submit_next.ensures.noted table (c.loop-command.invariant.noted table noted)
+
+pub returns-in_err-push-clause-noted : goal.returns-in_err-push-clause-noted
+returns-in_err-push-clause-noted g c = λ table noted. c.submit_next.ensures.noted table (c.loop-command.invariant.noted table noted)
+
+pub returns-clause-first : goal.returns-clause-first
+returns-clause-first g c =
+    let k = c.loop-command.invariant in
+    first_or_same c.args.core.now c.loop-command.core c.loop-command.begun _ k.kept k.quiet k.begun

@@ -12,6 +12,7 @@ use Rattle.oram_rounds.proofs.Noted.{noted_does}
 use Rattle.oram_nbd.specs.declared.faults.DiskFault.TheVariants.{Stopped}
 use Rattle.oram_volume.specs.CarriedOut.{Had, Stops, TakesSteps}
 use Rattle.oram_volume.specs.HeldArrays.{HostHears, HoldsArray, KeepsArray, running}
+use Rattle.oram_volume.specs.Parts.{VolumeParts}
 use Rattle.oram_volume.proofs.HeldArrays.{acts_go_on, acts_stop, acts_taken}
 use Rattle.oram_volume.proofs.KeptFirst.{broken_resumption_sends}
 use Rattle.oram_volume.proofs.KeptWork.{resumed_acts, resumption_keeps, same_process}
@@ -20,14 +21,16 @@ use Rattle.oram_volume.proofs.volume.Volume.resume.Goals.{in-Ok, in-Err}
 
 pub returns-clause-goes : goal.returns-clause-goes
 returns-clause-goes g c =
-    let old = c.args.self.now in
+    let old : VolumeParts g.row.S.Denot g.row.B.Denot g.row.K.Denot g.row.T.Denot = record { core = c.self.inside.core; link = c.self.inside.link; keeper = c.self.inside.keeper; tape = c.self.inside.tape } in
     let batches = g.B.BatchLink.batches in
     let back = g.K.Keeper.reads_back in
     let words = g.T.Tape.words old.tape in
     let v = scheme_of g.S.Sealer.cipher old.core in
     let p = process old.core.state old.link old.keeper in
     let q = process c.resume.new.core.state c.resume.new.link c.resume.new.keeper in
-    subst (λ (u : Scheme). GoesOn (Had batches back) HostHears (HasArrays HoldsArray (KeepsArray back)) (running g.S.Sealer.cipher g.T.Tape.words old)
+    subst (λ (o : VolumeParts g.row.S.Denot g.row.B.Denot g.row.K.Denot g.row.T.Denot). GoesOn (Had batches back) HostHears (HasArrays HoldsArray (KeepsArray back)) (running g.S.Sealer.cipher g.T.Tape.words o)
+    (λ _ from to. (to.held ≡ from.held) × SavesPart (λ array part. part ≡ array) from to) (record { scheme = scheme_of g.S.Sealer.cipher c.resume.new.core; words = words; process = q })) c.self.view_is
+    (subst (λ (u : Scheme). GoesOn (Had batches back) HostHears (HasArrays HoldsArray (KeepsArray back)) (running g.S.Sealer.cipher g.T.Tape.words old)
     (λ _ from to. (to.held ≡ from.held) × SavesPart (λ array part. part ≡ array) from to) (record { scheme = u; words = words; process = q }))
     (sym (same_scheme g.S.Sealer.cipher old.core c.resume.new.core c.resume.ensures.kept))
     (elim c.match-resume.branch [
@@ -39,11 +42,11 @@ returns-clause-goes g c =
           let k = w.in-Err.ensures.err in
           let does = noted_does batches g.B.BatchLink.notes g.B.BatchLink.learns back v k.0 p q k.1 in
           acts_go_on batches back g.met.B.BatchLink.are_batches v words k.0 p q does (broken_resumption_sends k.0 k.2) (resumption_keeps batches back v k.0 p q (λ works. k.2) does)
-    ])
+    ]))
 
 pub returns-clause-takes_none : goal.returns-clause-takes_none
 returns-clause-takes_none g c =
-    let old = c.args.self.now in
+    let old : VolumeParts g.row.S.Denot g.row.B.Denot g.row.K.Denot g.row.T.Denot = record { core = c.self.inside.core; link = c.self.inside.link; keeper = c.self.inside.keeper; tape = c.self.inside.tape } in
     let batches = g.B.BatchLink.batches in
     let back = g.K.Keeper.reads_back in
     let words = g.T.Tape.words old.tape in
@@ -51,16 +54,17 @@ returns-clause-takes_none g c =
     let p = process old.core.state old.link old.keeper in
     let q = process c.resume.new.core.state c.resume.new.link c.resume.new.keeper in
     let are = g.met.B.BatchLink.are_batches in
-    subst (λ (u : Scheme). (acts : List Act) × TakesSteps batches back (running g.S.Sealer.cipher g.T.Tape.words old) (map {B = ProcessStep} Acts acts) (record { scheme = u; words = words; process = q }))
+    subst (λ (o : VolumeParts g.row.S.Denot g.row.B.Denot g.row.K.Denot g.row.T.Denot). (acts : List Act) × TakesSteps batches back (running g.S.Sealer.cipher g.T.Tape.words o) (map {B = ProcessStep} Acts acts) (record { scheme = scheme_of g.S.Sealer.cipher c.resume.new.core; words = words; process = q })) c.self.view_is
+    (subst (λ (u : Scheme). (acts : List Act) × TakesSteps batches back (running g.S.Sealer.cipher g.T.Tape.words old) (map {B = ProcessStep} Acts acts) (record { scheme = u; words = words; process = q }))
     (sym (same_scheme g.S.Sealer.cipher old.core c.resume.new.core c.resume.ensures.kept))
     (elim c.match-resume.branch [
       | in-Ok w ↦ let k = w.in-Ok.ensures.ok in (k.0, acts_taken batches back are v words k.0 p q (noted_does batches g.B.BatchLink.notes g.B.BatchLink.learns back v k.0 p q k.2))
       | in-Err w ↦ let k = w.in-Err.ensures.err in (k.0, acts_taken batches back are v words k.0 p q (noted_does batches g.B.BatchLink.notes g.B.BatchLink.learns back v k.0 p q k.1))
-    ])
+    ]))
 
 pub returns-clause-stopped : goal.returns-clause-stopped
 returns-clause-stopped g c =
-    let old = c.args.self.now in
+    let old : VolumeParts g.row.S.Denot g.row.B.Denot g.row.K.Denot g.row.T.Denot = record { core = c.self.inside.core; link = c.self.inside.link; keeper = c.self.inside.keeper; tape = c.self.inside.tape } in
     let batches = g.B.BatchLink.batches in
     let back = g.K.Keeper.reads_back in
     let words = g.T.Tape.words old.tape in
@@ -68,7 +72,8 @@ returns-clause-stopped g c =
     let p = process old.core.state old.link old.keeper in
     let q = process c.resume.new.core.state c.resume.new.link c.resume.new.keeper in
     let are = g.met.B.BatchLink.are_batches in
-    λ e. subst (λ (u : Scheme). Stops batches back (running g.S.Sealer.cipher g.T.Tape.words old) (record { scheme = u; words = words; process = q }))
+    λ e. subst (λ (o : VolumeParts g.row.S.Denot g.row.B.Denot g.row.K.Denot g.row.T.Denot). Stops batches back (running g.S.Sealer.cipher g.T.Tape.words o) (record { scheme = scheme_of g.S.Sealer.cipher c.resume.new.core; words = words; process = q })) c.self.view_is
+    (subst (λ (u : Scheme). Stops batches back (running g.S.Sealer.cipher g.T.Tape.words old) (record { scheme = u; words = words; process = q }))
     (sym (same_scheme g.S.Sealer.cipher old.core c.resume.new.core c.resume.ensures.kept))
     (elim c.match-resume.branch [
       | in-Ok w ↦ absurd (let no = w.result-is in cc)
@@ -78,4 +83,4 @@ returns-clause-stopped g c =
             | inl stalled ↦ let k = w.in-Err.ensures.err in acts_stop batches back are v words k.0 p q (noted_does batches g.B.BatchLink.notes g.B.BatchLink.learns back v k.0 p q k.1) (inl (w.in-Err.ensures.stalled cc))
             | inr not_kept ↦ let k = w.in-Err.ensures.not_kept cc in acts_stop batches back are v words (k.0 ++ Keeps false ∷ []) p q (noted_does batches g.B.BatchLink.notes g.B.BatchLink.learns back v (k.0 ++ Keeps false ∷ []) p q k.1) (inr (k.0, refl))
           ]
-    ])
+    ]))
