@@ -19,7 +19,7 @@ use oram_cli::{FileReason, InputFault, LockFault, StateLock, call_fault, linked_
 use oram_client::{DiskKey, Head, Keys, SealerKind, TITLE_LEN, WrongKey, head_in, keys_for};
 use oram_disk_host::{Fault, FaultKind, settings_text};
 use oram_geometry::Device;
-use oram_keeper::{KeepFailure, KeeperFault, OpenFault, ReadProcess, read_kept};
+use oram_keeper::{FoundProcess, KeepFailure, KeeperFault, OpenFault, ReadProcess, read_kept};
 use oram_kept::OpenError;
 use oram_pair::PairFault;
 use oram_redo::RedoError;
@@ -132,15 +132,14 @@ fn process_in<S: Sealer>(
 #[derive(Drop)]
 pub struct KeptDisk {
     pub head: Head,
-    /// The text of the process.
-    pub process: Vec<u8>,
+    pub process: FoundProcess,
 }
 
 /// Returns what is kept of a disk in the file `name`. Fails with [`FaultKind::NotADisk`] if `title` is the title of no disk.
 pub fn kept_disk(
     alloc: Global,
     title: &[u8],
-    process: Vec<u8>,
+    process: FoundProcess,
     name: &str,
 ) -> Result<KeptDisk, Fault>
     ensures head { IfOk result (λ kept. IsHead kept.head × (title.now ≡ behind_letters kept.head [])) }
@@ -157,7 +156,7 @@ pub fn kept_disk(
 pub(crate) fn read_disk(rt: &HostRuntime, state: &str) -> Result<KeptDisk, Fault> {
     let alloc = rt.alloc();
     match read_kept(rt, alloc, state, TITLE_LEN) {
-        Ok(ReadProcess { title, text }) => kept_disk(alloc, &title, text, state),
+        Ok(ReadProcess { title, process }) => kept_disk(alloc, &title, process, state),
         Err(fault) => Err(unread_fault(rt, fault, state)),
     }
 }
@@ -350,24 +349,24 @@ pub fn process_for<S: Sealer>(
     sealer: S,
 ) -> Result<KeptCore<S>, Fault>
     ensures sealer { IfOk result (λ process. process.core.sealer ≡ sealer) }
-    ensures ok { IfOk result (λ process. IsFileWith (scheme_of S.cipher process.core) kept.now.process.items (texts process.stores.items) process.note.items process.core.state) }
+    ensures ok { IfOk result (λ process. IsFileWith (scheme_of S.cipher process.core) kept.now.process.text.items (texts process.stores.items) process.note.items process.core.state) }
     ensures check { IfOk result (λ process. process.check ≡ check_of (scheme_of S.cipher process.core) (texts process.stores.items) process.note.items process.core.state) }
     ensures agrees { IfOk result (λ process. IsFirstDifference (AgreeAt settings.now process.core.device (spec.sealing_of kept.now.head.sealer)) fixed_keys None) }
     // Only the settings of a process can have changed. The fault names the first key at which they differ, and what it was.
-    ensures fault { IfErr result (λ fault. IsNoProcessFor kept.now.process.items (string_bytes settings.now.state) fault
+    ensures fault { IfErr result (λ fault. IsNoProcessFor kept.now.process.text.items (string_bytes settings.now.state) fault
         ⊎ ((process : KeptCore S) × (key : FixedKey)
         × IsAbout (FaultKind.Changed key) (was_text name.now (formatted.value_text process.core.device (spec.sealing_of kept.now.head.sealer) key)) fault
-        × IsFileWith (scheme_of S.cipher process.core) kept.now.process.items (texts process.stores.items) process.note.items process.core.state
+        × IsFileWith (scheme_of S.cipher process.core) kept.now.process.text.items (texts process.stores.items) process.note.items process.core.state
         × IsFirstDifference (AgreeAt settings.now process.core.device (spec.sealing_of kept.now.head.sealer)) fixed_keys (Some key))) }
     // It returns all of a process that was kept, unless memory runs out or the settings differ.
-    ensures same { (d : Sizes) (stores : List (List ℕ)) (core : State) → (it : IsFileOf (S.cipher sealer).overhead d kept.now.process.items stores core)
+    ensures same { (d : Sizes) (stores : List (List ℕ)) (core : State) → (it : IsFileOf (S.cipher sealer).overhead d kept.now.process.text.items stores core)
         → IfOk result (λ process. (texts process.stores.items ≡ stores) × (process.core.device ≡ d) × (process.core.state ≡ core) × (process.note.items ≡ it.note)) }
-    ensures changed { (d : Sizes) (stores : List (List ℕ)) (core : State) → IsFileOf (S.cipher sealer).overhead d kept.now.process.items stores core
+    ensures changed { (d : Sizes) (stores : List (List ℕ)) (core : State) → IsFileOf (S.cipher sealer).overhead d kept.now.process.text.items stores core
         → IfErr result (λ fault. (fault ≡ Fault.OutOfMemory) ⊎ ((key : FixedKey)
         × IsAbout (FaultKind.Changed key) (was_text name.now (formatted.value_text d (spec.sealing_of kept.now.head.sealer) key)) fault
         × IsFirstDifference (AgreeAt settings.now d (spec.sealing_of kept.now.head.sealer)) fixed_keys (Some key))) }
 {
-    let process = process_in(alloc, sealer, &kept.process, settings.state.as_str())?;
+    let process = process_in(alloc, sealer, &kept.process.text, settings.state.as_str())?;
     let sealing = sealing_of(kept.head.sealer);
     check_settings(alloc, settings, process.core.device(), sealing, name)?;
     Ok(process)

@@ -130,7 +130,10 @@ fn format_with<S: Sealer>(
     let note = encode_note(alloc, &Known::fresh(alloc)?)?;
     let text = encode_kept(alloc, &[], &note, &core)?;
     let state = settings.state.as_str();
-    let (title, process) = (title_of(head), text.with_table(core.table()));
+    let (title, process) = (
+        title_of(head),
+        text.with_table(core.table(), core.changes()),
+    );
     match make_kept(rt, alloc, state, &title, &process) {
         Ok(()) => Ok(()),
         Err(fault) => Err(unmade(alloc, fault, state)),

@@ -2,14 +2,14 @@
 
 ghost use Rattle.std.specs.Fs.{asks_create_new, asks_write};
 ghost use Rattle.std.specs.Prelude.{◌≡◌, ◌≤◌, ◌<◌, ◌+◌, ◌*◌, ℕ, true, IfSome};
-ghost use Rattle.oram_settings.specs.Settings.{IsDeviceOf};
+ghost use Rattle.oram_settings.specs.Settings.{IsDeviceOf, default_table};
 ghost use Rattle.oram_settings.specs.Sizes.{IsSize};
 
 use oram_cli::{FileFault, call_fault, file_fault, folder_of, sync_folder};
 use oram_disk_host::{FIRST_SETTINGS, Fault, FaultKind};
 use oram_geometry::Device;
 use oram_settings::{
-    DEFAULT_BLOCK, DEFAULT_LEAF_LOAD, DEFAULT_SLOTS, DEFAULT_TABLE, Sealing, device_of, disk_text,
+    DEFAULT_BLOCK, DEFAULT_LEAF_LOAD, DEFAULT_SLOTS, Sealing, default_table, device_of, disk_text,
     made_text, read_size, size_mistake, stored_bytes,
 };
 use std::alloc::AllocError;
@@ -108,7 +108,7 @@ fn sized(word: &str) -> Option<(u64, Device)>
     ensures least { IfSome result (λ x. DEFAULT_BLOCK ≤ x.0) }
     ensures whole { IfSome result (λ x. (blocks : ℕ) × (x.0 ≡ blocks * DEFAULT_BLOCK)) }
     ensures said { IfSome result (λ x. (size : ℕ) × IsSize word.now size × (size ≤ x.0) × (x.0 < size + DEFAULT_BLOCK)) }
-    ensures device { IfSome result (λ x. IsDeviceOf x.0 DEFAULT_BLOCK DEFAULT_SLOTS DEFAULT_LEAF_LOAD DEFAULT_TABLE x.1) }
+    ensures device { IfSome result (λ x. IsDeviceOf x.0 DEFAULT_BLOCK DEFAULT_SLOTS DEFAULT_LEAF_LOAD (default_table x.0 DEFAULT_BLOCK) x.1) }
 {
     let size = read_size(word)?;
     if size < DEFAULT_BLOCK {
@@ -120,7 +120,7 @@ fn sized(word: &str) -> Option<(u64, Device)>
         DEFAULT_BLOCK,
         DEFAULT_SLOTS,
         DEFAULT_LEAF_LOAD,
-        DEFAULT_TABLE,
+        default_table(whole, DEFAULT_BLOCK),
     )?;
     Some((whole, device))
 }

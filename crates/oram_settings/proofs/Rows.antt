@@ -12,7 +12,7 @@ use Rattle.oram_cli.specs.Tables.{HasNumber, HasText}
 use Rattle.oram_settings.specs.Amounts.{size_text}
 use Rattle.oram_settings.specs.Progress.{progress_text}
 use Rattle.oram_settings.specs.declared.progress.LongWork.TheVariants.{Exporting, Formatting}
-use Rattle.oram_settings.specs.Settings.{HasSealing, OrDefault, default_leaf_load, first_text}
+use Rattle.oram_settings.specs.Settings.{HasSealing, OrDefault, default_leaf_load, default_table, first_text}
 use Rattle.oram_geometry.specs.declared.Sizes.{Sizes}
 use Rattle.oram_geometry.specs.Least.{least_from}
 use Rattle.oram_geometry.specs.Sizes.{blocks_in, level_for, record_len_of, trees_of}
@@ -95,11 +95,15 @@ nowhere_to_listen = refl
 loads : (default_leaf_load 4 ≡ 5) × (default_leaf_load 8 ≡ 5) × (default_leaf_load 3 ≡ 1)
 loads = (refl, refl, refl)
 
--- a disk of 1 GiB has two trees, of 262,144 blocks and of 256
-abbrev gibibyte : ℕ → Sizes
-gibibyte load = record { blocks = 2 ^ 18; block_bytes = 4096; slots = 4; top = 1024; lifetime = 2 ^ 40; leaf_load = load }
+-- an entry for each block
+tables : (default_table (2 ^ 30) 4096 ≡ 262144) × (default_table 4095 4096 ≡ 0)
+tables = (refl, refl)
 
-its_bytes : (stored_bytes (gibibyte 5) ChaCha ≡ 2163192624) × (stored_bytes (gibibyte 1) ChaCha ≡ 8652869424)
+-- a disk of 1 GiB, whose table has an entry for each block
+abbrev gibibyte : ℕ → Sizes
+gibibyte load = record { blocks = 2 ^ 18; block_bytes = 4096; slots = 4; top = 2 ^ 18; lifetime = 2 ^ 40; leaf_load = load }
+
+its_bytes : (stored_bytes (gibibyte 5) ChaCha ≡ 2161098648) × (stored_bytes (gibibyte 1) ChaCha ≡ 8644444056)
 unfolding nodes_below trees_of blocks_in level_for least_from record_len_of
 its_bytes = (refl, refl)
 

@@ -1,11 +1,11 @@
 -- What is found at a key of a table.
-use Rattle.std.proofs.Common.{◌≡◌, ◌∙◌, ◌⊎◌, ℕ, List, Option, Some, None, true, false, refl, is_some, Result, Ok, Err, codes, ap, arith, sym, subst, inl, inr}
+use Rattle.std.proofs.Common.{◌≡◌, ◌∙◌, ◌⊎◌, ℕ, ◌/◌, List, Option, Some, None, true, false, refl, is_some, Result, Ok, Err, codes, ap, arith, sym, subst, inl, inr}
 use Rattle.std.specs.Prelude.{MatchOption, pos}
 use Rattle.toml.specs.Data.{Data, Members, get_member, integer}
 use Rattle.oram_cli.specs.Tables.{Finds, HasNumber, HasText, IsAddress, IsName}
 use Rattle.oram_cli.specs.declared.input.InputFault.{InputFault}
 use Rattle.oram_cli.specs.declared.input.InputFault.TheVariants.{Bad}
-use Rattle.oram_settings.specs.Settings.{DiskValue, HasSealing, IsDisk, IsPlace, IsSocket, OrDefault, default_leaf_load, sealing_name}
+use Rattle.oram_settings.specs.Settings.{DiskValue, HasSealing, IsDisk, IsPlace, IsSocket, OrDefault, default_leaf_load, default_table, sealing_name}
 use Rattle.oram_settings.specs.declared.disk_file.Sealing.{Sealing}
 use Rattle.oram_settings.specs.declared.disk_file.Sealing.TheVariants.{Plain, ChaCha}
 
@@ -33,6 +33,16 @@ pub no_load : (t : Members) (e : InputFault) (slots : ℕ) → OrDefault t (code
 no_load t e slots has none bad s h =
     let same : slots ≡ s.slots = one_number t (codes "slots") 4 slots s.slots has h.slots in
     none bad s.leaf_load (subst (λ (n : ℕ). OrDefault t (codes "leaf_load") n (HasNumber t (codes "leaf_load")) s.leaf_load) (ap default_leaf_load (sym same)) h.leaf_load)
+
+-- the table, whose default goes by the size and the block
+pub no_table : (t : Members) (e : InputFault) (size block default : ℕ) → HasNumber t (codes "size") size → OrDefault t (codes "block") 4096 (HasNumber t (codes "block")) block
+    → default ≡ default_table size block
+    → (e ≡ Bad → (x : ℕ) → OrDefault t (codes "table") default (HasNumber t (codes "table")) x → ⊥) → e ≡ Bad → (s : DiskValue) → IsDisk t s → ⊥
+no_table t e size block default of_size of_block is none bad s h =
+    let same_size : size ≡ s.size = cc (sym of_size ∙ h.size) in
+    let same_block : block ≡ s.block = one_number t (codes "block") 4096 block s.block of_block h.block in
+    let same : default_table s.size s.block ≡ default = sym (is ∙ ap (λ (n : ℕ). n / block) same_size ∙ ap (λ (n : ℕ). s.size / n) same_block) in
+    none bad s.table (subst (λ (n : ℕ). OrDefault t (codes "table") n (HasNumber t (codes "table")) s.table) same h.table)
 
 -- there is only one text at a key
 one_text : (t : Members) (key x y : List ℕ) → HasText t key x → HasText t key y → x ≡ y

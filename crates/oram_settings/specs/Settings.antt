@@ -1,6 +1,6 @@
 -- The settings of a disk, and which texts are a file with these settings. Size, key and host are required; each other
 -- setting has a default.
-use Rattle.std.specs.Prelude.{◌≡◌, ◌∷◌, ◌++◌, ◌⊎◌, ◌*◌, ◌^◌, ℕ, Bool, true, if◌then◌else◌, nat_le, List, [], codes, decimal, string_bytes, Some, Ok, MatchOption}
+use Rattle.std.specs.Prelude.{◌≡◌, ◌∷◌, ◌++◌, ◌⊎◌, ◌*◌, ◌/◌, ◌^◌, ℕ, Bool, true, if◌then◌else◌, nat_le, List, [], codes, decimal, string_bytes, Some, Ok, MatchOption}
 use Rattle.std.specs.List.{concat}
 use Rattle.hex.specs.Hex.{encode_lower}
 use Rattle.toml.specs.Data.{Members, boolean, get_member}
@@ -69,6 +69,10 @@ OrDefault table key default P x = MatchOption (get_member key table) (x ≡ defa
 abbrev pub default_leaf_load : ℕ → ℕ
 default_leaf_load slots = if nat_le 4 slots then 5 else 1
 
+-- the default for the table: an entry for each block
+abbrev pub default_table : ℕ → ℕ → ℕ
+default_table size block = size / block
+
 -- a document's table has these settings; `members` are its keys with their values
 pub record IsDisk (members : Members) (s : DiskValue) : Type 0 where
   pub only : HasOnly (codes "size" ∷ codes "block" ∷ codes "slots" ∷ codes "leaf_load" ∷ codes "table" ∷ codes "sealer" ∷ codes "key" ∷ codes "host" ∷ codes "listen" ∷ codes "state" ∷ codes "sync" ∷ codes "reconnect_timeout" ∷ []) members
@@ -76,7 +80,7 @@ pub record IsDisk (members : Members) (s : DiskValue) : Type 0 where
   pub block : OrDefault members (codes "block") 4096 (HasNumber members (codes "block")) s.block
   pub slots : OrDefault members (codes "slots") 4 (HasNumber members (codes "slots")) s.slots
   pub leaf_load : OrDefault members (codes "leaf_load") (default_leaf_load s.slots) (HasNumber members (codes "leaf_load")) s.leaf_load
-  pub table : OrDefault members (codes "table") 1024 (HasNumber members (codes "table")) s.table
+  pub table : OrDefault members (codes "table") (default_table s.size s.block) (HasNumber members (codes "table")) s.table
   pub sealer : OrDefault members (codes "sealer") ChaCha (HasSealing members (codes "sealer")) s.sealer
   pub key : HasHex members (codes "key") s.key
   pub host : HasText members (codes "host") s.host × IsPlace s.host
@@ -102,4 +106,6 @@ first_text size key =
     ∷ decimal size
     ∷ codes "\n\n# Whoever has this key can read the disk. Without it nobody can.\nkey = \""
     ∷ encode_lower key
-    ∷ codes "\"\n\n# Where the host is reached: your end of the tunnel, a socket in this folder, for you alone; or \"127.0.0.1:PORT\", for all users of\n# this machine.\nhost = \"unix:buckets.sock\"\n\n# Each line below shows what holds without it. To set another value, take away the \"# \" that the line begins with.\n\n# These five are fixed once the disk is formatted.\n# block = 4096               # the bytes of a block\n# slots = 4                  # how many blocks a bucket has room for\n# leaf_load = 5              # for how many blocks there is a leaf, which takes two buckets at the host; with fewer than 4 slots it is 1\n# table = 1024               # the most entries of the table that the client keeps\n# sealer = \"chacha\"          # how buckets are sealed; \"plain\" hides nothing, and is only for trying things out\n\n# These may be changed at any time.\n# listen = \"unix:disk.sock\"  # where the disk is served: a socket in this folder, for you alone; or \"127.0.0.1:PORT\", for all users of this machine\n# state = \"disk.state\"       # the file of the disk's state, in this folder\n# sync = true                # each state is synced before it counts\n# reconnect_timeout = 600    # for how many seconds the client waits for a host that doesn't answer\n" ∷ [])
+    ∷ codes "\"\n\n# Where the host is reached: your end of the tunnel, a socket in this folder, for you alone; or \"127.0.0.1:PORT\", for all users of\n# this machine.\nhost = \"unix:buckets.sock\"\n\n# Each line below shows what holds without it. To set another value, take away the \"# \" that the line begins with.\n\n# These five are fixed once the disk is formatted.\n# block = 4096               # the bytes of a block\n# slots = 4                  # how many blocks a bucket has room for\n# leaf_load = 5              # for how many blocks there is a leaf, which takes two buckets at the host; with fewer than 4 slots it is 1\n# table = "
+    ∷ decimal (default_table size 4096)
+    ∷ codes "             # the most entries of the table that the client keeps; with one for each block the disk has one tree\n# sealer = \"chacha\"          # how buckets are sealed; \"plain\" hides nothing, and is only for trying things out\n\n# These may be changed at any time.\n# listen = \"unix:disk.sock\"  # where the disk is served: a socket in this folder, for you alone; or \"127.0.0.1:PORT\", for all users of this machine\n# state = \"disk.state\"       # the file of the disk's state, in this folder\n# sync = true                # each state is synced before it counts\n# reconnect_timeout = 600    # for how many seconds the client waits for a host that doesn't answer\n" ∷ [])

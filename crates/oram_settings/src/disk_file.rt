@@ -4,7 +4,7 @@ ghost use Rattle.std.specs.Prelude.{◌≡◌, ◌≢◌, ◌↔◌, IsTrue, Non
 ghost use Rattle.toml.specs.Data.{as_bool, get_member};
 ghost use Rattle.toml.specs.View.{table_view};
 ghost use Rattle.oram_cli.specs.Tables.{Finds, HasNumber, HasText, IsCount, IsName};
-ghost use Rattle.oram_settings.specs.Settings.{HasFlag, HasSealing, IsDeviceOf, IsDisk, IsDocumentOf, IsPlace, IsSocket, OrDefault, default_leaf_load, first_text, sealing_name, settings_value};
+ghost use Rattle.oram_settings.specs.Settings.{HasFlag, HasSealing, IsDeviceOf, IsDisk, IsDocumentOf, IsPlace, IsSocket, OrDefault, default_leaf_load, default_table, first_text, sealing_name, settings_value};
 
 use hex::encode;
 use oram_cli::{
@@ -26,9 +26,6 @@ pub const DEFAULT_SLOTS: u64 = 4;
 
 /// The default for the leaf load where a bucket has enough slots for it.
 pub const DEFAULT_LEAF_LOAD: u64 = 5;
-
-/// The default for the greatest number of entries that the client's own table may have.
-pub const DEFAULT_TABLE: u64 = 1_024;
 
 /// The default reconnect timeout in seconds.
 const DEFAULT_RECONNECT_TIMEOUT: u64 = 600;
@@ -215,6 +212,13 @@ fn leaf_load_or(table: &Table, slots: u64) -> Result<u64, InputFault>
     number_or(table, "leaf_load", default_leaf_load(slots))
 }
 
+/// Returns the default for `table`: an entry for each of the disk's blocks, so that the disk has one tree.
+pub fn default_table(size: u64, block: u64) -> u64
+    ensures { result ≡ default_table size block }
+{
+    size.checked_div(block).unwrap_or(0)
+}
+
 fn disk_in(alloc: Global, document: &Table) -> Result<DiskSettings, InputFault>
     ensures { Finds settings_value (IsDisk (table_view document.now)) result }
 {
@@ -241,7 +245,7 @@ fn disk_in(alloc: Global, document: &Table) -> Result<DiskSettings, InputFault>
     let block = number_or(document, "block", DEFAULT_BLOCK)?;
     let slots = number_or(document, "slots", DEFAULT_SLOTS)?;
     let leaf_load = leaf_load_or(document, slots)?;
-    let table = number_or(document, "table", DEFAULT_TABLE)?;
+    let table = number_or(document, "table", default_table(size, block))?;
     let sealer = sealing_or(document, "sealer", Sealing::ChaCha)?;
     let key = key_at(document, "key")?;
     let host = place_at(document, "host")?;
@@ -296,7 +300,8 @@ pub fn disk_text(alloc: Global, size: u64, key: &[u8; 32]) -> Result<String, All
 {
     let key = encode(alloc, key)?;
     let key = key.as_str();
+    let table = default_table(size, DEFAULT_BLOCK);
     format!(in alloc;
-        "# The disk's size in bytes. It is fixed once the disk is formatted.\nsize = {size}\n\n# Whoever has this key can read the disk. Without it nobody can.\nkey = \"{key}\"\n\n# Where the host is reached: your end of the tunnel, a socket in this folder, for you alone; or \"127.0.0.1:PORT\", for all users of\n# this machine.\nhost = \"unix:buckets.sock\"\n\n# Each line below shows what holds without it. To set another value, take away the \"# \" that the line begins with.\n\n# These five are fixed once the disk is formatted.\n# block = 4096               # the bytes of a block\n# slots = 4                  # how many blocks a bucket has room for\n# leaf_load = 5              # for how many blocks there is a leaf, which takes two buckets at the host; with fewer than 4 slots it is 1\n# table = 1024               # the most entries of the table that the client keeps\n# sealer = \"chacha\"          # how buckets are sealed; \"plain\" hides nothing, and is only for trying things out\n\n# These may be changed at any time.\n# listen = \"unix:disk.sock\"  # where the disk is served: a socket in this folder, for you alone; or \"127.0.0.1:PORT\", for all users of this machine\n# state = \"disk.state\"       # the file of the disk's state, in this folder\n# sync = true                # each state is synced before it counts\n# reconnect_timeout = 600    # for how many seconds the client waits for a host that doesn't answer\n"
+        "# The disk's size in bytes. It is fixed once the disk is formatted.\nsize = {size}\n\n# Whoever has this key can read the disk. Without it nobody can.\nkey = \"{key}\"\n\n# Where the host is reached: your end of the tunnel, a socket in this folder, for you alone; or \"127.0.0.1:PORT\", for all users of\n# this machine.\nhost = \"unix:buckets.sock\"\n\n# Each line below shows what holds without it. To set another value, take away the \"# \" that the line begins with.\n\n# These five are fixed once the disk is formatted.\n# block = 4096               # the bytes of a block\n# slots = 4                  # how many blocks a bucket has room for\n# leaf_load = 5              # for how many blocks there is a leaf, which takes two buckets at the host; with fewer than 4 slots it is 1\n# table = {table}             # the most entries of the table that the client keeps; with one for each block the disk has one tree\n# sealer = \"chacha\"          # how buckets are sealed; \"plain\" hides nothing, and is only for trying things out\n\n# These may be changed at any time.\n# listen = \"unix:disk.sock\"  # where the disk is served: a socket in this folder, for you alone; or \"127.0.0.1:PORT\", for all users of this machine\n# state = \"disk.state\"       # the file of the disk's state, in this folder\n# sync = true                # each state is synced before it counts\n# reconnect_timeout = 600    # for how many seconds the client waits for a host that doesn't answer\n"
     )
 }

@@ -28,7 +28,7 @@ disk.toml has to set size, key and host. It may set more; the defaults are:
   block = 4096               the bytes of a block
   slots = 4                  how many blocks a bucket has room for
   leaf_load = 5              for how many blocks there is a leaf, which takes two buckets at the host; with fewer than 4 slots it is 1
-  table = 1024               the most entries of the table that the client keeps
+  table = size / block       the most entries of the table that the client keeps; with one for each block the disk has one tree
   sealer = \"chacha\"          how buckets are sealed; \"plain\" hides nothing, and is only for trying things out
   listen = \"unix:disk.sock\"  where the disk is served: a socket in its folder, for you alone; or \"127.0.0.1:PORT\", for all users
   state = \"disk.state\"       the file of the disk's state, in its folder

@@ -31,8 +31,8 @@ pub use complaints::{
 };
 pub use differences::{FixedKey, first_difference, value_text};
 pub use disk_file::{
-    DEFAULT_BLOCK, DEFAULT_LEAF_LOAD, DEFAULT_SLOTS, DEFAULT_TABLE, DiskSettings, LIFETIME,
-    Sealing, device_of, disk_text, place_at, read_disk_settings,
+    DEFAULT_BLOCK, DEFAULT_LEAF_LOAD, DEFAULT_SLOTS, DiskSettings, LIFETIME, Sealing,
+    default_table, device_of, disk_text, place_at, read_disk_settings,
 };
 pub use footprint::stored_bytes;
 pub use names::{place_beside, relative_to};

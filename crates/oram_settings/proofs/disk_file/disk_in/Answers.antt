@@ -1,5 +1,5 @@
 use Rattle.std.proofs.lemmas.Result.{err_from_is_err_and}
-use Rattle.oram_settings.proofs.Tables.{no_disk, no_load}
+use Rattle.oram_settings.proofs.Tables.{no_disk, no_load, no_table}
 use Rattle.oram_settings.proofs.disk_file.disk_in.Goals as goal
 
 pub returns-in_err-size : goal.returns-in_err-size
@@ -25,7 +25,7 @@ returns-in_err-leaf_load c =
 pub returns-in_err-table : goal.returns-in_err-table
 returns-in_err-table c =
     let p = err_from_is_err_and c.from_residual-in_err-table.result c.from_residual-in_err-table.ensures.1 in
-    rw (p.1, p.2) (no_disk _ _ c.in_err-table.ensures (λ s. s.table) (λ s h. h.table))
+    rw (p.1, p.2) (no_table _ _ _ _ _ c.in_ok-size.ensures c.in_ok-block.ensures c.default_table.ensures c.in_err-table.ensures)
 
 pub returns-in_err-sealer : goal.returns-in_err-sealer
 returns-in_err-sealer c =
