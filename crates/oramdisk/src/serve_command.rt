@@ -1,18 +1,21 @@
 //! Serves a disk to NBD clients, one connection after the other.
 
-ghost use Rattle.std.specs.Prelude.{◌≡◌, true};
+ghost use Rattle.std.specs.Prelude.{◌≡◌, IfOk, true};
+ghost use Rattle.oram_core.specs.Core.{IsNotedSince};
+ghost use Rattle.oram_keeper.specs.Process.{IsFoundIn, kept_table};
+ghost use Rattle.oram_kept.specs.Text.{Parts};
 
 use crate::clients::{ClientAttendant, ClientLook, Dismissal};
 use crate::watched_disk::{FailureKeeper, WatchedDisk};
 use oram_bucket::Sealer;
 use oram_client::{Keys, SystemFiles};
-use oram_core::Reason;
+use oram_core::{Core, Reason};
 use oram_disk_client::{
-    DiskSealer, HostLink, LockedDisk, ReachedCore, Stop, UnfailedDisk, disk_in, keep_failure,
-    keys_in, link_to, process_for, reached, sealer_in, stop_fault, tape_for,
+    DiskSealer, HostLink, KeptDisk, LockedDisk, ReachedCore, Stop, UnfailedDisk, disk_in,
+    keep_failure, keys_in, link_to, process_for, reached, sealer_in, stop_fault, tape_for,
 };
 use oram_disk_host::{Fault, FaultKind, listen_at, not_accepted, time};
-use oram_keeper::PairKeeper;
+use oram_keeper::{FoundProcess, PairKeeper};
 use oram_nbd::{BlockDevice, DiskFault, NbdFault, is_stop, serve};
 use oram_redo::SystemPair;
 use oram_rounds::{BatchLink, Keeper, KeptCore};
@@ -268,6 +271,35 @@ fn serve_volume<S: Sealer>(
     Err(stopped(alloc, &disk.disk, settings))
 }
 
+/// Tells a core which entries of its table may differ from the one in the files: none, if its table is that one, so that the first keeping
+/// doesn't write all of it again.
+fn note_table<S: Sealer>(core: &mut Core<S>, found: &FoundProcess)
+    ensures { (p : Parts) → IsFoundIn found.now p → IsNotedSince p.table core.new }
+{
+    if found.has_table(core.table()) {
+        core.forget_changes();
+        return;
+    }
+    core.note_any_change();
+}
+
+/// Decodes the process that is kept of a disk, whose settings are in the file `name`.
+fn process_of<S: Sealer>(
+    alloc: Global,
+    settings: &DiskSettings,
+    name: &str,
+    keeper: &DiskKeeper,
+    kept: KeptDisk,
+    sealer: S,
+) -> Result<KeptCore<S>, Fault>
+    requires { (p : Parts) × IsFoundIn kept.process p × (p.table ≡ kept_table keeper.now) }
+    ensures { IfOk result (λ process. IsNotedSince (kept_table keeper.now) process.core) }
+{
+    let mut process = process_for(alloc, settings, name, &kept, sealer)?;
+    note_table(&mut process.core, &kept.process);
+    Ok(process)
+}
+
 /// Serves the disk of a process that was kept, until it stops. The process goes on with `keeper`, which holds the files open that
 /// the process was read from.
 fn serve_process<S: Sealer>(
@@ -277,7 +309,9 @@ fn serve_process<S: Sealer>(
     keeper: DiskKeeper,
     keys: &Keys,
     kept: KeptCore<S>,
-) -> Result<(), Fault> {
+) -> Result<(), Fault>
+    requires { IsNotedSince (kept_table keeper) kept.core }
+{
     let alloc = rt.alloc();
     let link = link_to(rt, settings, keys, &kept, MEANWHILE)?;
     let ReachedCore { core, link } = reached(alloc, link, settings, kept)?;
@@ -365,11 +399,11 @@ fn serve_kept(
     let keys = keys_in(alloc, settings, &kept.head, name)?;
     match sealer_in(&kept.head, &keys) {
         DiskSealer::Plain(sealer) => {
-            let process = process_for(alloc, settings, name, &kept, sealer)?;
+            let process = process_of(alloc, settings, name, &keeper, kept, sealer)?;
             serve_process(rt, settings, clients, keeper, &keys, process)
         }
         DiskSealer::ChaCha20(sealer) => {
-            let process = process_for(alloc, settings, name, &kept, sealer)?;
+            let process = process_of(alloc, settings, name, &keeper, kept, sealer)?;
             serve_process(rt, settings, clients, keeper, &keys, process)
         }
     }
