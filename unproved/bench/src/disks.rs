@@ -42,6 +42,8 @@ impl ClientWatch for Stays {
 struct MemoryKeeper {
     alloc: Global,
     newest: Vec<u8>,
+    /// The table that was kept last.
+    table: Vec<u32>,
 }
 
 impl MemoryKeeper {
@@ -50,6 +52,7 @@ impl MemoryKeeper {
         MemoryKeeper {
             alloc,
             newest: Vec::new(alloc),
+            table: Vec::new(alloc),
         }
     }
 }
@@ -59,13 +62,16 @@ impl Keeper for MemoryKeeper {
 
     ghost reads_back = { λ k bytes. bytes ≡ k.newest.items };
 
+    ghost kept_table = { λ k. k.table.items };
+
     fn keep(&mut self, text: &KeptParts<'_>) -> Result<(), KeepError> {
-        match joined(self.alloc, text) {
-            Ok(newest) => {
+        match (joined(self.alloc, text), text.table.to_vec(self.alloc)) {
+            (Ok(newest), Ok(table)) => {
                 self.newest = newest;
+                self.table = table;
                 Ok(())
             }
-            Err(_) => Err(KeepError),
+            _ => Err(KeepError),
         }
     }
 }

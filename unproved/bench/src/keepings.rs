@@ -4,7 +4,7 @@
 //! without sync. No command is at work and no STORE waits, so nearly all of the text is its table, and of that nothing changes.
 
 use oram_bucket::PlainSeal;
-use oram_core::Core;
+use oram_core::{Core, TableChanges};
 use oram_geometry::Device;
 use oram_host::Server;
 use oram_keeper::{PairKeeper, make_kept, open_kept};
@@ -30,6 +30,7 @@ pub(crate) fn keeper_at(
     let nothing = KeptParts {
         before: &[],
         table: &[],
+        changes: TableChanges::Any,
         after: &[],
     };
     if make_kept(rt, rt.alloc(), path, &TITLE, &nothing).is_err() {
@@ -55,7 +56,7 @@ fn time_of(rt: &HostRuntime, path: &str, entries: u64, times: u64) -> io::Result
         return Err(failed());
     };
     let mut server = Server::new(alloc);
-    let Ok(core) = Core::format(alloc, device.copy(), PlainSeal, &mut server) else {
+    let Ok(mut core) = Core::format(alloc, device.copy(), PlainSeal, &mut server) else {
         return Err(failed());
     };
     let len = record_len(&core);
@@ -64,12 +65,12 @@ fn time_of(rt: &HostRuntime, path: &str, entries: u64, times: u64) -> io::Result
     };
     let mut link = RoundLink::new(alloc, inner, device, len);
     let mut keeper = keeper_at(rt, path, Syncs::LeftOut)?;
-    if keep(alloc, &core, &mut link, &mut keeper).is_err() {
+    if keep(alloc, &mut core, &mut link, &mut keeper).is_err() {
         return Err(failed());
     }
     let start = Instant::now(rt)?;
     for _ in 0..times {
-        if keep(alloc, &core, &mut link, &mut keeper).is_err() {
+        if keep(alloc, &mut core, &mut link, &mut keeper).is_err() {
             return Err(failed());
         }
     }

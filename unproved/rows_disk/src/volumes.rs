@@ -19,6 +19,8 @@ use std::alloc::Global;
 struct MemoryKeeper {
     alloc: Global,
     newest: Vec<u8>,
+    /// The table that was kept last.
+    table: Vec<u32>,
     room: u64,
     lacks_memory: bool,
 }
@@ -28,6 +30,7 @@ impl MemoryKeeper {
         MemoryKeeper {
             alloc,
             newest: Vec::new(alloc),
+            table: Vec::new(alloc),
             room,
             lacks_memory: false,
         }
@@ -47,6 +50,8 @@ impl Keeper for MemoryKeeper {
 
     ghost reads_back = { λ k bytes. bytes ≡ k.newest.items };
 
+    ghost kept_table = { λ k. k.table.items };
+
     fn keep(&mut self, text: &KeptParts<'_>) -> Result<(), KeepError> {
         if self.room == 0 {
             return Err(KeepError);
@@ -55,7 +60,12 @@ impl Keeper for MemoryKeeper {
             self.lacks_memory = true;
             return Err(KeepError);
         };
+        let Ok(table) = text.table.to_vec(self.alloc) else {
+            self.lacks_memory = true;
+            return Err(KeepError);
+        };
         self.newest = newest;
+        self.table = table;
         self.room -= 1;
         Ok(())
     }

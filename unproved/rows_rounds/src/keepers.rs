@@ -45,6 +45,8 @@ pub(crate) struct MemoryKeeper {
     alloc: Global,
     /// The newest file.
     pub(crate) newest: Vec<u8>,
+    /// The table that was kept last.
+    table: Vec<u32>,
     room: Room,
     /// How many files were to be kept since the room was set.
     calls: u64,
@@ -59,6 +61,7 @@ impl MemoryKeeper {
         MemoryKeeper {
             alloc,
             newest,
+            table: Vec::new(alloc),
             room,
             calls: 0,
             kept: 0,
@@ -88,12 +91,17 @@ impl MemoryKeeper {
     }
 
     fn put(&mut self, text: &KeptParts<'_>) -> Result<(), KeepError> {
-        match joined(self.alloc, text.before, text.table, text.after) {
-            Ok(newest) => {
+        let table = text.table.to_vec(self.alloc);
+        match (
+            joined(self.alloc, text.before, text.table, text.after),
+            table,
+        ) {
+            (Ok(newest), Ok(table)) => {
                 self.newest = newest;
+                self.table = table;
                 Ok(())
             }
-            Err(_) => {
+            _ => {
                 self.lacks_memory = true;
                 Err(KeepError)
             }
@@ -105,6 +113,8 @@ impl Keeper for MemoryKeeper {
     ghost use Rattle.std.specs.Prelude.{◌≡◌};
 
     ghost reads_back = { λ k bytes. bytes ≡ k.newest.items };
+
+    ghost kept_table = { λ k. k.table.items };
 
     fn keep(&mut self, text: &KeptParts<'_>) -> Result<(), KeepError> {
         let call = self.calls;

@@ -60,7 +60,7 @@ pub(crate) fn text_of(
     core: &Core<PlainSeal>,
 ) -> Result<WholeText, RowFault> {
     let text = encode_kept(alloc, stores, note, core)?;
-    let parts = text.with_table(core.table());
+    let parts = text.with_table(core.table(), core.changes());
     Ok(WholeText {
         bytes: joined(alloc, parts.before, parts.table, parts.after)?,
         check: text.check,

@@ -159,7 +159,7 @@ impl<'a> Life<'a> {
 
     /// Keeps the process as it is, without a round.
     pub(crate) fn keep(&mut self, alloc: Global) -> Result<Result<(), RoundFault>, RowFault> {
-        row_end(keep(alloc, &self.core, &mut self.link, &mut self.keeper))
+        row_end(keep(alloc, &mut self.core, &mut self.link, &mut self.keeper))
     }
 
     /// Writes the blocks from `first` to `last` in one round. Each must be done.
