@@ -4,7 +4,7 @@ import struct
 
 from trials.connections import LONGEST_BODY
 
-FETCH, STORE, PUT, SHAPE, RECORDS = 1, 2, 3, 4, 5
+FETCH, STORE, PUT, SHAPE, RECORDS, FETCH_LEVELS, STORE_LEVELS = 1, 2, 3, 4, 5, 6, 7
 # Its second byte asks for the records that the host has now.
 NOW = 0
 DONE = b"\x80"
@@ -38,6 +38,16 @@ def shape(tree, depth, record_len):
 def records(tree, first, count):
     """Asks for the records of nodes in a row, from `first` on."""
     return struct.pack(">BBBII", RECORDS, NOW, tree, first, count)
+
+
+def fetch_levels(tree, first, last, leaf):
+    """Asks for the records of a path from level `first` to level `last`."""
+    return struct.pack(">BBBBI", FETCH_LEVELS, tree, first, last, leaf)
+
+
+def store_levels(tree, first, leaf, records):
+    """Replaces the records of a path from level `first` to that of the leaf."""
+    return struct.pack(">BBBI", STORE_LEVELS, tree, first, leaf) + b"".join(records)
 
 
 def is_a(kind, body):
@@ -111,10 +121,11 @@ class Model:
 
 
 class DiskModel(Model):
-    """The host of a disk, which also gives the records of nodes in a row."""
+    """The host of a disk, which also gives the records of nodes in a row, and those of some levels of a path."""
 
     def answer(self, body):
-        return self.answer_records(body) if is_a(RECORDS, body) else super().answer(body)
+        own = {RECORDS: self.answer_records, FETCH_LEVELS: self.answer_fetch_levels, STORE_LEVELS: self.answer_store_levels}
+        return own.get(body[0] if body else 0, super().answer)(body)
 
     def answer_records(self, body):
         if len(body) != 11 or body[1] != NOW:
@@ -129,6 +140,47 @@ class DiskModel(Model):
             return refused(BAD_LENGTH)
         found = [self.records.get((tree, node)) for node in range(first, first + count)]
         return DONE + b"".join(b"\x00" if record is None else b"\x01" + record for record in found)
+
+    def answer_fetch_levels(self, body):
+        if len(body) != 8:
+            return refused(BAD_LENGTH)
+        tree, first, last, leaf = struct.unpack(">BBBI", body[1:])
+        if tree not in self.shapes:
+            return refused(NO_SHAPE)
+        depth, _ = self.shapes[tree]
+        if leaf >= 1 << depth:
+            return refused(BAD_LEAF)
+        if last > depth:
+            return refused(BAD_NODE)
+        if first > last:
+            return refused(BAD_LENGTH)
+        found = [self.records.get((tree, node)) for node in path(depth, leaf)[first : last + 1]]
+        there = found[: found.index(None)] if None in found else found
+        return DONE + bytes([len(there)]) + b"".join(there)
+
+    def answer_store_levels(self, body):
+        if len(body) < 7:
+            return refused(BAD_LENGTH)
+        tree, first, leaf = struct.unpack(">BBI", body[1:7])
+        if tree not in self.shapes:
+            return refused(NO_SHAPE)
+        if tree == IDENTITY_TREE and 0 in self.shapes:
+            return refused(SHAPE_TAKEN)
+        depth, record_len = self.shapes[tree]
+        if leaf >= 1 << depth:
+            return refused(BAD_LEAF)
+        if first > depth:
+            return refused(BAD_NODE)
+        if len(body) - 7 != (depth + 1 - first) * record_len:
+            return refused(BAD_LENGTH)
+        for level, node in enumerate(path(depth, leaf)[first:]):
+            self.records[tree, node] = body[7 + level * record_len : 7 + (level + 1) * record_len]
+        return DONE
+
+    def all_levels(self):
+        """A FETCH of the levels of each path of each tree, from each level on."""
+        shapes = ((tree, depth) for tree, (depth, _) in self.shapes.items())
+        return [fetch_levels(tree, first, depth, leaf) for tree, depth in shapes for leaf in range(1 << depth) for first in range(depth + 1)]
 
     def all_records(self, step):
         """Requests for all records of each tree, of at most `step` nodes each."""

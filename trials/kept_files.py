@@ -8,8 +8,10 @@ from trials.formats.ciphers import siphash
 from trials.formats.reader import Misread
 
 # What the two files begin with, where the head stands, and the pages of the table behind it.
-LETTERS, LOG_LETTERS = b"VIDLAQEC\x01" + bytes(7), b"VIDLAQCL\x01" + bytes(7)
+LETTERS, LOG_LETTERS = b"VIDLAQEC\x02" + bytes(7), b"VIDLAQCL\x02" + bytes(7)
 HEAD_AT, TABLE_AT, PAGE_LEN, NUMBERS = 4096, 8192, 1024, 254
+# How many bytes of the table or of the records a page has at most, before their checksum.
+ON_PAGE = 4 * NUMBERS
 # A log whose entries have more bytes is emptied before the next keeping.
 LONG_LOG = 64 << 20
 # The salt, the key check and the sealer's byte, which stand before the text of the process.
@@ -68,23 +70,25 @@ def check_sum(text, check, what):
         raise Misread(what)
 
 
-def text_in(records):
+def text_in(data):
     """The text that the bytes of a file hold."""
-    head = records[HEAD_AT : HEAD_AT + 40]
-    check_sum(head[:32], head[32:], "the checksum of the head")
-    before_len, numbers, after_len, check = struct.unpack("<4Q", head[:32])
-    pages = -(-numbers // NUMBERS)
-    table = b"".join(page_in(records, page, min(NUMBERS, numbers - page * NUMBERS)) for page in range(pages))
-    at = TABLE_AT + pages * PAGE_LEN
-    before, after = records[at : at + before_len], records[at + before_len : at + before_len + after_len]
+    head = data[HEAD_AT : HEAD_AT + 48]
+    check_sum(head[:40], head[40:], "the checksum of the head")
+    before_len, numbers, after_len, records_len, check = struct.unpack("<5Q", head[:40])
+    table, at = pages_in(data, TABLE_AT, 4 * numbers)
+    records, at = pages_in(data, at, records_len)
+    before, after = data[at : at + before_len], data[at + before_len : at + before_len + after_len]
     if (len(before), len(after)) != (before_len, after_len) or siphash(before + after) != check:
         raise Misread("the checksum of the text around the table")
-    return before + table + after
+    return before + table + after + records
 
 
-def page_in(records, page, count):
-    """The numbers on a page, in four bytes each, the high byte first."""
-    at = TABLE_AT + page * PAGE_LEN
-    text = records[at : at + 4 * count]
-    check_sum(text, records[at + 4 * count : at + 4 * count + 8], "the checksum of a page")
-    return text
+def pages_in(data, at, length):
+    """So many bytes, from the pages that begin at this place, and the place behind the last of these pages."""
+    said = b""
+    while len(said) < length:
+        on_page = min(ON_PAGE, length - len(said))
+        text = data[at : at + on_page]
+        check_sum(text, data[at + on_page : at + on_page + 8], "the checksum of a page")
+        said, at = said + text, at + PAGE_LEN
+    return said, at

@@ -8,9 +8,9 @@ from trials.formats.reader import Misread, Reader
 from trials.formats.sizes import Sizes
 
 # The letters of the file and of its log, and their version.
-LETTERS, VERSION = (b"VIDLAQEC", b"VIDLAQCL"), 1
-# Where the head stands, and the pages behind it, each with up to so many numbers of the table.
-HEAD_AT, PAGES_AT, PAGE_LEN, NUMBERS = 4096, 8192, 1024, 254
+LETTERS, VERSION = (b"VIDLAQEC", b"VIDLAQCL"), 2
+# Where the head stands, and the pages behind it, each with up to so many bytes of the table or of the records.
+HEAD_AT, PAGES_AT, PAGE_LEN, ON_PAGE = 4096, 8192, 1024, 1016
 # How many bytes the salt, the key check and the sealer have, and how many fields of a core that hasn't failed stand before its table.
 TITLE, BEFORE_TABLE = 65, 45
 # The kind of a command that writes.
@@ -62,11 +62,12 @@ class State:
 
 @dataclass
 class Parts:
-    """The text that the file holds: what stands before the table, the table's numbers in four bytes each, and what stands behind it."""
+    """The text that the file holds: what stands before the table, the table's numbers in four bytes each, what stands behind it, and the records."""
 
     before: bytes
     table: bytes
     after: bytes
+    records: bytes
 
 
 def summed(data, check, what):
@@ -78,28 +79,39 @@ def summed(data, check, what):
 
 def read_parts(data):
     """The parts of the text that the bytes of a file hold."""
-    head = Reader(data[HEAD_AT : HEAD_AT + 40], "little")
-    before_len, numbers, after_len, check = (head.number(8) for _ in range(4))
-    summed(head.data[:32], head.number(8), "the checksum of the head")
-    count, table = -(-numbers // NUMBERS), b""
-    for page in range(count):
-        reader = Reader(data[PAGES_AT + page * PAGE_LEN :], "little")
-        said = reader.take(4 * min(NUMBERS, numbers - page * NUMBERS))
-        table += summed(said, reader.number(8), "the checksum of a page")
-    reader = Reader(data[PAGES_AT + count * PAGE_LEN :])
-    parts = Parts(reader.take(before_len), table, reader.take(after_len))
+    head = Reader(data[HEAD_AT : HEAD_AT + 48], "little")
+    before_len, numbers, after_len, records_len, check = (head.number(8) for _ in range(5))
+    summed(head.data[:40], head.number(8), "the checksum of the head")
+    table, at = read_pages(data, PAGES_AT, 4 * numbers)
+    records, at = read_pages(data, at, records_len)
+    reader = Reader(data[at:])
+    parts = Parts(reader.take(before_len), table, reader.take(after_len), records)
     summed(parts.before + parts.after, check, "the checksum of the text around the table")
     return parts
+
+
+def read_pages(data, at, length):
+    """So many bytes, from the pages that begin at this place, and the place behind the last of these pages."""
+    said = b""
+    while len(said) < length:
+        reader = Reader(data[at:], "little")
+        on_page = reader.take(min(ON_PAGE, length - len(said)))
+        said, at = said + summed(on_page, reader.number(8), "the checksum of a page"), at + PAGE_LEN
+    return said, at
 
 
 def read_state(records, log):
     """The state that a file and its log keep."""
     parts = read_parts(joined(records, log, LETTERS, VERSION, PAGES_AT))
+    if parts.records:
+        raise Misread("the state of a disk has no records")
     text = parts.before + parts.table + parts.after
     head = Reader(text)
     salt, check, sealer = head.take(32), head.take(32), head.number(1)
     stores = [read_store(head.take(head.number(8))) for _ in range(head.number(8))]
     note = head.take(head.number(8))
+    if head.number(8):
+        raise Misread("the text of a disk says that it has records")
     reader = Reader(text[head.at :])
     blocks, block_bytes = reader.number(4), reader.number(4)
     leaf_load, slots, table = reader.number(2) + 1, reader.number(2), reader.number(4)

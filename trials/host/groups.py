@@ -4,8 +4,8 @@ import signal
 
 from trials import strace
 from trials.bucket_host import check_answers
-from trials.bucket_messages import Model, put, shape
-from trials.host.kills import format_tree, random_store
+from trials.bucket_messages import DiskModel, put, shape
+from trials.host.kills import either_store, format_tree, random_store
 
 # The tree with the stamps of a disk, and the length of its records.
 STAMP_TREE, STAMP_LEN = 254, 48
@@ -22,7 +22,7 @@ def try_groups(trial, depth=4, record_len=100):
     if not strace.is_usable():
         trial.skip()
         return
-    host, model = trial.host("groups").start(), Model()
+    host, model = trial.host("groups").start(), DiskModel()
     format_tree(trial, host, model, depth, record_len)
     client = host.client()
     check_answers(trial, "the formatting of the stamps", client, model, formatting_of_stamps(trial.dice))
@@ -31,7 +31,7 @@ def try_groups(trial, depth=4, record_len=100):
         what = f"{count} STOREs" if count > 1 else "a single STORE"
 
         def stores(count=count):
-            return [random_store(trial.dice, depth, record_len) for _ in range(count)]
+            return [either_store(trial.dice, depth, record_len) for _ in range(count)]
 
         try_syncs(trial, what, host, client, model, stores)
         try_syncs(trial, f"{what} between the PUTs of a stamp", host, client, model, lambda: stamped(trial.dice, stores()))
@@ -46,7 +46,8 @@ def formatting_of_stamps(dice):
 
 
 def stamped(dice, stores):
-    """A batch of a disk's client: a PUT of the stamp that begins it, STOREs, and a PUT of the stamp that says that they are done."""
+    """A batch of a disk's client that has no FETCHes: a PUT of the stamp that begins it, STOREs, and a PUT of the stamp that says that they
+    are done."""
     begun, done = [put(STAMP_TREE, node, dice.randbytes(STAMP_LEN)) for node in (0, 1)]
     return [begun, *stores, done]
 

@@ -11,7 +11,7 @@ from pathlib import Path
 from trials import strace
 from trials.bucket_file import BucketFile
 from trials.bucket_host import check_answers
-from trials.bucket_messages import DONE, MISSING, PUT, SHAPE_TAKEN, DiskModel, Model, fetch, is_a, put, refused, shape, store
+from trials.bucket_messages import DONE, MISSING, PUT, SHAPE_TAKEN, DiskModel, Model, fetch, is_a, put, refused, shape, store, store_levels
 from trials.host.messages import random_body
 
 # How many bytes a host copies at once when it copies its log.
@@ -38,6 +38,14 @@ def random_store(dice, depth, record_len):
     return store(0, dice.randrange(1 << depth), [dice.randbytes(record_len) for _ in range(depth + 1)])
 
 
+def either_store(dice, depth, record_len):
+    """A STORE of a random path of tree 0, or one of its levels from a random one on."""
+    if dice.random() < 0.5:
+        return random_store(dice, depth, record_len)
+    first = dice.randrange(depth + 1)
+    return store_levels(0, first, dice.randrange(1 << depth), [dice.randbytes(record_len) for _ in range(first, depth + 1)])
+
+
 def store_until_killed(trial, host, model, depth, record_len):
     """Stores random paths until the host is killed. Returns the STORE that had no answer, and how many had one."""
     client = host.client()
@@ -45,7 +53,7 @@ def store_until_killed(trial, host, model, depth, record_len):
     killer.start()
     stored = 0
     while True:
-        last = random_store(trial.dice, depth, record_len)
+        last = either_store(trial.dice, depth, record_len)
         answer = client.ask(last)
         if answer is None:
             break
@@ -60,7 +68,7 @@ def store_until_killed(trial, host, model, depth, record_len):
 
 def try_kills(trial, rounds=15, depth=4, record_len=2000):
     """The host is killed while it stores: what was acknowledged is there, and the STORE in flight is there whole or not at all."""
-    host, model = trial.host("kills").start(), Model()
+    host, model = trial.host("kills").start(), DiskModel()
     format_tree(trial, host, model, depth, record_len)
     in_all = 0
     for number in range(rounds):
@@ -96,7 +104,7 @@ def store_groups_until_killed(trial, host, depth, record_len, together):
     killer.start()
     sent, answered, goes_on = [], 0, True
     while goes_on:
-        group = [random_store(trial.dice, depth, record_len) for _ in range(together)]
+        group = [either_store(trial.dice, depth, record_len) for _ in range(together)]
         sent += group
         goes_on = client.send_all(group)
         for _ in group if goes_on else []:
@@ -114,7 +122,7 @@ def store_groups_until_killed(trial, host, depth, record_len, together):
 
 def try_killed_groups(trial, rounds=15, depth=4, record_len=700, together=16):
     """The host is killed while STOREs arrive together: what was acknowledged is there, and of the others a beginning, each of them whole."""
-    host, model = trial.host("killed-groups").start(), Model()
+    host, model = trial.host("killed-groups").start(), DiskModel()
     format_tree(trial, host, model, depth, record_len)
     in_all = 0
     for number in range(rounds):
@@ -136,9 +144,9 @@ def try_killed_groups(trial, rounds=15, depth=4, record_len=700, together=16):
 def try_left_groups(trial, depth=4, record_len=700, together=16):
     """A client sends STOREs in one write and leaves, so that nobody reads the answers: a beginning of them is there, each of them whole. And
     a client sends STOREs one byte at a time, and gets an answer to each."""
-    host, model = trial.host("left-groups").start(), Model()
+    host, model = trial.host("left-groups").start(), DiskModel()
     format_tree(trial, host, model, depth, record_len)
-    group = [random_store(trial.dice, depth, record_len) for _ in range(together)]
+    group = [either_store(trial.dice, depth, record_len) for _ in range(together)]
     client = host.client()
     client.send_all(group)
     client.stream.close()
@@ -148,7 +156,7 @@ def try_left_groups(trial, depth=4, record_len=700, together=16):
     trial.check("a client that left: a beginning of its STOREs", found in held, "")
     for body in group[: held.index(found) if found in held else 0]:
         model.answer(body)
-    slow = [random_store(trial.dice, depth, 1) for _ in range(3)] + [random_store(trial.dice, depth, record_len)] + model.all_fetches()[:2]
+    slow = [either_store(trial.dice, depth, 1) for _ in range(3)] + [either_store(trial.dice, depth, record_len)] + model.all_fetches()[:2]
     client.send_slowly(slow)
     given = [client.read() for _ in slow]
     trial.check("one byte at a time", given == [model.answer(body) for body in slow], given[:4])

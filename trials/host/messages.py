@@ -3,7 +3,7 @@
 import signal
 
 from trials.bucket_host import check_answers
-from trials.bucket_messages import DiskModel, fetch, put, records, shape, store
+from trials.bucket_messages import DiskModel, fetch, fetch_levels, put, records, shape, store, store_levels
 
 
 def random_body(dice, model):
@@ -18,12 +18,18 @@ def random_body(dice, model):
         return shape(dice.randrange(6), dice.choice([0, 1, 2, 3, 25]), dice.choice([0, 1, 8, 33, 1 << 20]))
     if kind < 0.4:
         return put(tree, near((2 << depth) - 1), dice.randbytes(max(length, 0)))
-    if kind < 0.65:
+    if kind < 0.55:
         return fetch(tree, near(1 << depth))
+    if kind < 0.65:
+        last = near(depth + 1)
+        return fetch_levels(tree, near(last + 1), last, near(1 << depth))
     if kind < 0.7:
         return records(tree, near((2 << depth) - 1), dice.randrange(1 << depth) + 1)
+    if kind < 0.83:
+        return store(tree, near(1 << depth), [dice.randbytes(max(length, 0)) for _ in range(depth + 1)])
     if kind < 0.95:
-        return store(tree, near(1 << depth), [dice.randbytes(max(length, 0))] * (depth + 1))
+        first = near(depth + 1)
+        return store_levels(tree, first, near(1 << depth), [dice.randbytes(max(length, 0)) for _ in range(first, depth + 1)])
     return dice.randbytes(dice.choice([0, 1, 2, 5, 6, 7, 8, 40]))
 
 
@@ -39,6 +45,7 @@ def try_random(trial, rounds=4, count=250):
         host.start()
     client = host.client()
     check_answers(trial, "every path after the random messages", client, model, model.all_fetches())
+    check_answers(trial, "the levels of every path after the random messages", client, model, model.all_levels())
     check_answers(trial, "every record after the random messages", client, model, model.all_records(5))
     client.close()
     host.stop()

@@ -41,11 +41,13 @@ def try_older_states(trial, disk):
     log.unlink()
     line = "oramdisk: settings/disk.state is the state of a disk of an older version, and is left as it is: serve it with that version, and copy what is in it to a new disk"
     other = "oramdisk: settings/disk.state isn't the state of a disk, and is left as it is: see that the settings name the right file"
-    for whole, says in [*((b"VIDLAQE%d" % number + text, line) for number in range(1, 7)), (b"VIDLAQE7" + text, other), (b"", other), (b"VIDLAQEC", other)]:
+    older = [b"VIDLAQE%d" % number for number in range(1, 7)] + [b"VIDLAQEC\1" + bytes(7)]
+    others = [b"VIDLAQE7" + text, b"VIDLAQEC\7" + bytes(7) + text, b"", b"VIDLAQEC"]
+    for whole, says in [*((letters + text, line) for letters in older), *((whole, other) for whole in others)]:
         state.write_bytes(whole)
         for command in ("serve", "status", "check"):
-            trial.ends(f"{command} with a state that begins with {whole[:8]}", disk.start(command), NO_STATE, says)
-        trial.check(f"a state that begins with {whole[:8]} stays", state.read_bytes() == whole and disk.kept.left() == [state.name])
+            trial.ends(f"{command} with a state that begins with {whole[:9]}", disk.start(command), NO_STATE, says)
+        trial.check(f"a state that begins with {whole[:9]} stays", state.read_bytes() == whole and disk.kept.left() == [state.name])
     disk.kept.put(files)
 
 

@@ -137,7 +137,7 @@ def regions_of_text(state, records):
     pages, first = -(-numbers // NUMBERS), TABLE_AT + 4 * min(numbers, NUMBERS)
     text = TABLE_AT + pages * PAGE_LEN
     return {
-        "the head": (state, HEAD_AT, HEAD_AT + 40, {BROKEN}),
+        "the head": (state, HEAD_AT, HEAD_AT + 48, {BROKEN}),
         "the first page": (state, TABLE_AT, first, {BROKEN}),
         "the checksum of the first page": (state, first, first + 8, {BROKEN}),
         "the title": (state, text, text + 65, {BROKEN}),

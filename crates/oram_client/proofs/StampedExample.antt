@@ -142,20 +142,29 @@ leads =
       given = inr (
         Done,
         half,
-        frame done_answer ++ frame (payload_answer one_path),
+        frame (payload_answer one_path) ++ frame done_answer,
         tt,
         lit≤ tt,
         put_served (host_with first_begun first_done) half 0 begun (omega arith) (record_long place.Begun second_stamp) (is_begun first_begun first_done begun (record_long place.Begun second_stamp)),
         refl,
         inr (
-          Done,
-          whole,
-          frame (payload_answer one_path),
-          tt,
+          Payload one_path,
+          half,
+          frame done_answer,
+          omega arith,
           lit≤ tt,
-          put_served half whole 1 done (omega arith) (record_long place.Done second_stamp) (is_done begun first_done done (record_long place.Done second_stamp)),
+          fetch_served half refl,
           refl,
-          inr (Payload one_path, whole, [], omega arith, lit≤ tt, fetch_served whole refl, refl, (refl, refl)),
+          inr (
+            Done,
+            whole,
+            [],
+            tt,
+            lit≤ tt,
+            put_served half whole 1 done (omega arith) (record_long place.Done second_stamp) (is_done begun first_done done (record_long place.Done second_stamp)),
+            refl,
+            (refl, refl),
+          ),
         ),
       );
       lost = [];
@@ -167,16 +176,17 @@ stamp_fits p = omega (arith, record_long p second_stamp)
 
 all_fit : All IsBody stamped_messages
 all_fit =
-    All-cons IsBody (stamp_put zero_key place.Begun second_stamp) (stamp_put zero_key place.Done second_stamp ∷ fetch_body 0 0 ∷ []) (stamp_fits place.Begun)
-    (All-cons IsBody (stamp_put zero_key place.Done second_stamp) (fetch_body 0 0 ∷ []) (stamp_fits place.Done) (All-cons IsBody (fetch_body 0 0) [] (lit≤ tt) (All-nil IsBody)))
+    All-cons IsBody (stamp_put zero_key place.Begun second_stamp) (fetch_body 0 0 ∷ stamp_put zero_key place.Done second_stamp ∷ []) (stamp_fits place.Begun)
+    (All-cons IsBody (fetch_body 0 0) (stamp_put zero_key place.Done second_stamp ∷ []) (lit≤ tt)
+    (All-cons IsBody (stamp_put zero_key place.Done second_stamp) [] (stamp_fits place.Done) (All-nil IsBody)))
 
 abbrev given_answers : List (List ℕ)
-given_answers = done_answer ∷ done_answer ∷ payload_answer one_path ∷ []
+given_answers = done_answer ∷ payload_answer one_path ∷ done_answer ∷ []
 
 answers_fit : All IsBody given_answers
 answers_fit =
-    All-cons IsBody done_answer (done_answer ∷ payload_answer one_path ∷ []) (lit≤ tt)
-    (All-cons IsBody done_answer (payload_answer one_path ∷ []) (lit≤ tt) (All-cons IsBody (payload_answer one_path) [] (lit≤ tt) (All-nil IsBody)))
+    All-cons IsBody done_answer (payload_answer one_path ∷ done_answer ∷ []) (lit≤ tt)
+    (All-cons IsBody (payload_answer one_path) (done_answer ∷ []) (lit≤ tt) (All-cons IsBody done_answer [] (lit≤ tt) (All-nil IsBody)))
 
 path_within : length (payload_answer one_path) ≤ longest_answer this_disk (fetch_body 0 0)
 unfolding record_len_of trees_of blocks_in level_for least_from
@@ -189,7 +199,7 @@ called = record {
   carried = (
     record {
       sent = record { fit = all_fit; wrote = refl };
-      received = record { count = refl; read = (answers_fit, refl); within = (lit≤ tt, (lit≤ tt, (path_within, tt))) };
+      received = record { count = refl; read = (answers_fit, refl); within = (lit≤ tt, (path_within, (lit≤ tt, tt))) };
     },
     refl,
   );
@@ -203,20 +213,17 @@ between_stamps : IsBetween known known stamped_dialer stamped_line (fetch_body 0
 between_stamps = record {
   known = record { may = first_stamp ∷ []; begun = 0; done = 0; current = second_stamp };
   sent = inl ((omega arith, (refl, omega arith)), refl);
-  first = [];
-  last = fetch_body 0 0 ∷ [];
-  all = refl;
   outcome = Ok given_answers;
   heard = answered stamped_messages given_answers;
   batch = called;
   comes = (
     payload_answer one_path ∷ [],
-    record { begun = done_answer; done = done_answer; first = []; last = payload_answer one_path ∷ []; all = refl; count_is = refl; left_is = refl; puts = (refl, refl) },
+    record { begun = done_answer; done = done_answer; all = refl; puts = (refl, refl) },
     (refl, (settled second_stamp, inr (not_full, refl), refl)),
   );
   left = inl (
     (0, record_text zero_key place.Begun second_stamp, omega arith, refl),
-    inl ((1, record_text zero_key place.Done second_stamp, omega arith, refl), inr ([], refl, refl)),
+    inr ([], refl, inl ((1, record_text zero_key place.Done second_stamp, omega arith, refl), refl)),
   );
   is_batch = (refl, [], tt, refl);
 }
@@ -228,4 +235,4 @@ agree t apart =
 
 pub stamped_batch_example : StampedBatchExample
 unfolding between_stamps
-stamped_batch_example = ((inr (Fetch 0 0, omega arith, refl, λ e. (let zero_is : 0 ≡ 254 = e in omega (arith, zero_is))), tt), agree, (between_stamps, leads))
+stamped_batch_example = ((inr (Fetch 0 0, omega arith, refl, λ e. (let zero_is : 0 ≡ 254 = e in omega (arith, zero_is))), tt), agree, between_stamps, leads)

@@ -38,7 +38,7 @@ left_out (e ∷ heard) exchanges bodies (inr (rest, is, more)) among others =
 
 pub stamped_batches_reach_the_host : {S : Type 0} (remaining contents : S → Option (List ℕ)) → StampedBatchesReachTheHost remaining contents
 stamped_batches_reach_the_host remaining contents d e line line' bodies came exchanges host other after bytes others agree unclosed known batch leads =
-    let all = between (stamp_put d.key Begun (next_stamp d.known)) batch.first (stamp_put d.key Done (next_stamp d.known)) batch.last in
+    let all = between (stamp_put d.key Begun (next_stamp d.known)) bodies (stamp_put d.key Done (next_stamp d.known)) in
     let run = stream_batches_reach_the_host remaining contents line line' all batch.outcome batch.heard host after bytes unclosed known leads batch.batch in
     trees_are_apart STAMP_TREE host other after batch.heard exchanges agree run.0
     (left_out batch.heard exchanges bodies batch.left (batch_among bodies (link_outcome came) exchanges batch.is_batch) others)

@@ -1,5 +1,5 @@
 -- A dialer whose host has to show stamps that it may have, and which puts a stamp there with each batch.
-use Rattle.std.specs.Prelude.{◌≡◌, ◌≢◌, ◌⊎◌, ℕ, ◌<◌, ◌^◌, List, [], ◌∷◌, ◌++◌, length, Option, Result, Ok, Err, MatchResult}
+use Rattle.std.specs.Prelude.{◌≡◌, ◌≢◌, ◌⊎◌, ℕ, ◌<◌, ◌^◌, List, [], ◌∷◌, ◌++◌, Option, Result, Ok, Err, MatchResult}
 use Rattle.oram_wire.specs.HostMessages.{done_answer, no_room_answer, payload_answer, put_body}
 use Rattle.oram_wire.specs.declared.host_messages.TheConstants.{GOOD, REFUSED}
 use Rattle.oram_session.specs.declared.link.LinkFault.{LinkFault}
@@ -41,21 +41,16 @@ ArePutFor begun done NoDisk = ⊥
 ArePutFor begun done OlderState = ⊥
 ArePutFor begun done OlderHost = ⊥
 
--- Of the answers to a batch between its stamps, the answers to the two stamps were taken out. The first of those stood at the front,
--- and the second one after `count` others.
-pub record TakesStamps {A : Type 0} (answers : List (List ℕ)) (count : ℕ) (result : Result A Trouble) (left : List (List ℕ)) : Type 0 where
+-- Of the answers to a batch between its stamps, the answers to the two stamps were taken out: the first answer and the last one.
+pub record TakesStamps {A : Type 0} (answers : List (List ℕ)) (result : Result A Trouble) (left : List (List ℕ)) : Type 0 where
   pub begun : List ℕ
   pub done : List ℕ
-  pub first : List (List ℕ)
-  pub last : List (List ℕ)
-  pub all : answers ≡ begun ∷ (first ++ done ∷ last)
-  pub count_is : length first ≡ count
-  pub left_is : left ≡ first ++ last
+  pub all : answers ≡ begun ∷ (left ++ done ∷ [])
   pub puts : MatchResult result (λ put. (begun ≡ done_answer) × (done ≡ done_answer)) (λ trouble. ArePutFor begun done trouble)
 
 -- the messages of a batch between its stamps
-abbrev pub between : List ℕ → List (List ℕ) → List ℕ → List (List ℕ) → List (List ℕ)
-between begun first done last = ((begun ∷ []) ++ first) ++ ((done ∷ []) ++ last)
+abbrev pub between : List ℕ → List (List ℕ) → List ℕ → List (List ℕ)
+between begun bodies done = begun ∷ (bodies ++ done ∷ [])
 
 -- a message that puts a record into the stamps' tree
 abbrev pub IsStampPut : List ℕ → Type 0
@@ -76,10 +71,10 @@ abbrev pub IsLearnt : Stamps → List (List ℕ) → Stamps → Type 0
 IsLearnt known given known' = (IsAmong no_room_answer given × (known' ≡ known)) ⊎ (¬ IsAmong no_room_answer given × (known' ≡ answered known))
 
 -- what a batch between its stamps comes to, given what is known once it is sent
-abbrev pub ComesTo : Destination → Stamps → ℕ → BatchOutcome → Attempt → Destination → Type 0
-ComesTo d known count (Ok answers) came e = (left : List (List ℕ)) × TakesStamps answers count came left
+abbrev pub ComesTo : Destination → Stamps → BatchOutcome → Attempt → Destination → Type 0
+ComesTo d known (Ok answers) came e = (left : List (List ℕ)) × TakesStamps answers came left
     × MatchResult came (λ given. (given ≡ left) × ((known' : Stamps) × IsLearnt known given known' × (e ≡ with_known d known'))) (λ trouble. e ≡ with_known d known)
-ComesTo d known count (Err fault) came e = (came ≡ Err (OutOfReach fault)) × (e ≡ with_known d known)
+ComesTo d known (Err fault) came e = (came ≡ Err (OutOfReach fault)) × (e ≡ with_known d known)
 
 -- for streams whose bytes `remaining` and `contents` give
 module _ {S : Type 0} (remaining contents : S → Option (List ℕ)) where
@@ -135,18 +130,14 @@ module _ {S : Type 0} (remaining contents : S → Option (List ℕ)) where
     pub says : came ≡ attempt_for outcome
     pub same : e ≡ d
 
-  -- The messages that are `first` go between those that put the batch's stamp at both places, and the others after them. The exchanges of
-  -- those two are left out.
+  -- All messages of the batch go between those that put its stamp at both places. The exchanges of these two are left out.
   pub record IsBetween (d : Destination) (line : Line) (bodies : List (List ℕ)) (came : Attempt) (exchanges : List Exchange) (e : Destination) (line' : Line) : Type 0 where
     pub known : Stamps
     pub sent : IsSent d.known known
-    pub first : List (List ℕ)
-    pub last : List (List ℕ)
-    pub all : bodies ≡ first ++ last
     pub outcome : BatchOutcome
     pub heard : List Exchange
-    pub batch : StreamBatch remaining contents line (between (stamp_put d.key Begun (next_stamp d.known)) first (stamp_put d.key Done (next_stamp d.known)) last) outcome heard line'
-    pub comes : ComesTo d known (length first) outcome came e
+    pub batch : StreamBatch remaining contents line (between (stamp_put d.key Begun (next_stamp d.known)) bodies (stamp_put d.key Done (next_stamp d.known))) outcome heard line'
+    pub comes : ComesTo d known outcome came e
     pub left : LeavesOut heard exchanges
     pub is_batch : IsBatch bodies (link_outcome came) exchanges
 

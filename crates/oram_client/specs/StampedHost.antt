@@ -30,7 +30,7 @@ StampedBatchesReachTheHost {S} remaining contents =
     (d e : Destination) (line line' : Connection S S) (bodies : List (List ℕ)) (came : Attempt) (exchanges : List Exchange) (host other after : Host) (bytes : List ℕ)
     → AllByRecursion (IsAboutAnother STAMP_TREE) bodies → AgreeBeside STAMP_TREE host other → line.closed ≡ false → remaining line.reader ≡ Some bytes
     → (batch : IsBetween remaining contents d line bodies came exchanges e line')
-    → LeadsToHost host (between (stamp_put d.key Begun (next_stamp d.known)) batch.first (stamp_put d.key Done (next_stamp d.known)) batch.last) bytes after
+    → LeadsToHost host (between (stamp_put d.key Begun (next_stamp d.known)) bodies (stamp_put d.key Done (next_stamp d.known))) bytes after
     → (rest : Host) × HostRun other exchanges rest × AgreeBeside STAMP_TREE after rest
 
 -- The messages of a core at work are about other trees than the stamps'.
@@ -55,11 +55,11 @@ abbrev pub second_stamp : Stamp
 second_stamp = next_stamp (settled first_stamp)
 
 abbrev pub stamped_messages : List (List ℕ)
-stamped_messages = between (stamp_put zero_key Begun second_stamp) [] (stamp_put zero_key Done second_stamp) (fetch_body 0 0 ∷ [])
+stamped_messages = between (stamp_put zero_key Begun second_stamp) (fetch_body 0 0 ∷ []) (stamp_put zero_key Done second_stamp)
 
--- what comes back: the stamps are put, and the path
+-- what comes back: the stamps are put, and the path comes between
 abbrev pub stamped_answers : List ℕ
-stamped_answers = frame done_answer ++ frame done_answer ++ frame (payload_answer one_path)
+stamped_answers = frame done_answer ++ frame (payload_answer one_path) ++ frame done_answer
 
 abbrev pub stamped_line : Connection (List ℕ) (List ℕ)
 stamped_line = connection stamped_answers [] this_disk
@@ -74,6 +74,5 @@ answered_dialer = record stamped_dialer { known = settled second_stamp }
 -- The premises of the law about batches between their stamps hold: the host with stamps, and one without them.
 abbrev pub StampedBatchExample : Type 0
 StampedBatchExample = AllByRecursion (IsAboutAnother STAMP_TREE) (fetch_body 0 0 ∷ []) × AgreeBeside STAMP_TREE (stamped_host first_stamp first_stamp) no_stamps
-    × ((batch : IsBetween known known stamped_dialer stamped_line (fetch_body 0 0 ∷ []) (Ok (payload_answer one_path ∷ [])) fetched_alone answered_dialer stamped_way)
-    × LeadsToHost (stamped_host first_stamp first_stamp) (between (stamp_put zero_key Begun second_stamp) batch.first (stamp_put zero_key Done second_stamp) batch.last)
-    stamped_answers (stamped_host second_stamp second_stamp))
+    × IsBetween known known stamped_dialer stamped_line (fetch_body 0 0 ∷ []) (Ok (payload_answer one_path ∷ [])) fetched_alone answered_dialer stamped_way
+    × LeadsToHost (stamped_host first_stamp first_stamp) stamped_messages stamped_answers (stamped_host second_stamp second_stamp)

@@ -13,7 +13,7 @@ use crate::dialer::{Dial, HostWatch, Limits, Trouble};
 use crate::trouble_reporter::TroubleReporter;
 use oram_host::HostRefusal;
 use oram_pipeline::PipelinedLink;
-use oram_rounds::BatchLink;
+use oram_rounds::{BatchLink, LinkRecords};
 use oram_session::LinkFault;
 use oram_wire::REFUSED;
 use std::alloc::{AllocError, Global};
@@ -48,8 +48,8 @@ struct Wait {
 ///
 /// A batch is tried until all of it is answered, or until the reconnect timeout has passed. If a batch over a connection has a
 /// fault, the link closes that connection and sends the whole batch over a new one; if the host has no room for one of the
-/// messages, it sends the whole batch again over the same connection. So a STORE that was refused is sent again before the
-/// messages after it count. If memory runs out, the batch isn't tried again: the link returns this fault at once, and stays
+/// messages, it sends the whole batch again over the same connection. So no answer counts before the host has carried out all
+/// STOREs of the batch. If memory runs out, the batch isn't tried again: the link returns this fault at once, and stays
 /// usable. The link pauses before each try but the first. Sending a batch again changes nothing at an honest host, which
 /// carries it out once more, in the same order and with the same result; a session repeats a message after a fault in the same
 /// manner. The reconnect timeout is time by the clock from the beginning of the batch: while nobody uses the link, it doesn't
@@ -437,12 +437,15 @@ impl<D: Dial, W: HostWatch> ReconnectLink<D, W> {
 }
 
 impl<D: Dial, W: HostWatch> BatchLink for ReconnectLink<D, W> {
+    ghost use Rattle.std.specs.Prelude.{[], ⊤};
     ghost use Rattle.oram_client.specs.BatchExchanges.{learnt_nothing_sent, links_are_batches};
     ghost use Rattle.oram_client.specs.Reconnect.{LinkBatch, LinkLearns};
 
     ghost batches = { λ l bodies o exchanges m. LinkBatch (dialer_kind D.opens D.fails D.pauses D.reads D.carries) D.learns l bodies o exchanges m };
 
-    ghost notes = { λ l. D.notes l.dialer };
+    ghost notes = { λ l. record { text = D.notes l.dialer; records = [] } };
+
+    ghost tells = { λ l old. ⊤ };
 
     ghost learns = { λ l check m. LinkLearns D.learns l check m };
 
@@ -459,6 +462,10 @@ impl<D: Dial, W: HostWatch> BatchLink for ReconnectLink<D, W> {
         self.dialer.note(alloc)
     }
 
+    fn records(&self) -> LinkRecords<'_> {
+        LinkRecords::none()
+    }
+
     fn learn_kept(&mut self, check: u64) {
         self.dialer.learn_kept(check);
     }
@@ -468,6 +475,10 @@ impl<D: Dial, W: HostWatch> BatchLink for ReconnectLink<D, W> {
 
     ghost learning_sends_nothing = { λ l m check learnt.
         learnt_nothing_sent (dialer_kind D.opens D.fails D.pauses D.reads D.carries) D.learns l m check learnt };
+
+    ghost batches_are_told = { λ l m bodies o exchanges old some h told. tt };
+
+    ghost learning_counts_anew = { λ l m check learnt. tt };
 }
 
 impl<D: Dial, W: HostWatch> PipelinedLink for ReconnectLink<D, W> {

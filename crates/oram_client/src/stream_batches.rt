@@ -12,7 +12,7 @@ ghost use Rattle.oram_pipeline.specs.Pipelines.{EndsBatch};
 ghost use Rattle.oram_client.specs.StreamBatches.{AreAdded, AreReceived, AreSent, AreUnframed, Carries, FailsToSendAll, ReceivesWithin, StopsAfter, StreamAsk, StreamBatch, connection};
 
 use crate::answer_lengths::AnswerLengths;
-use oram_rounds::BatchLink;
+use oram_rounds::{BatchLink, LinkRecords};
 use oram_session::LinkFault;
 use oram_sockets::WriteDuplex;
 use oram_wire::{FrameFault, LONGEST_BODY, WriteFault, next_frame_within, write};
@@ -404,14 +404,16 @@ impl<R: Read, W: Write> StreamBatches<R, W> {
 }
 
 impl<R: Read, W: WriteDuplex<R>> BatchLink for StreamBatches<R, W> {
-    ghost use Rattle.std.specs.Prelude.{◌≡◌, []};
+    ghost use Rattle.std.specs.Prelude.{◌≡◌, [], ⊤};
     ghost use Rattle.std.proofs.Common.{inl};
     ghost use Rattle.oram_client.specs.StreamBatches.{StreamBatch};
     ghost use Rattle.oram_client.specs.BatchExchanges.{streams_are_batches};
 
     ghost batches = { λ l bodies o exchanges m. StreamBatch R.remaining W.contents l bodies o exchanges m };
 
-    ghost notes = { λ l. [] };
+    ghost notes = { λ l. record { text = []; records = [] } };
+
+    ghost tells = { λ l old. ⊤ };
 
     ghost learns = { λ l check m. m ≡ l };
 
@@ -429,9 +431,17 @@ impl<R: Read, W: WriteDuplex<R>> BatchLink for StreamBatches<R, W> {
         Ok(Vec::new(alloc))
     }
 
+    fn records(&self) -> LinkRecords<'_> {
+        LinkRecords::none()
+    }
+
     fn learn_kept(&mut self, _check: u64) {}
 
     ghost are_batches = { λ l m bodies o exchanges h. streams_are_batches R.remaining W.contents l m bodies o exchanges h };
 
     ghost learning_sends_nothing = { λ l m check same. inl same };
+
+    ghost batches_are_told = { λ l m bodies o exchanges old some h told. tt };
+
+    ghost learning_counts_anew = { λ l m check same. tt };
 }

@@ -1,5 +1,5 @@
 //! Connections to the host of a disk, over TCP or over a Unix socket.
-ghost use Rattle.std.specs.Prelude.{◌≡◌, ◌≢◌, ◌+◌, ◌<◌, ◌++◌, List, OnOk, IfOk, IfErr, MatchBool, length, string_bytes};
+ghost use Rattle.std.specs.Prelude.{◌≡◌, ◌≢◌, ◌<◌, ◌++◌, List, OnOk, IfOk, IfErr, MatchBool, length, string_bytes};
 ghost use Rattle.oram_link_laws.specs.Runs.{Exchange};
 ghost use Rattle.oram_rounds.specs.Batches.{batch_outcome_of, texts};
 ghost use Rattle.oram_stamps.specs.Stamps.{shown_text};
@@ -203,14 +203,15 @@ fn are_put(begun: &[u8], done: &[u8]) -> Result<(), Trouble>
     Ok(())
 }
 
-/// Takes the answers to a batch's two stamps out of its answers: the first one, and the one after `count` others. Fails if the host
-/// hasn't put both.
-fn take_stamps(answers: &mut Vec<Vec<u8>>, count: usize) -> Result<(), Trouble>
-    requires { count + 1 < length answers.old.items }
-    ensures { TakesStamps (texts answers.old.items) count result (texts answers.new.items) }
+/// Takes the answers to a batch's two stamps out of its answers: the first one and the last one. Fails if the host hasn't put both.
+fn take_stamps(answers: &mut Vec<Vec<u8>>) -> Result<(), Trouble>
+    requires { 1 < length answers.old.items }
+    ensures { TakesStamps (texts answers.old.items) result (texts answers.new.items) }
 {
-    let done = answers.remove(count + 1);
     let begun = answers.remove(0);
+    let Some(done) = answers.pop() else {
+        unreachable!()
+    };
     are_put(&begun, &done)
 }
 
@@ -225,17 +226,16 @@ impl<R> TcpDialer<R> {
     }
 
     /// Learns what a batch between its stamps has come to, and returns what its caller receives: all answers but those to the two
-    /// stamps. `count` messages went between the stamps.
+    /// stamps.
     fn learn_outcome(
         &mut self,
         outcome: Result<Vec<Vec<u8>>, LinkFault>,
-        count: usize,
     ) -> Result<Vec<Vec<u8>>, Trouble>
-        requires { IfOk outcome (λ answers. count + 1 < length answers.items) }
-        ensures { ComesTo self.old self.old.known count (batch_outcome_of outcome) (attempt_of result) self.new }
+        requires { IfOk outcome (λ answers. 1 < length answers.items) }
+        ensures { ComesTo self.old self.old.known (batch_outcome_of outcome) (attempt_of result) self.new }
     {
         match outcome {
-            Ok(mut answers) => match take_stamps(&mut answers, count) {
+            Ok(mut answers) => match take_stamps(&mut answers) {
                 Ok(()) => {
                     self.learn_answers(&answers);
                     Ok(answers)
@@ -246,8 +246,8 @@ impl<R> TcpDialer<R> {
         }
     }
 
-    /// Sends a batch between the messages that put its stamp at both of the host's places. All answers but those to these two are
-    /// returned.
+    /// Sends a batch between the messages that put its stamp at both of the host's places: begun before all of its messages, and done
+    /// after them. All answers but those to these two are returned.
     fn carry_stamped<S: Read + WriteDuplex<S>, C: Clock>(
         &mut self,
         alloc: Global,
@@ -261,9 +261,8 @@ impl<R> TcpDialer<R> {
         let begun = stamp_message(alloc, &self.key, Place::Begun, &stamp)?;
         let done = stamp_message(alloc, &self.key, Place::Done, &stamp)?;
         self.known.send(alloc)?;
-        let count = first.len();
-        let outcome = line.call_between(alloc, &[begun], first, &[done], last);
-        self.learn_outcome(outcome, count)
+        let outcome = line.call_between(alloc, &[begun], first, last, &[done]);
+        self.learn_outcome(outcome)
     }
 }
 

@@ -7,7 +7,7 @@ ghost use Rattle.oram_client.specs.StreamBatches.{StreamAsk, StreamBatch, connec
 
 use crate::answer_lengths::AnswerLengths;
 use crate::stream_batches::StreamBatches;
-use oram_rounds::BatchLink;
+use oram_rounds::{BatchLink, LinkRecords};
 use oram_session::LinkFault;
 use oram_sockets::WriteDuplex;
 use std::alloc::{AllocError, Global};
@@ -208,14 +208,16 @@ impl<S: Read + Write, C: Clock> TimedLink<S, C> {
 }
 
 impl<S: Read + WriteDuplex<S>, C: Clock> BatchLink for TimedLink<S, C> {
-    ghost use Rattle.std.specs.Prelude.{◌≡◌, []};
+    ghost use Rattle.std.specs.Prelude.{◌≡◌, [], ⊤};
     ghost use Rattle.std.proofs.Common.{inl};
     ghost use Rattle.oram_client.specs.StreamBatches.{StreamBatch};
     ghost use Rattle.oram_client.specs.BatchExchanges.{streams_are_batches};
 
     ghost batches = { λ l bodies o exchanges m. StreamBatch S.remaining S.contents l bodies o exchanges m };
 
-    ghost notes = { λ l. [] };
+    ghost notes = { λ l. record { text = []; records = [] } };
+
+    ghost tells = { λ l old. ⊤ };
 
     ghost learns = { λ l check m. m ≡ l };
 
@@ -234,9 +236,17 @@ impl<S: Read + WriteDuplex<S>, C: Clock> BatchLink for TimedLink<S, C> {
         Ok(Vec::new(alloc))
     }
 
+    fn records(&self) -> LinkRecords<'_> {
+        LinkRecords::none()
+    }
+
     fn learn_kept(&mut self, _check: u64) {}
 
     ghost are_batches = { λ l m bodies o exchanges h. streams_are_batches S.remaining S.contents l m bodies o exchanges h };
 
     ghost learning_sends_nothing = { λ l m check same. inl same };
+
+    ghost batches_are_told = { λ l m bodies o exchanges old some h told. tt };
+
+    ghost learning_counts_anew = { λ l m check same. tt };
 }

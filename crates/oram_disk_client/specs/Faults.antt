@@ -13,7 +13,7 @@ use Rattle.oram_kept.specs.declared.opening.OpenError.TheVariants as text
 use Rattle.oram_pair.specs.Faults.{fault_of}
 use Rattle.oram_pair.specs.declared.faults.PairFault.{PairFault}
 use Rattle.oram_pair.specs.declared.faults.PairFault.TheVariants as pair
-use Rattle.oram_rounds.specs.Files.{IsWhole}
+use Rattle.oram_rounds.specs.Files.{IsWholeWith}
 
 -- a fault of this kind about the name with these bytes, or there was no memory for the name
 abbrev pub IsAbout : FaultKind → List ℕ → Fault → Type 0
@@ -23,9 +23,11 @@ IsAbout what name fault = ((copy : String Global) × (string_bytes copy ≡ name
 abbrev pub IsOfKind : FaultKind → Fault → Type 0
 IsOfKind what fault = ((text : String Global) × (fault ≡ About what text)) ⊎ (fault ≡ OutOfMemory)
 
--- The letters of a state of an older version: VIDLAQE, and the byte of a digit from 1 to 6.
+-- The letters of a state of an older version: VIDLAQE, and the byte of a digit from 1 to 6, or the letter C and the version 1.
 abbrev pub HasOlderLetters : List ℕ → Type 0
-HasOlderLetters file = (digit : ℕ) × (rest : List ℕ) × (48 < digit) × (digit < 55) × (file ≡ codes "VIDLAQE" ++ digit ∷ rest)
+HasOlderLetters file =
+    ((digit : ℕ) × (rest : List ℕ) × (48 < digit) × (digit < 55) × (file ≡ codes "VIDLAQE" ++ digit ∷ rest))
+    ⊎ ((rest : List ℕ) × (file ≡ codes "VIDLAQE" ++ 67 ∷ 1 ∷ rest))
 
 -- the kind of the fault for the files of a state that can't be made or opened, or none if memory ran out
 abbrev pub IsKindFor : PairFault → Option FaultKind → Type 0
@@ -65,12 +67,12 @@ pair_fault_of (opening.Keeper (keeper.Files text.NoText)) = pair.Damaged
 pair_fault_of (opening.Keeper keeper.NoTitle) = pair.NotAFile
 pair_fault_of (opening.Keeper keeper.OutOfMemory) = pair.OutOfMemory
 
--- The fault for bytes that are no process, in the file `name`: they don't begin with STOREs and a note, or they hold no core that can
--- be read with the disk's sealer.
-abbrev pub IsNoProcessFor : List ℕ → List ℕ → Fault → Type 0
-IsNoProcessFor process name fault =
-    ((¬ IsWhole process) × IsAbout kind.DamagedState name fault)
-    ⊎ ((IsWhole process × IsAbout kind.NotADisk name fault) ⊎ (fault ≡ OutOfMemory))
+-- The fault for bytes that are no process with these records, in the file `name`: they don't begin with STOREs and a note, or say another
+-- number of bytes of records; or they hold no core that can be read with the disk's sealer.
+abbrev pub IsNoProcessFor : List ℕ → List ℕ → List ℕ → Fault → Type 0
+IsNoProcessFor process records name fault =
+    ((¬ IsWholeWith process records) × IsAbout kind.DamagedState name fault)
+    ⊎ ((IsWholeWith process records × IsAbout kind.NotADisk name fault) ⊎ (fault ≡ OutOfMemory))
 
 -- the name of the settings, and what a value in them was when the disk was formatted
 abbrev pub was_text : List ℕ → List ℕ → List ℕ

@@ -8,6 +8,7 @@ ghost use Rattle.oram_core.specs.Core.{scheme_of};
 ghost use Rattle.oram_disk_client.specs.Faults.{HasOlderLetters, IsAbout, IsKindFor, IsNoProcessFor, IsOfKind, IsPairFault, pair_fault_of, was_text};
 ghost use Rattle.oram_disk_client.specs.Sealers as spec;
 ghost use Rattle.oram_geometry.specs.declared.Sizes.{Sizes};
+ghost use Rattle.oram_keeper.specs.Process.{found_text};
 ghost use Rattle.oram_rounds.specs.Batches.{texts};
 ghost use Rattle.oram_rounds.specs.Files.{IsFileOf, IsFileWith, check_of};
 ghost use Rattle.oram_semantics.specs.State.{State};
@@ -101,26 +102,30 @@ pub fn named(alloc: Global, kind: FaultKind, name: &str) -> Fault
     }
 }
 
-/// Decodes the core and the STOREs that wait in `process`, which the file `name` holds. Fails with
-/// [`FaultKind::DamagedState`] if `process` doesn't begin with STOREs and a note, and with [`FaultKind::NotADisk`] if it holds no core
-/// with this sealer.
+/// Decodes the core and the STOREs that wait in `process`, which the file `name` holds, with `records` behind it. Fails with
+/// [`FaultKind::DamagedState`] if `process` doesn't begin with STOREs and a note, or says another number of bytes of records, and with
+/// [`FaultKind::NotADisk`] if it holds no core with this sealer.
 fn process_in<S: Sealer>(
     alloc: Global,
     sealer: S,
     process: &[u8],
+    records: &[u8],
     name: &str,
 ) -> Result<KeptCore<S>, Fault>
     ensures sealer { IfOk result (λ kept. kept.core.sealer ≡ sealer) }
-    ensures ok { IfOk result (λ kept. IsFileWith (scheme_of S.cipher kept.core) process.now (texts kept.stores.items) kept.note.items kept.core.state) }
-    ensures check { IfOk result (λ kept. kept.check ≡ check_of (scheme_of S.cipher kept.core) (texts kept.stores.items) kept.note.items kept.core.state) }
+    ensures ok { IfOk result (λ kept. IsFileWith (scheme_of S.cipher kept.core) (process.now ++ records.now) (texts kept.stores.items)
+        (record { text = kept.note.items; records = records.now }) kept.core.state) }
+    ensures check { IfOk result (λ kept. kept.check ≡ check_of (scheme_of S.cipher kept.core) (texts kept.stores.items)
+        (record { text = kept.note.items; records = records.now }) kept.core.state) }
     // It returns the process that was kept, unless memory runs out.
-    ensures same { (d : Sizes) (stores : List (List ℕ)) (core : State) → (it : IsFileOf (S.cipher sealer).overhead d process.now stores core)
-        → IfOk result (λ kept. (texts kept.stores.items ≡ stores) × (kept.core.device ≡ d) × (kept.core.state ≡ core) × (kept.note.items ≡ it.note)) }
-    ensures only { (d : Sizes) (stores : List (List ℕ)) (core : State) → IsFileOf (S.cipher sealer).overhead d process.now stores core
-        → IfErr result (λ fault. fault ≡ Fault.OutOfMemory) }
-    ensures fault { IfErr result (IsNoProcessFor process.now name.now) }
+    ensures same { (d : Sizes) (stores : List (List ℕ)) (core : State) → (it : IsFileOf (S.cipher sealer).overhead d (process.now ++ records.now) stores core)
+        → it.note.records ≡ records.now
+        → IfOk result (λ kept. (texts kept.stores.items ≡ stores) × (kept.core.device ≡ d) × (kept.core.state ≡ core) × (kept.note.items ≡ it.note.text)) }
+    ensures only { (d : Sizes) (stores : List (List ℕ)) (core : State) → (it : IsFileOf (S.cipher sealer).overhead d (process.now ++ records.now) stores core)
+        → it.note.records ≡ records.now → IfErr result (λ fault. fault ≡ Fault.OutOfMemory) }
+    ensures fault { IfErr result (IsNoProcessFor process.now records.now name.now) }
 {
-    match decode_kept(alloc, sealer, process) {
+    match decode_kept(alloc, sealer, process, records) {
         Ok(kept) => Ok(kept),
         Err(KeptCoreFault::OutOfMemory) => Err(Fault::OutOfMemory),
         Err(KeptCoreFault::Torn) => Err(named(alloc, FaultKind::DamagedState, name)),
@@ -195,7 +200,10 @@ fn kind_of(fault: PairFault) -> Option<FaultKind>
 fn has_older_letters(letters: &[u8]) -> bool
     ensures { IsTrue result ↔ HasOlderLetters letters.now }
 {
-    matches!(letters.strip_prefix(b"VIDLAQE"), Some([b'1'..=b'6', ..]))
+    matches!(
+        letters.strip_prefix(b"VIDLAQE"),
+        Some([b'1'..=b'6', ..] | [b'C', 1, ..])
+    )
 }
 
 /// Returns the fault for the files of the state `state` that can't be made or opened.
@@ -349,24 +357,30 @@ pub fn process_for<S: Sealer>(
     sealer: S,
 ) -> Result<KeptCore<S>, Fault>
     ensures sealer { IfOk result (λ process. process.core.sealer ≡ sealer) }
-    ensures ok { IfOk result (λ process. IsFileWith (scheme_of S.cipher process.core) kept.now.process.text.items (texts process.stores.items) process.note.items process.core.state) }
-    ensures check { IfOk result (λ process. process.check ≡ check_of (scheme_of S.cipher process.core) (texts process.stores.items) process.note.items process.core.state) }
+    ensures ok { IfOk result (λ process. IsFileWith (scheme_of S.cipher process.core) (found_text kept.now.process) (texts process.stores.items)
+        (record { text = process.note.items; records = kept.now.process.records.items }) process.core.state) }
+    ensures check { IfOk result (λ process. process.check ≡ check_of (scheme_of S.cipher process.core) (texts process.stores.items)
+        (record { text = process.note.items; records = kept.now.process.records.items }) process.core.state) }
     ensures agrees { IfOk result (λ process. IsFirstDifference (AgreeAt settings.now process.core.device (spec.sealing_of kept.now.head.sealer)) fixed_keys None) }
     // Only the settings of a process can have changed. The fault names the first key at which they differ, and what it was.
-    ensures fault { IfErr result (λ fault. IsNoProcessFor kept.now.process.text.items (string_bytes settings.now.state) fault
+    ensures fault { IfErr result (λ fault. IsNoProcessFor kept.now.process.text.items kept.now.process.records.items (string_bytes settings.now.state) fault
         ⊎ ((process : KeptCore S) × (key : FixedKey)
         × IsAbout (FaultKind.Changed key) (was_text name.now (formatted.value_text process.core.device (spec.sealing_of kept.now.head.sealer) key)) fault
-        × IsFileWith (scheme_of S.cipher process.core) kept.now.process.text.items (texts process.stores.items) process.note.items process.core.state
+        × IsFileWith (scheme_of S.cipher process.core) (found_text kept.now.process) (texts process.stores.items)
+        (record { text = process.note.items; records = kept.now.process.records.items }) process.core.state
         × IsFirstDifference (AgreeAt settings.now process.core.device (spec.sealing_of kept.now.head.sealer)) fixed_keys (Some key))) }
     // It returns all of a process that was kept, unless memory runs out or the settings differ.
-    ensures same { (d : Sizes) (stores : List (List ℕ)) (core : State) → (it : IsFileOf (S.cipher sealer).overhead d kept.now.process.text.items stores core)
-        → IfOk result (λ process. (texts process.stores.items ≡ stores) × (process.core.device ≡ d) × (process.core.state ≡ core) × (process.note.items ≡ it.note)) }
-    ensures changed { (d : Sizes) (stores : List (List ℕ)) (core : State) → IsFileOf (S.cipher sealer).overhead d kept.now.process.text.items stores core
-        → IfErr result (λ fault. (fault ≡ Fault.OutOfMemory) ⊎ ((key : FixedKey)
+    ensures same { (d : Sizes) (stores : List (List ℕ)) (core : State) → (it : IsFileOf (S.cipher sealer).overhead d (found_text kept.now.process) stores core)
+        → it.note.records ≡ kept.now.process.records.items
+        → IfOk result (λ process. (texts process.stores.items ≡ stores) × (process.core.device ≡ d) × (process.core.state ≡ core) × (process.note.items ≡ it.note.text)) }
+    ensures changed { (d : Sizes) (stores : List (List ℕ)) (core : State) → (it : IsFileOf (S.cipher sealer).overhead d (found_text kept.now.process) stores core)
+        → it.note.records ≡ kept.now.process.records.items → IfErr result (λ fault. (fault ≡ Fault.OutOfMemory) ⊎ ((key : FixedKey)
         × IsAbout (FaultKind.Changed key) (was_text name.now (formatted.value_text d (spec.sealing_of kept.now.head.sealer) key)) fault
         × IsFirstDifference (AgreeAt settings.now d (spec.sealing_of kept.now.head.sealer)) fixed_keys (Some key))) }
 {
-    let process = process_in(alloc, sealer, &kept.process.text, settings.state.as_str())?;
+    let found = &kept.process;
+    let state = settings.state.as_str();
+    let process = process_in(alloc, sealer, &found.text, &found.records, state)?;
     let sealing = sealing_of(kept.head.sealer);
     check_settings(alloc, settings, process.core.device(), sealing, name)?;
     Ok(process)

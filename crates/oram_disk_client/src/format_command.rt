@@ -16,7 +16,7 @@ use oram_geometry::Device;
 use oram_keeper::{KeepFailure, check_free, make_kept};
 use oram_pair::PairFault;
 use oram_redo::RedoError;
-use oram_rounds::encode_kept;
+use oram_rounds::{LinkRecords, encode_kept};
 use oram_settings::{DiskSettings, LongWork, SECTOR, begun_text, sectors_complaint, stored_bytes};
 use oram_sockets::{Connection, connect_to};
 use oram_stamps::{Known, encode_note};
@@ -128,11 +128,11 @@ fn format_with<S: Sealer>(
     let alloc = rt.alloc();
     let core = formatted(rt, device, sealer, keys, settings)?;
     let note = encode_note(alloc, &Known::fresh(alloc)?)?;
-    let text = encode_kept(alloc, &[], &note, &core)?;
+    let text = encode_kept(alloc, &[], &note, &[], &core)?;
     let state = settings.state.as_str();
     let (title, process) = (
         title_of(head),
-        text.with_table(core.table(), core.changes()),
+        text.with_table(core.table(), core.changes(), LinkRecords::none()),
     );
     match make_kept(rt, alloc, state, &title, &process) {
         Ok(()) => Ok(()),

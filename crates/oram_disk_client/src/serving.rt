@@ -2,7 +2,7 @@
 
 ghost use Rattle.std.specs.Prelude.{◌≡◌, ◌∷◌, [], IfOk, OnOk, string_bytes};
 ghost use Rattle.oram_client.specs.DiskHead.{behind_letters};
-ghost use Rattle.oram_keeper.specs.Process.{IsFoundIn, IsTextOf, kept_table};
+ghost use Rattle.oram_keeper.specs.Process.{IsFoundIn, IsTextOf, found_text, kept_records, kept_table};
 ghost use Rattle.oram_kept.specs.Text.{Parts};
 ghost use Rattle.oram_disk_client.specs.Serving.{IsLinkStop, IsStopFault, Seals, failure_of};
 ghost use Rattle.oram_geometry.specs.Sizes.{trees_of};
@@ -175,7 +175,9 @@ impl UnfailedDisk {
     /// settings, what it keeps outlives a loss of power.
     pub fn open_state(&self, rt: &HostRuntime) -> Result<(PairKeeper<SystemPair>, KeptDisk), Fault>
         // Nothing but this process is read back by the keeper.
-        ensures process { IfOk result (λ opened. (p : Parts) × (opened.0.keeper.texts ≡ p ∷ []) × IsTextOf (behind_letters opened.1.head []) opened.1.process.text.items p) }
+        ensures process { IfOk result (λ opened. (p : Parts) × (opened.0.keeper.texts ≡ p ∷ []) × IsTextOf (behind_letters opened.1.head []) (found_text opened.1.process) p) }
+        // Its records are those that the keeper kept last.
+        ensures records { IfOk result (λ opened. opened.1.process.records.items ≡ kept_records opened.0) }
         // Its table is the one that the keeper kept last.
         ensures table { IfOk result (λ opened. (p : Parts) × IsFoundIn opened.1.process p × (p.table ≡ kept_table opened.0)) }
     {

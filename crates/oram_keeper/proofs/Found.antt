@@ -1,13 +1,13 @@
 -- The table in the text of a process that was found.
-use Rattle.std.proofs.Common.{◌≡◌, ℕ, suc, ◌+◌, ◌*◌, ◌<◌, ◌≤◌, ◌^◌, List, [], ◌∷◌, ◌++◌, length, take, drop, get_or, arith, refl, sym, ap, ◌∙◌, append-nil, append_assoc, take_all, drop_at}
+use Rattle.std.proofs.Common.{◌≡◌, ℕ, suc, ◌+◌, ◌*◌, ◌<◌, ◌≤◌, ◌^◌, List, [], ◌∷◌, ◌++◌, length, take, drop, get_or, arith, sym, ap, ◌∙◌, append-nil, append_assoc, take_all, drop_at}
 use Rattle.std.specs.Prelude.{All}
 use Rattle.std.specs.List.{flat_map}
 use Rattle.std.proofs.Math.Seq.{take-suc}
 use Rattle.std.proofs.lemmas.Grind.{flat_map-append}
 use Rattle.oram_kept.specs.Text.{Parts, number_bytes}
-use Rattle.oram_kept.proofs.One.{front_one, numbers_one}
+use Rattle.oram_kept.proofs.Lists.{front_one}
+use Rattle.oram_kept.proofs.One.{numbers_one}
 use Rattle.oram_kept.proofs.Tables.{length-numbers}
-use Rattle.oram_state.specs.StateBytes.{with_table}
 use Rattle.oram_keeper.specs.Process.{IsFoundIn}
 use Rattle.oram_keeper.specs.declared.found_process.FoundProcess.{FoundProcess}
 use Rattle.oram_keeper.proofs.Texts.{same_table}

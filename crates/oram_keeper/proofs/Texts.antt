@@ -32,9 +32,13 @@ number_pushed before table text bytes new k within was is grown =
     grown ∙ ap (λ (l : List ℕ). l ++ bytes) was ∙ append_assoc before (table_text (take k table)) bytes ∙ ap (λ (l : List ℕ). before ++ l) (sym more)
 
 -- the text of a process with this title
-pub text_is : (title before table after : List ℕ) (p : Parts) → p ≡ record { before = title ++ before; table = table; after = after } → text_of p ≡ title ++ with_table before table after
-text_is title before table after p is =
-    ap text_of is ∙ append_assoc title before (flat_map number_bytes table ++ after) ∙ ap (λ (l : List ℕ). title ++ (before ++ (l ++ after))) (same_table table)
+pub text_is : (title before table after records : List ℕ) (p : Parts) → p ≡ record { before = title ++ before; table = table; after = after; records = records }
+    → text_of p ≡ title ++ (with_table before table after ++ records)
+text_is title before table after records p is =
+    ap text_of is ∙ in_five title before (flat_map number_bytes table) after records ∙ ap (λ (l : List ℕ). title ++ ((before ++ (l ++ after)) ++ records)) (same_table table)
+  where
+    in_five : (a b c d e : List ℕ) → (a ++ b) ++ (c ++ (d ++ e)) ≡ a ++ ((b ++ (c ++ d)) ++ e)
+    in_five a b c d e = simp append_assoc
 
 -- a text is that of one process
 pub one_behind : (title p q : List ℕ) → title ++ p ≡ title ++ q → p ≡ q

@@ -35,12 +35,21 @@ MayReadBack k process = IsAmong k.title process k.keeper.texts
 abbrev pub kept_table : {F : Type 0} → PairKeeperState F → List ℕ
 kept_table k = k.keeper.kept.table
 
--- The table of a kept text stands in the text of a process that was found, at the place that is said of it.
+-- the records of the text that was kept last
+abbrev pub kept_records : {F : Type 0} → PairKeeperState F → List ℕ
+kept_records k = k.keeper.kept.records
+
+-- the text of a process that was found, with its records
+abbrev pub found_text : FoundProcess → List ℕ
+found_text found = found.text.items ++ found.records.items
+
+-- The table of a kept text stands in the text of a process that was found, at the place that is said of it, and the records behind that text.
 pub record IsFoundIn (found : FoundProcess) (p : Parts) : Type 0 where
   pub before : List ℕ
   pub text : found.text.items ≡ with_table before p.table p.after
   pub place : length before ≡ found.table_at
   pub count : length p.table ≡ found.table_len
+  pub records : found.records.items ≡ p.records
   pub numbers : All (λ n. n < 2 ^ 32) p.table
 
 -- Files hold a text that has fewer bytes before its table than a title.

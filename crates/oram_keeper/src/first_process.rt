@@ -2,7 +2,7 @@
 ghost use Rattle.std.specs.Prelude.{◌≡◌, ◌++◌};
 ghost use Rattle.oram_keeper.specs.Process.{HoldsFirst};
 
-use oram_kept::{ChangedNumbers, FORMAT, TextParts, write_first};
+use oram_kept::{ChangedNumbers, ChangedRecords, FORMAT, TextParts, write_first};
 use oram_pair::{Fill, PairFault, PairFormat};
 use oram_redo::{FilePair, RedoError};
 use oram_rounds::KeptParts;
@@ -31,6 +31,8 @@ impl Fill for FirstProcess<'_> {
             table: self.text.table,
             changes: ChangedNumbers::Any,
             after: self.text.after,
+            records: self.text.records.bytes,
+            changed_records: ChangedRecords::Any,
         };
         match write_first(self.alloc, files, &parts) {
             Ok(()) => Ok(()),

@@ -7,7 +7,10 @@ ghost use Rattle.oram_kept.specs.Text.{Parts, number_bytes};
 /// The text of a process that was found in files, and where its table stands.
 #[derive(Drop)]
 pub struct FoundProcess {
+    /// The text up to its records.
     pub text: Vec<u8>,
+    /// The records of the process's link, with which its text ends.
+    pub records: Vec<u8>,
     /// How many bytes of the text stand before its table.
     pub table_at: usize,
     /// How many numbers the table has.

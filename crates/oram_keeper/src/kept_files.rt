@@ -1,6 +1,6 @@
 //! The files that keep a disk's process: how they are made, opened, and read beside a process that has them open.
 ghost use Rattle.std.specs.Prelude.{◌≡◌, ◌∷◌, [], IfOk, length};
-ghost use Rattle.oram_keeper.specs.Process.{IsFoundIn, IsTextOf, kept_table};
+ghost use Rattle.oram_keeper.specs.Process.{IsFoundIn, IsTextOf, found_text, kept_records, kept_table};
 ghost use Rattle.oram_kept.specs.Text.{Parts};
 
 use crate::first_process::FirstProcess;
@@ -71,8 +71,9 @@ pub fn open_kept(
     title_len: usize,
     syncs: Syncs,
 ) -> Result<(PairKeeper<SystemPair>, FoundProcess), OpenFault>
-    ensures text { IfOk result (λ opened. (p : Parts) × (opened.0.keeper.texts ≡ p ∷ []) × IsTextOf opened.0.title opened.1.text.items p) }
+    ensures text { IfOk result (λ opened. (p : Parts) × (opened.0.keeper.texts ≡ p ∷ []) × IsTextOf opened.0.title (found_text opened.1) p) }
     ensures table { IfOk result (λ opened. (p : Parts) × IsFoundIn opened.1 p × (p.table ≡ kept_table opened.0)) }
+    ensures records { IfOk result (λ opened. opened.1.records.items ≡ kept_records opened.0) }
     ensures title { IfOk result (λ opened. length opened.0.title ≡ title_len) }
 {
     let pair = open_files(rt, alloc, path, &FORMAT)?;

@@ -1,22 +1,23 @@
 //! A keeper that keeps the process of a disk in a pair of files.
 ghost use Rattle.std.specs.Prelude.{◌≡◌, ◌⊎◌, ◌∷◌, [], ℕ, List, length, IfErr, IfOk, OnErr, OnOk, true};
 ghost use Rattle.oram_core.specs.Changes.{AreTold};
-ghost use Rattle.oram_keeper.specs.Process.{IsFoundIn, IsNotRead, IsTextOf, MayReadBack, kept_table};
+ghost use Rattle.oram_keeper.specs.Process.{IsFoundIn, IsNotRead, IsTextOf, MayReadBack, found_text, kept_records, kept_table};
 ghost use Rattle.oram_kept.specs.Keeper.{FindsOneOf, Knows};
 ghost use Rattle.oram_kept.specs.Kept.{Finds, bounds};
 ghost use Rattle.oram_kept.specs.Opening.{FindsSame};
-ghost use Rattle.oram_kept.specs.Pages.{AreTold as AreToldNumbers};
+ghost use Rattle.oram_kept.specs.Pages.{AreTold as AreToldNumbers, AreToldRecords, StayInPlace};
 ghost use Rattle.oram_kept.specs.Text.{Parts};
 ghost use Rattle.oram_redo.specs.FilePair.{ComesAfter, LeavesOnly};
 ghost use Rattle.oram_rounds.specs.KeptParts.{text_of};
+ghost use Rattle.oram_rounds.specs.LinkNotes.{AreRecordsTold};
 ghost use Rattle.oram_state.specs.StateBytes.{with_table};
 
 use crate::found_process::{FoundProcess, fit};
 use oram_core::TableChanges;
-use oram_kept::{ChangedNumbers, OpenError, Text, TextKeeper, TextParts};
+use oram_kept::{ChangedNumbers, ChangedRecords, OpenError, Text, TextKeeper, TextParts};
 use oram_pair::Generation;
 use oram_redo::{FilePair, RedoError};
-use oram_rounds::{KeepError, Keeper, KeptParts};
+use oram_rounds::{KeepError, Keeper, KeptParts, RecordChanges};
 use std::alloc::{AllocError, Global};
 use std::fmt;
 use std::marker::Model;
@@ -121,6 +122,21 @@ fn changed_numbers(changes: TableChanges<'_>) -> ChangedNumbers<'_>
     }
 }
 
+/// Returns the records of a text that have changed where these entries of its table and these records have. If any entry may have, so may any
+/// record: then the table may have another length than before, and the records another place.
+fn changed_records<'a>(changes: TableChanges<'a>, records: RecordChanges<'a>) -> ChangedRecords<'a>
+    ensures told { (old new : List ℕ) → AreRecordsTold records.entry old new → AreToldRecords result old new }
+    ensures place { (old new : List ℕ) → AreTold changes.entry old new → StayInPlace result old new }
+{
+    match (changes, records) {
+        (TableChanges::Any, _) | (_, RecordChanges::Any) => ChangedRecords::Any,
+        (TableChanges::Blocks(_), RecordChanges::Records { len, numbers }) => ChangedRecords::At {
+            record_len: len,
+            indexes: numbers,
+        },
+    }
+}
+
 impl<F: FilePair + Drop> PairKeeper<F> {
     /// Opens the files of a process, as a crash or an end has left them, and returns the process, too. The first `title_len` bytes of what
     /// the files hold are the title. Their fronts say this generation of the log.
@@ -131,10 +147,12 @@ impl<F: FilePair + Drop> PairKeeper<F> {
         title_len: usize,
     ) -> Result<(PairKeeper<F>, FoundProcess), KeeperFault>
         // The text is the one that the files hold, and the only one that is read back from then on.
-        ensures text { IfOk result (λ opened. (p : Parts) × (opened.0.keeper.texts ≡ p ∷ []) × IsTextOf opened.0.title opened.1.text.items p
+        ensures text { IfOk result (λ opened. (p : Parts) × (opened.0.keeper.texts ≡ p ∷ []) × IsTextOf opened.0.title (found_text opened.1) p
             × (F.model.is_honest opened.0.keeper.kept.files → Finds bounds p (F.model.seen files))) }
         // Its table is the one that was kept last.
         ensures table { IfOk result (λ opened. (p : Parts) × IsFoundIn opened.1 p × (p.table ≡ kept_table opened.0)) }
+        // Its records are those that were kept last.
+        ensures records { IfOk result (λ opened. opened.1.records.items ≡ kept_records opened.0) }
         ensures title { IfOk result (λ opened. length opened.0.title ≡ title_len) }
         ensures knows { IfOk result (λ opened. F.model.is_honest opened.0.keeper.kept.files → Knows F.model opened.0.keeper) }
 
@@ -144,7 +162,11 @@ impl<F: FilePair + Drop> PairKeeper<F> {
         ensures err { IfErr result (IsNotRead F.model title_len files) }
     {
         let (texts, text) = TextKeeper::open(alloc, files, generation)?;
-        let Text { table, around } = text;
+        let Text {
+            table,
+            around,
+            records,
+        } = text;
         if around.before.len() < title_len {
             return Err(KeeperFault::NoTitle);
         }
@@ -153,6 +175,7 @@ impl<F: FilePair + Drop> PairKeeper<F> {
         fit(numbers);
         let found = FoundProcess {
             text: process_text(alloc, rest, numbers, &around.after)?,
+            records,
             table_at: rest.len(),
             table_len: numbers.len(),
         };
@@ -181,21 +204,26 @@ impl<F: FilePair> PairKeeper<F> {
 }
 
 impl<F: FilePair> Keeper for PairKeeper<F> {
-    ghost use Rattle.oram_keeper.specs.Process.{MayReadBack, kept_table};
+    ghost use Rattle.oram_keeper.specs.Process.{MayReadBack, kept_records, kept_table};
 
     ghost reads_back = { MayReadBack };
 
     ghost kept_table = { kept_table };
 
-    /// Keeps the process in the files, and writes of its table only the pages of the entries that may have changed. A crash at any
+    ghost kept_records = { kept_records };
+
+    /// Keeps the process in the files, and writes of its table and of its records only the pages that may have changed. A crash at any
     /// moment leaves it or one that might have been found before, whole.
     fn keep(&mut self, text: &KeptParts<'_>) -> Result<(), KeepError>
-        requires { AreTold text.now.changes (kept_table self.old) text.now.table.now }
+        requires table { AreTold text.now.changes (kept_table self.old) text.now.table.now }
+        requires records { AreRecordsTold text.now.records.changes (kept_records self.old) text.now.records.bytes.now }
         ensures there { OnOk result (MayReadBack self.new (text_of text.now)) }
         ensures only { OnOk result ((bytes : List ℕ) → MayReadBack self.new bytes → bytes ≡ text_of text.now) }
         ensures failed { OnErr result ((bytes : List ℕ) → MayReadBack self.new bytes → (bytes ≡ text_of text.now) ⊎ MayReadBack self.old bytes) }
         ensures table { OnOk result (kept_table self.new ≡ text.now.table.now) }
         ensures table_before { OnErr result (kept_table self.new ≡ kept_table self.old) }
+        ensures records { OnOk result (kept_records self.new ≡ text.now.records.bytes.now) }
+        ensures records_before { OnErr result (kept_records self.new ≡ kept_records self.old) }
         ensures knows { Knows F.model self.old.keeper → Knows F.model self.new.keeper }
         ensures any_moment { Knows F.model self.old.keeper → (p : Parts) × IsTextOf self.old.title (text_of text.now) p
             × LeavesOnly F.model self.old.keeper.kept.files self.new.keeper.kept.files (FindsOneOf (p ∷ self.old.keeper.texts)) }
@@ -209,6 +237,8 @@ impl<F: FilePair> Keeper for PairKeeper<F> {
             table: text.table,
             changes: changed_numbers(text.changes),
             after: text.after,
+            records: text.records.bytes,
+            changed_records: changed_records(text.changes, text.records.changes),
         };
         match self.texts.keep(&parts) {
             Ok(()) => Ok(()),

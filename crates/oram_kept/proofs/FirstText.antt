@@ -2,9 +2,10 @@
 use Rattle.std.proofs.Common.{◌≡◌, inl, ℕ, ◌+◌, ◌<◌, List, [], ◌∷◌, length, refl, sym, ap, ◌∙◌, subst, arith}
 use Rattle.oram_kept.specs.Kept.{bounds}
 use Rattle.oram_kept.specs.Laws.{WrittenFilesHold}
-use Rattle.oram_kept.specs.Layout.{HasTable, Holds, after_at, before_at, pages_for}
-use Rattle.oram_kept.specs.Pages.{AreWithin, batch_for}
+use Rattle.oram_kept.specs.Layout.{Holds, after_at, before_at}
+use Rattle.oram_kept.specs.Pages.{batch_for}
 use Rattle.oram_kept.specs.Text.{Parts}
+use Rattle.oram_kept.proofs.Renewed.{AreWithin}
 use Rattle.oram_redo.specs.Content.{Content}
 use Rattle.oram_redo.specs.FilePair.{FileModel}
 use Rattle.oram_redo.specs.Log.{IsLog, Patch, put_all}
@@ -12,12 +13,8 @@ use Rattle.oram_redo.specs.declared.file_pair.FileKind.TheVariants.{Log, Records
 use Rattle.oram_redo.proofs.Heal.{put_all-append, put_all_spares}
 use Rattle.oram_redo.proofs.Moments.{same_content}
 
--- a table without numbers has no pages
-pub no_table : (c : Content) → HasTable [] c
-no_table c i within = absurd (omega (arith, within))
-
 -- the front of the file stays as it is
-pub front_stays : (p : Parts) (title rest : List ℕ) (pages : List Patch) (head : List ℕ) (c : Content) → AreWithin (pages_for (length p.table)) pages
+pub front_stays : (p : Parts) (title rest : List ℕ) (pages : List Patch) (head : List ℕ) (c : Content) → AreWithin 8192 (before_at p) pages
     → (i : ℕ) → i < 4096 → put_all (batch_for pages p title rest head) c i ≡ c i
 front_stays p title rest pages head c within i below =
     ap (λ (d : Content). d i) (put_all-append pages last c)

@@ -3,14 +3,17 @@ use Rattle.std.proofs.Common.{◌≡◌, inl, inr, get_or, take, ℕ, suc, ◌+�
 use Rattle.std.specs.Prelude.{All, Result, Ok, Err, OnOk}
 use Rattle.std.specs.List.{flat_map}
 use Rattle.oram_kept.specs.Kept.{Finds, FindsEither, Keeps, KeptValue, StandsEither, bounds}
-use Rattle.oram_kept.specs.Layout.{HasTable, HaveRoom, Holds, after_at, before_at, eight_bytes, head_of, lengths, numbers_on, page_at, page_of, pages_for, check_of}
-use Rattle.oram_kept.specs.Pages.{AreWithin, Ends, batch_for}
-use Rattle.oram_kept.specs.Text.{Parts}
+use Rattle.oram_kept.specs.Layout.{HasRecords, HasTable, HaveRoom, Holds, after_at, before_at, bytes_on, check_of, eight_bytes, head_of, lengths, page_at, page_of, pages_for, records_at}
+use Rattle.oram_kept.specs.Pages.{AreTold, AreToldRecords, AreWritten, StayInPlace, batch_for}
+use Rattle.oram_kept.specs.Text.{Parts, table_bytes}
+use Rattle.oram_kept.specs.declared.text.ChangedNumbers.{ChangedNumbers}
+use Rattle.oram_kept.specs.declared.text.ChangedRecords.{ChangedRecords}
 use Rattle.std.proofs.lemmas.Bool.{cases_eq}
 use Rattle.std.proofs.lemmas.Bool.Decides.{nat_tests}
 use Rattle.std.proofs.lemmas.List.Elements.{All-append, All-cons}
-use Rattle.oram_kept.proofs.Tables.{length-page-within}
-use Rattle.oram_kept.proofs.Written.{all_one}
+use Rattle.oram_kept.proofs.Lists.{all_one}
+use Rattle.oram_kept.proofs.Renewed.{AreWithin, Ends, records_written, table_written}
+use Rattle.oram_kept.proofs.Tables.{length-on, length-numbers}
 use Rattle.oram_redo.specs.Content.{Agrees, Content, Has, put}
 use Rattle.oram_redo.specs.FilePair.{Contents, FileModel, LeavesOnly, WritesNothing}
 use Rattle.oram_redo.specs.Redo.{IsCrashConsistent, bounds_of}
@@ -34,9 +37,9 @@ length-eights : (ns : List ℕ) → length (flat_map eight_bytes ns) ≡ 8 * len
 length-eights [] = refl
 length-eights (n ∷ ns) = omega (arith, length-append (eight_bytes n) (flat_map eight_bytes ns), length-eight n, length-eights ns)
 
-pub length-head : (p : Parts) → length (head_of p) ≡ 40
+pub length-head : (p : Parts) → length (head_of p) ≡ 48
 length-head p =
-    let said = length-eights (length p.before ∷ length p.table ∷ length p.after ∷ check_of p.before p.after ∷ []) in
+    let said = length-eights (length p.before ∷ length p.table ∷ length p.after ∷ length p.records ∷ check_of p.before p.after ∷ []) in
     omega (arith, length-append (lengths p) (check_bytes (lengths p)), length-check_bytes (lengths p), said)
 
 -- two pieces that are put one behind the other are put as one
@@ -62,20 +65,25 @@ put_twice : (title before : List ℕ) (at : ℕ) (c : Content) → put before (a
 put_twice title before at c = same_content _ _ (λ i. put_each title before at c i)
 
 -- Once the batch is put, the text is held.
-pub held : (old : List ℕ) (p : Parts) (title rest : List ℕ) (pages : List Patch) (head : List ℕ) (c : Content) → p.before ≡ title ++ rest → HaveRoom p → head ≡ head_of p
-    → ((d : Content) → HasTable old d → HasTable p.table (put_all pages d)) → HasTable old c
-    → Holds p (put_all (batch_for pages p title rest head) c)
-held old p title rest pages head c split room is written has =
+pub held : (changes : ChangedNumbers) (changed : ChangedRecords) (old_table old_records : List ℕ) (p : Parts) (title rest : List ℕ) (pages : List Patch) (head : List ℕ) (c : Content) → p.before ≡ title ++ rest → HaveRoom p → head ≡ head_of p
+    → AreWritten changes changed p pages → AreTold changes old_table p.table → AreToldRecords changed old_records p.records → StayInPlace changed old_table p.table
+    → HasTable old_table c → HasRecords old_table old_records c → Holds p (put_all (batch_for pages p title rest head) c)
+held changes changed old_table old_records p title rest pages head c split room is written told told_records stay has has_records =
     subst (λ (e : Content). Holds p e) (sym whole)
     (record {
       room = room;
       head = subst (λ (l : List ℕ). Has l 4096 (put head 4096 d3)) is (has-put head 4096 d3);
       table = λ i within.
-          has_same (page_of (numbers_on p.table i)) (page_at i) d1 d4
-          (λ x from to. unchanged x (omega arith) (omega (arith, within, to, length-page-within p.table i)))
-          (written c has i within);
-      before = has_same p.before (before_at p) d2 d4 (λ x from to. put_outside head 4096 d3 x (inr (omega (arith, long))) ∙ put_outside p.after (after_at p) d2 x (inl to)) (has-put p.before (before_at p) d1);
-      after = has_same p.after (after_at p) d3 d4 (λ x from to. put_outside head 4096 d3 x (inr (omega (arith, long)))) (has-put p.after (after_at p) d2);
+          let bytes : List ℕ = table_bytes p.table in
+          has_same (page_of (bytes_on bytes i)) (page_at 8192 i) d1 d4
+          (λ x from to. unchanged x (omega (arith, from)) (omega (arith, within, to, length-numbers p.table, length-on bytes i)))
+          (table_written changes changed p pages written old_table c told has i within);
+      records = λ i within.
+          has_same (page_of (bytes_on p.records i)) (page_at (records_at p.table) i) d1 d4
+          (λ x from to. unchanged x (omega (arith, from)) (omega (arith, within, to, length-on p.records i)))
+          (records_written changes changed p pages written old_table old_records c stay told_records has_records i within);
+      before = has_same p.before (before_at p) d2 d4 (λ x from to. put_outside head 4096 d3 x (inr (omega (arith, from, long))) ∙ put_outside p.after (after_at p) d2 x (inl to)) (has-put p.before (before_at p) d1);
+      after = has_same p.after (after_at p) d3 d4 (λ x from to. put_outside head 4096 d3 x (inr (omega (arith, from, long)))) (has-put p.after (after_at p) d2);
     })
   where
     d1 : Content
@@ -90,7 +98,7 @@ held old p title rest pages head c split room is written has =
     d4 : Content
     d4 = put head 4096 d3
 
-    long : length head ≡ 40
+    long : length head ≡ 48
     long = ap length is ∙ length-head p
 
     whole : put_all (batch_for pages p title rest head) c ≡ put head 4096 (put p.after (after_at p) (put p.before (before_at p) (put_all pages c)))
@@ -118,17 +126,18 @@ on_ok (Ok x) p next = next p
 on_ok (Err e) p next = tt
 
 -- the batch fits
-pub batch_fits : (p : Parts) (title rest : List ℕ) (pages : List Patch) (head : List ℕ) → p.before ≡ title ++ rest → HaveRoom p → length head ≡ 40 → AreWithin (pages_for (length p.table)) pages
+pub batch_fits : (p : Parts) (title rest : List ℕ) (pages : List Patch) (head : List ℕ) → p.before ≡ title ++ rest → HaveRoom p → length head ≡ 48 → AreWithin 8192 (before_at p) pages
     → All (Fits bounds) (batch_for pages p title rest head)
 batch_fits p title rest pages head split room long within =
     let both : length p.before ≡ length title + length rest = ap length split ∙ length-append title rest in
+    let at : before_at p < 2 ^ 40 = omega (arith, room.table, room.records) in
     All-append (Fits bounds) pages ((before_at p, title) ∷ (before_at p + length title, rest) ∷ (after_at p, p.after) ∷ (4096, head) ∷ [])
-    (λ k d below. let ends = within.ends k d below in record { within = omega (arith, ends.before, room.table); place_fits = omega (arith, ends.before, room.table); length_fits = omega (arith, ends.short) })
+    (λ k d below. let ends = within.ends k d below in record { within = omega (arith, ends.before, at); place_fits = omega (arith, ends.before, at); length_fits = omega (arith, ends.short) })
     (All-cons (Fits bounds) (before_at p, title) ((before_at p + length title, rest) ∷ (after_at p, p.after) ∷ (4096, head) ∷ [])
-    (record { within = omega (arith, both, room.before, room.table); place_fits = omega (arith, room.table); length_fits = omega (arith, both, room.before) })
+    (record { within = omega (arith, both, room.before, at); place_fits = omega (arith, at); length_fits = omega (arith, both, room.before) })
     (All-cons (Fits bounds) (before_at p + length title, rest) ((after_at p, p.after) ∷ (4096, head) ∷ [])
-    (record { within = omega (arith, both, room.before, room.table); place_fits = omega (arith, both, room.before, room.table); length_fits = omega (arith, both, room.before) })
-    (All-cons (Fits bounds) (after_at p, p.after) ((4096, head) ∷ []) (record { within = omega (arith, room.before, room.table, room.after); place_fits = omega (arith, room.table, room.before); length_fits = room.after })
+    (record { within = omega (arith, both, room.before, at); place_fits = omega (arith, both, room.before, at); length_fits = omega (arith, both, room.before) })
+    (All-cons (Fits bounds) (after_at p, p.after) ((4096, head) ∷ []) (record { within = omega (arith, room.before, at, room.after); place_fits = omega (arith, at, room.before); length_fits = room.after })
     (all_one (Fits bounds) (4096, head) (record { within = omega (arith, long); place_fits = omega arith; length_fits = omega (arith, long) })))))
 
 -- a text that was kept is found in files that stand for its records
@@ -159,15 +168,16 @@ nothing_done model p q k keeps only_now =
 
 -- the text is kept, once the batch is committed
 pub kept_after : {F T E : Type 0} (model : FileModel F) (q : Parts) (k : KeptValue F) (result : Result T E) (c : Content)
-    → Holds q c → k.table ≡ q.table → bounds_of k.redo ≡ bounds
+    → Holds q c → k.table ≡ q.table → k.records ≡ q.records → bounds_of k.redo ≡ bounds
     → OnOk result (IsCrashConsistent model k.redo [] k.files) → OnOk result (Agrees (model.seen k.files Records) c) → OnOk result (Keeps model q k)
-kept_after model q k (Ok x) c holds table bounded consistent same = record {
+kept_after model q k (Ok x) c holds table records bounded consistent same = record {
   consistent = consistent;
   holds = subst (λ (d : Content). Holds q d) (sym (same_content (model.seen k.files Records) c same)) holds;
   table = table;
+  records = records;
   bounded = bounded;
 }
-kept_after model q k (Err e) c holds table bounded consistent same = tt
+kept_after model q k (Err e) c holds table records bounded consistent same = tt
 
 -- nothing more is written
 pub nothing_later : {F : Type 0} (model : FileModel F) (P : Contents → Type 0) (old mid late : F) → LeavesOnly model old mid P → WritesNothing model mid late
@@ -176,14 +186,14 @@ nothing_later model P old mid late first nothing counts_now =
     then_leaves model old mid late P (model.may_leave mid) first nothing.moments (λ c now. first.each c (counts_now (model.moment old) c first.later now))
 
 -- the entries of patches of at most 1,024 bytes each
-entries_short : (ps : List Patch) (k : ℕ) → All (Ends k) ps → length (entries ps) ≤ 1045 * length ps
-entries_short [] k each = omega arith
-entries_short (p ∷ ps) k each =
-    omega (arith, (all_first (Ends k) p ps each).short, entries_short ps k (all_rest (Ends k) p ps each), length-append (entry p) (entries ps), length-entry p)
+entries_short : (ps : List Patch) (end : ℕ) → All (Ends end) ps → length (entries ps) ≤ 1045 * length ps
+entries_short [] end each = omega arith
+entries_short (p ∷ ps) end each =
+    omega (arith, (all_first (Ends end) p ps each).short, entries_short ps end (all_rest (Ends end) p ps each), length-append (entry p) (entries ps), length-entry p)
 
 -- the log has room for each batch of a text that has room
-pub batch_has_room : (p : Parts) (title rest : List ℕ) (pages : List Patch) (head : List ℕ) → p.before ≡ title ++ rest → HaveRoom p → length head ≡ 40 → AreWithin (pages_for (length p.table)) pages
-    → length pages ≤ pages_for (length p.table)
+pub batch_has_room : (p : Parts) (title rest : List ℕ) (pages : List Patch) (head : List ℕ) → p.before ≡ title ++ rest → HaveRoom p → length head ≡ 48 → AreWithin 8192 (before_at p) pages
+    → length pages ≤ pages_for (4 * length p.table) + pages_for (length p.records)
     → 4096 + 2 ^ 26 + length (entries (batch_for pages p title rest head)) < 2 ^ 40
 batch_has_room p title rest pages head split room long within few =
     let last : List Patch = (4096, head) ∷ [] in
@@ -197,9 +207,10 @@ batch_has_room p title rest pages head split room long within few =
       room.before,
       room.table,
       room.after,
+      room.records,
       long,
       few,
-      entries_short pages (pages_for (length p.table)) within.ends,
+      entries_short pages (before_at p) within.ends,
       ap length (entries-append pages before),
       length-append (entries pages) (entries before),
       length-append (entry (before_at p, title)) (entries between),

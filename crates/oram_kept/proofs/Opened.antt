@@ -50,11 +50,12 @@ module _ {F : Type 0} (model : FileModel F) where
 
   -- the text that was read is kept
   pub keeps_on : (p : Parts) (mid : F) (k : KeptValue F) → IsCrashConsistent model k.redo [] mid → ((loose : _) → IsCrashConsistent model k.redo loose mid → IsCrashConsistent model k.redo loose k.files)
-      → WritesNothing model mid k.files → Holds p (model.seen mid Records) → k.table ≡ p.table → bounds_of k.redo ≡ bounds → Keeps model p k
-  keeps_on p mid k sure goes_on nothing holds table bounded = record {
+      → WritesNothing model mid k.files → Holds p (model.seen mid Records) → k.table ≡ p.table → k.records ≡ p.records → bounds_of k.redo ≡ bounds → Keeps model p k
+  keeps_on p mid k sure goes_on nothing holds table records bounded = record {
     consistent = goes_on [] sure;
     holds = subst (λ (c : Content). Holds p c) (sym (same_content (model.seen k.files Records) (model.seen mid Records) (nothing.seen_same Records))) holds;
     table = table;
+    records = records;
     bounded = bounded;
   }
 
@@ -66,11 +67,12 @@ module _ {F : Type 0} (model : FileModel F) where
       (λ c keeps. inr (one_text_in (model.seen mid Records) (model.seen old) c stands (subst (λ (b : Bounds). StandsFor b [] (model.seen mid Records) c) bounded keeps.stands)))
 
   pub keeps_emptied : (p : Parts) (mid : F) (k : KeptValue F) → IsCrashConsistent model k.redo [] k.files → Agrees (model.seen k.files Records) (model.seen mid Records) → Holds p (model.seen mid Records)
-      → k.table ≡ p.table → bounds_of k.redo ≡ bounds → Keeps model p k
-  keeps_emptied p mid k sure same holds table bounded = record {
+      → k.table ≡ p.table → k.records ≡ p.records → bounds_of k.redo ≡ bounds → Keeps model p k
+  keeps_emptied p mid k sure same holds table records bounded = record {
     consistent = sure;
     holds = subst (λ (c : Content). Holds p c) (sym (same_content (model.seen k.files Records) (model.seen mid Records) same)) holds;
     table = table;
+    records = records;
     bounded = bounded;
   }
 

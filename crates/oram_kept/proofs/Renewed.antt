@@ -1,210 +1,194 @@
--- The pages of a table that hold its changes.
-use Rattle.std.proofs.Common.{◌≡◌, ◌⊎◌, inl, inr, ⊎_elim, ℕ, zero, suc, ◌+◌, ◌-◌, ◌*◌, ◌/◌, ◌<◌, ◌≤◌, List, [], ◌∷◌, ◌++◌, length, drop, get_or, sym, ap, ◌∙◌, subst, refl, arith, length-append, length-take, length-drop, ext_get_or, get_or-take, get_or-drop}
-use Rattle.std.specs.Prelude.{All, ⊤}
+-- The pages of a keeping, and what a content has once they are put.
+use Rattle.std.proofs.Common.{◌≡◌, ◌⊎◌, inl, inr, ⊎_elim, ℕ, zero, suc, ◌+◌, ◌*◌, ◌<◌, ◌≤◌, List, [], ◌∷◌, ◌++◌, length, drop, get_or, refl, sym, ap, ◌∙◌, subst, arith, length-append, length-take, length-drop, ext_get_or}
+use Rattle.std.specs.Prelude.{All}
 use Rattle.std.specs.List.{Contains}
-use Rattle.std.specs.List.Sorted.{IsPermutation}
 use Rattle.std.proofs.lemmas.Bool.{cases_eq, cases_lt}
-use Rattle.std.proofs.lemmas.List.{get_or_default, length-map}
-use Rattle.std.proofs.lemmas.List.Sorted.{Contains-permutation, IsPermutation-sym}
+use Rattle.std.proofs.lemmas.List.{length-map}
 use Rattle.std.proofs.lemmas.List.Elements.{All-append, All-cons}
-use Rattle.std.proofs.Math.ListN.{get_or-map}
-use Rattle.oram_kept.specs.Layout.{HasTable, numbers_on, page_at, page_of, pages_for}
-use Rattle.oram_kept.specs.Pages.{AddsPage, AreWithin, DifferAtMost, Ends, IsAmong, IsOfChange, patch_of, patches_of}
-use Rattle.oram_kept.specs.declared.pages.Page.{Page}
-use Rattle.oram_kept.proofs.Tables.{length-page-within}
-use Rattle.oram_kept.proofs.Written.{all_one}
+use Rattle.oram_kept.specs.Layout.{HasPages, HasRecords, HasTable, before_at, bytes_on, page_at, page_of, pages_for, records_at}
+use Rattle.oram_kept.specs.Pages.{AreTold, AreToldPages, AreToldRecords, AreWritten, IsTold, StayInPlace, as_records, patches_at}
+use Rattle.oram_kept.specs.Text.{Parts, table_bytes}
+use Rattle.oram_kept.specs.declared.text.ChangedNumbers.{ChangedNumbers}
+use Rattle.oram_kept.specs.declared.text.ChangedRecords.{ChangedRecords}
+use Rattle.oram_kept.specs.declared.text.ChangedRecords.TheVariants.{Any, At}
+use Rattle.oram_kept.proofs.Tables.{byte_at, length-on, length-numbers, told_in_bytes}
+use Rattle.oram_kept.proofs.ToldPages.{few_rise}
 use Rattle.oram_redo.specs.Content.{Content, Has, put}
 use Rattle.oram_redo.specs.Log.{Patch, Spares, put_all}
 use Rattle.oram_redo.proofs.Bytes.{has-put, has_same, put_outside}
+use Rattle.oram_redo.proofs.Heal.{put_all-append, put_all_spares}
 
--- the patch is a page of the table
-pub record IsPage (table : List ℕ) (p : Patch) : Type 0 where
-  pub index : ℕ
-  pub within : index < pages_for (length table)
-  pub at : p.0 ≡ page_at index
-  pub bytes : p.1 ≡ page_of (numbers_on table index)
+-- no bytes have no pages
+pub no_pages : (start : ℕ) (c : Content) → HasPages [] start c
+no_pages start c i within = absurd (omega (arith, within))
 
-abbrev pub ArePages : List ℕ → List Patch → Type 0
-ArePages table [] = ⊤
-ArePages table (p ∷ ps) = IsPage table p × ArePages table ps
+contains_later : (x : ℕ) (xs : List ℕ) (j : ℕ) → Contains xs j → Contains (x ∷ xs) j
+contains_later x xs j is = (suc is.0, omega (arith, is.1), is.2)
 
-among_left : (at : ℕ) (ps qs : List Patch) → IsAmong at ps → IsAmong at (ps ++ qs)
-among_left at [] qs none = absurd none
-among_left at (p ∷ ps) qs (inl here) = inl here
-among_left at (p ∷ ps) qs (inr later) = inr (among_left at ps qs later)
-
-pub among_last : (ps : List Patch) (p : Patch) → IsAmong p.0 (ps ++ p ∷ [])
-among_last [] p = inl refl
-among_last (q ∷ ps) p = inr (among_last ps p)
-
-among_or_not : (at : ℕ) (ps : List Patch) → IsAmong at ps ⊎ (IsAmong at ps → ⊥)
-among_or_not at [] = inr (λ none. none)
-among_or_not at (p ∷ ps) = elim (cases_eq p.0 at) [
-  | inl here ↦ inl (inl here)
-  | inr other ↦ elim (among_or_not at ps) [
-    | inl later ↦ inl (inr later)
-    | inr none ↦ inr (λ is. ⊎_elim other none is)
+contains_or_not : (xs : List ℕ) (j : ℕ) → Contains xs j ⊎ (Contains xs j → ⊥)
+contains_or_not [] j = inr (λ is. omega (arith, is.1))
+contains_or_not (x ∷ xs) j = elim (cases_eq x j) [
+  | inl here ↦ inl (0, omega arith, here)
+  | inr other ↦ elim (contains_or_not xs j) [
+    | inl later ↦ inl (contains_later x xs j later)
+    | inr none ↦ inr (λ is. not_here x xs j other none is.0 is.1 is.2)
   ]
 ]
+  where
+    not_here : (x : ℕ) (xs : List ℕ) (j : ℕ) → (x ≡ j → ⊥) → (Contains xs j → ⊥) → (k : ℕ) → k < length (x ∷ xs) → get_or (x ∷ xs) k j ≡ j → ⊥
+    not_here x xs j other none zero within is = other is
+    not_here x xs j other none (suc k) within is = none (k, omega (arith, within), is)
 
--- the page at a place of a list is among it
-pub among_at : (ps : List Patch) (k : ℕ) (d : Patch) → k < length ps → IsAmong (get_or ps k d).0 ps
-among_at [] k d within = absurd (omega arith)
-among_at (p ∷ ps) zero d within = inl refl
-among_at (p ∷ ps) (suc k) d within = inr (among_at ps k d (omega arith))
+-- a patch ends here, and is no longer than a page
+pub record Ends (end : ℕ) (p : Patch) : Type 0 where
+  pub before : p.0 + length p.1 ≤ end
+  pub short : length p.1 ≤ 1024
 
-pages-append : (table : List ℕ) (ps : List Patch) (p : Patch) → ArePages table ps → IsPage table p → ArePages table (ps ++ p ∷ [])
-pages-append table [] p are is = (is, tt)
-pages-append table (q ∷ ps) p are is = (are.0, pages-append table ps p are.1 is)
+-- patches reach no place before the start or from the end on
+pub record AreWithin (start end : ℕ) (patches : List Patch) : Type 0 where
+  pub spares : (x : ℕ) → (x < start) ⊎ (end ≤ x) → Spares patches x
+  pub ends : All (Ends end) patches
 
-module _ (table : List ℕ) where
-  -- a page that a content has stays, whatever pages of the table are put
-  put_page : (p : Patch) → IsPage table p → (j : ℕ) (c : Content) → Has (page_of (numbers_on table j)) (page_at j) c → Has (page_of (numbers_on table j)) (page_at j) (put p.1 p.0 c)
-  put_page p is j c has = elim (cases_eq j is.index) [
-    | inl same ↦
-        subst (λ (k : ℕ). Has (page_of (numbers_on table k)) (page_at k) (put p.1 p.0 c)) (sym same)
-        (subst (λ (bs : List ℕ). Has bs (page_at is.index) (put p.1 p.0 c)) is.bytes
-        (subst (λ (at : ℕ). Has p.1 at (put p.1 p.0 c)) is.at (has-put p.1 p.0 c)))
-    | inr other ↦
-        has_same (page_of (numbers_on table j)) (page_at j) c (put p.1 p.0 c)
-        (λ x from to. put_outside p.1 p.0 c x (beside x from to other)) has
+pub within_both : (start middle end : ℕ) (ps qs : List Patch) → start ≤ middle → middle ≤ end → AreWithin start middle ps → AreWithin middle end qs → AreWithin start end (ps ++ qs)
+within_both start middle end ps qs first second left right = record {
+  spares = λ x out. spares_both ps qs x (left.spares x (⊎_elim (λ low. inl low) (λ high. inr (omega (arith, second, high))) out)) (right.spares x (⊎_elim (λ low. inl (omega (arith, first, low))) (λ high. inr high) out));
+  ends = All-append (Ends end) ps qs (λ k d below. let one = left.ends k d below in record { before = omega (arith, one.before, second); short = one.short }) right.ends;
+}
+  where
+    spares_both : (ps qs : List Patch) (x : ℕ) → Spares ps x → Spares qs x → Spares (ps ++ qs) x
+    spares_both [] qs x left right = right
+    spares_both (p ∷ ps) qs x left right = (left.0, spares_both ps qs x left.1 right)
+
+-- what a content has in places that patches spare stays
+pub has_spared : (bytes : List ℕ) (at : ℕ) (ps : List Patch) (c : Content) → ((x : ℕ) → at ≤ x → x < at + length bytes → Spares ps x) → Has bytes at c → Has bytes at (put_all ps c)
+has_spared bytes at ps c spared has = has_same bytes at c (put_all ps c) (λ x from to. put_all_spares ps c x (spared x from to)) has
+
+module _ (start : ℕ) (bytes : List ℕ) where
+  abbrev page : ℕ → List ℕ
+  page j = page_of (bytes_on bytes j)
+
+  -- a page that a content has stays, whatever pages of the part are put
+  put_page : (i j : ℕ) (c : Content) → Has (page j) (page_at start j) c → Has (page j) (page_at start j) (put (page i) (page_at start i) c)
+  put_page i j c has = elim (cases_eq j i) [
+    | inl same ↦ subst (λ (k : ℕ). Has (page k) (page_at start k) (put (page i) (page_at start i) c)) (sym same) (has-put (page i) (page_at start i) c)
+    | inr other ↦ has_same (page j) (page_at start j) c (put (page i) (page_at start i) c) (λ x from to. put_outside (page i) (page_at start i) c x (beside x from to other)) has
   ]
     where
-      beside : (x : ℕ) → page_at j ≤ x → x < page_at j + length (page_of (numbers_on table j)) → (j ≡ is.index → ⊥) → (x < p.0) ⊎ (p.0 + length p.1 ≤ x)
-      beside x from to other = elim (cases_lt j is.index) [
-        | inl below ↦ inl (omega (arith, to, below, is.at, length-page-within table j))
-        | inr not_below ↦ inr (omega (arith, from, not_below, other, is.at, ap length is.bytes, length-page-within table is.index))
+      beside : (x : ℕ) → page_at start j ≤ x → x < page_at start j + length (page j) → (j ≡ i → ⊥) → (x < page_at start i) ⊎ (page_at start i + length (page i) ≤ x)
+      beside x from to other = elim (cases_lt j i) [
+        | inl below ↦ inl (omega (arith, to, below, length-on bytes j))
+        | inr not_below ↦ inr (omega (arith, from, not_below, other, length-on bytes i))
       ]
 
-  stays : (ps : List Patch) → ArePages table ps → (j : ℕ) (c : Content) → Has (page_of (numbers_on table j)) (page_at j) c → Has (page_of (numbers_on table j)) (page_at j) (put_all ps c)
-  stays [] are j c has = has
-  stays (p ∷ ps) are j c has = stays ps are.1 j (put p.1 p.0 c) (put_page p are.0 j c has)
+  stays : (indexes : List ℕ) (j : ℕ) (c : Content) → Has (page j) (page_at start j) c → Has (page j) (page_at start j) (put_all (patches_at start bytes indexes) c)
+  stays [] j c has = has
+  stays (i ∷ indexes) j c has = stays indexes j (put (page i) (page_at start i) c) (put_page i j c has)
 
-  there : (ps : List Patch) → ArePages table ps → (j : ℕ) (c : Content) → IsAmong (page_at j) ps → Has (page_of (numbers_on table j)) (page_at j) (put_all ps c)
-  there [] are j c none = absurd none
-  there (p ∷ ps) are j c (inl here) =
-      let is : IsPage table p = are.0 in
-      let same : is.index ≡ j = omega (arith, is.at, here) in
-      let put_there : Has (page_of (numbers_on table is.index)) (page_at is.index) (put p.1 p.0 c) =
-      subst (λ (bs : List ℕ). Has bs (page_at is.index) (put p.1 p.0 c)) is.bytes
-      (subst (λ (at : ℕ). Has p.1 at (put p.1 p.0 c)) is.at (has-put p.1 p.0 c)) in
-      stays ps are.1 j (put p.1 p.0 c) (subst (λ (k : ℕ). Has (page_of (numbers_on table k)) (page_at k) (put p.1 p.0 c)) same put_there)
-  there (p ∷ ps) are j c (inr later) = there ps are.1 j (put p.1 p.0 c) later
+  there : (indexes : List ℕ) (j k : ℕ) (c : Content) → k < length indexes → get_or indexes k j ≡ j → Has (page j) (page_at start j) (put_all (patches_at start bytes indexes) c)
+  there [] j k c within is = absurd (omega (arith, within))
+  there (i ∷ indexes) j zero c within is =
+      stays indexes j (put (page i) (page_at start i) c) (subst (λ (k : ℕ). Has (page k) (page_at start k) (put (page i) (page_at start i) c)) is (has-put (page i) (page_at start i) c))
+  there (i ∷ indexes) j (suc k) c within is = there indexes j k (put (page i) (page_at start i) c) (omega (arith, within)) is
 
--- a number on a page of a table
-number_at : (t : List ℕ) (j k : ℕ) → k < 254 → get_or (numbers_on t j) k 0 ≡ get_or t (j * 254 + k) 0
-number_at t j k below = get_or-take 254 (drop (j * 254) t) k 0 below ∙ get_or-drop (j * 254) t k 0
+  -- the bytes on a page that isn't told are as before
+  unchanged : (changes : ChangedRecords) (old : List ℕ) (j : ℕ) → AreToldRecords changes old bytes → (IsTold changes j → ⊥) → (length bytes ≡ length old) × (bytes_on old j ≡ bytes_on bytes j)
+  unchanged Any old j told none = absurd (none tt)
+  unchanged (At len indexes) old j told none = (told.long, ext_get_or 0 (bytes_on old j) (bytes_on bytes j) long each)
+    where
+      long : length (bytes_on old j) ≡ length (bytes_on bytes j)
+      long = omega (arith, told.long, length-take 1016 (drop (j * 1016) old), length-drop (j * 1016) old, length-take 1016 (drop (j * 1016) bytes), length-drop (j * 1016) bytes)
 
--- the tables differ at none of the page's numbers
-same_page : (indexes old new : List ℕ) (j : ℕ) → DifferAtMost indexes old new → ((x : ℕ) → Contains indexes x → x / 254 ≡ j → ⊥) → numbers_on old j ≡ numbers_on new j
-same_page indexes old new j differ none = ext_get_or 0 (numbers_on old j) (numbers_on new j) long each
-  where
-    long : length (numbers_on old j) ≡ length (numbers_on new j)
-    long = omega (arith, differ.long, length-take 254 (drop (j * 254) old), length-drop (j * 254) old, length-take 254 (drop (j * 254) new), length-drop (j * 254) new)
+      each : (k : ℕ) → k < length (bytes_on old j) → get_or (bytes_on old j) k 0 ≡ get_or (bytes_on bytes j) k 0
+      each k within =
+          let below : k < 1016 = omega (arith, within, length-take 1016 (drop (j * 1016) old)) in
+          byte_at old j k below
+          ∙ sym (told.others (j * 1016 + k) (λ i is byte. none (i, is, record { from = omega (arith, byte.from, below); to = omega (arith, byte.to) })))
+          ∙ sym (byte_at bytes j k below)
 
-    each : (k : ℕ) → k < length (numbers_on old j) → get_or (numbers_on old j) k 0 ≡ get_or (numbers_on new j) k 0
-    each k within =
-        let below : k < 254 = omega (arith, length-take 254 (drop (j * 254) old)) in
-        number_at old j k below
-        ∙ sym (differ.others (j * 254 + k) (λ is. none (j * 254 + k) is (omega arith)))
-        ∙ sym (number_at new j k below)
-
--- The pages of a table with all of these indexes make it of a table that differs at most there.
-pub renewed : (indexes old new : List ℕ) (ps : List Patch) (c : Content) → ArePages new ps
-    → ((x : ℕ) → Contains indexes x → x / 254 < pages_for (length new) → IsAmong (page_at (x / 254)) ps)
-    → DifferAtMost indexes old new → HasTable old c → HasTable new (put_all ps c)
-renewed indexes old new ps c are covered differ has j within = elim (among_or_not (page_at j) ps) [
-  | inl is ↦ there new ps are j c is
-  | inr none ↦
-      let same : numbers_on old j ≡ numbers_on new j =
-      same_page indexes old new j differ (λ x is on. none (subst (λ (k : ℕ). IsAmong (page_at k) ps) on (covered x is (subst (λ (k : ℕ). k < pages_for (length new)) (sym on) within)))) in
-      stays new ps are j c (subst (λ (ns : List ℕ). Has (page_of ns) (page_at j) c) same (has j (omega (arith, within, differ.long))))
-]
-
-spared : (table : List ℕ) (ps : List Patch) → ArePages table ps → (x : ℕ) → (x < 8192) ⊎ (page_at (pages_for (length table)) ≤ x) → Spares ps x
-spared table [] are x out = tt
-spared table (p ∷ ps) are x out =
-    let is : IsPage table p = are.0 in
-    let outside : (x < p.0) ⊎ (p.0 + length p.1 ≤ x) = elim out [
-      | inl before ↦ inl (omega (arith, before, is.at))
-      | inr behind ↦ inr (omega (arith, behind, is.within, is.at, ap length is.bytes, length-page-within table is.index))
-    ] in
-    (outside, spared table ps are.1 x out)
-
-end_all : (table : List ℕ) (ps : List Patch) → ArePages table ps → All (Ends (pages_for (length table))) ps
-end_all table [] are = λ k d below. absurd (omega arith)
-end_all table (p ∷ ps) are =
-    let is : IsPage table p = are.0 in
-    All-cons (Ends (pages_for (length table))) p ps
-    (record {
-      before = omega (arith, is.within, is.at, ap length is.bytes, length-page-within table is.index);
-      short = omega (arith, ap length is.bytes, length-page-within table is.index);
-    }) (end_all table ps are.1)
-
-pub are_within : (table : List ℕ) (ps : List Patch) → ArePages table ps → AreWithin (pages_for (length table)) ps
-are_within table ps are = record { spares = spared table ps are; ends = end_all table ps are }
-
--- A page is added for the next index, if the table has it.
-module _ (table indexes : List ℕ) (x : ℕ) (old new : List Patch) (adds : AddsPage table (x / 254) old new) where
-  pub more_pages : x / 254 < pages_for (length table) → ArePages table old → ArePages table new
-  more_pages within are = elim adds.more [
-    | inl same ↦ subst (ArePages table) (sym same) are
-    | inr grown ↦ subst (ArePages table) (sym grown) (pages-append table old _ are (record { index = x / 254; within = within; at = refl; bytes = refl }))
+  -- Once the told pages are put, a content that had the pages of the old bytes has those of the new ones.
+  pub renewed : (changes : ChangedRecords) (old told : List ℕ) (c : Content) → AreToldPages changes (pages_for (length bytes)) told → AreToldRecords changes old bytes → HasPages old start c
+      → HasPages bytes start (put_all (patches_at start bytes told) c)
+  renewed changes old told c are differ has j within = elim (contains_or_not told j) [
+    | inl is ↦ there told j is.0 c is.1 is.2
+    | inr none ↦
+        let same = unchanged changes old j differ (λ is. none (are.all j within is)) in
+        stays told j c (subst (λ (l : List ℕ). Has (page_of l) (page_at start j) c) same.1 (has j (omega (arith, within, same.0))))
   ]
 
-  pub still_among : (at : ℕ) → IsAmong at old → IsAmong at new
-  still_among at is = elim adds.more [
-    | inl same ↦ subst (IsAmong at) (sym same) is
-    | inr grown ↦ subst (IsAmong at) (sym grown) (among_left at old _ is)
-  ]
+  pub told_within : (k end : ℕ) (told : List ℕ) → ((j : ℕ) → Contains told j → j < k) → page_at start k ≡ end → AreWithin start end (patches_at start bytes told)
+  told_within k end [] below is = record { spares = λ x out. tt; ends = λ n d within. absurd (omega (arith, within)) }
+  told_within k end (i ∷ told) below is =
+      let rest = told_within k end told (λ j later. below j (contains_later i told j later)) is in
+      let first : i < k = below i (0, omega arith, refl) in
+      record {
+        spares = λ x out. (⊎_elim (λ low. inl (omega (arith, low))) (λ high. inr (omega (arith, high, first, is, length-on bytes i))) out, rest.spares x out);
+        ends = All-cons (Ends end) (page_at start i, page i) (patches_at start bytes told) (record { before = omega (arith, first, is, length-on bytes i); short = length-on bytes i }) rest.ends;
+      }
 
-  pub more_changes : Contains indexes x → All (IsOfChange indexes) old → All (IsOfChange indexes) new
-  more_changes is of = elim adds.more [
-    | inl same ↦ subst (All (IsOfChange indexes)) (sym same) of
-    | inr grown ↦ subst (All (IsOfChange indexes)) (sym grown) (All-append (IsOfChange indexes) old _ of (all_one (IsOfChange indexes) _ (x, is, refl)))
-  ]
+pub table_end : (table : List ℕ) → page_at 8192 (pages_for (length (table_bytes table))) ≡ records_at table
+table_end table = ap (λ (n : ℕ). page_at 8192 (pages_for n)) (length-numbers table)
 
-  pub one_more : (n : ℕ) → length old ≤ n → length new ≤ n + 1
-  one_more n few = elim adds.more [
-    | inl same ↦ omega (arith, few, ap length same)
-    | inr grown ↦ omega (arith, few, ap length grown, length-append old ((page_at (x / 254), page_of (numbers_on table (x / 254))) ∷ []))
-  ]
+-- The pages of a keeping are written.
+module _ (changes : ChangedNumbers) (changed : ChangedRecords) (p : Parts) (pages : List Patch) (were : AreWritten changes changed p pages) where
+  abbrev numbers : List Patch
+  numbers = patches_at 8192 (table_bytes p.table) were.table
 
--- the last of some pages
-pub last_among : (pages : List Page) (page : Page) (at : ℕ) → 0 < length pages → page ≡ get_or pages (length pages - 1) page → page.at ≡ at → IsAmong at (patches_of pages)
-last_among pages page at some is same =
-    let k : ℕ = length pages - 1 in
-    let within : k < length (patches_of pages) = omega (arith, some, length-map pages patch_of) in
-    let one : (get_or (patches_of pages) k (patch_of page)).0 ≡ at =
-    ap (λ (p : Patch). p.0) (get_or-map patch_of pages k page) ∙ ap (λ (q : Page). q.at) (sym is) ∙ same in
-    subst (λ (a : ℕ). IsAmong a (patches_of pages)) one (among_at (patches_of pages) k (patch_of page) within)
+  abbrev records : List Patch
+  records = patches_at (records_at p.table) p.records were.records
 
--- The page of the next index is among the pages, if the table has it.
-module _ (indexes : List ℕ) (at n : ℕ) (old new : List Patch) (within : at < length indexes)
-    (covered : (k x : ℕ) → k < at → get_or indexes k x ≡ x → x / 254 < n → IsAmong (page_at (x / 254)) old) where
-  next_is : (k x : ℕ) → k ≡ at → get_or indexes k x ≡ x → get_or indexes at 0 ≡ x
-  next_is k x last is = get_or_default indexes at 0 x within ∙ ap (λ (i : ℕ). get_or indexes i x) (sym last) ∙ is
+  table_within : AreWithin 8192 (records_at p.table) numbers
+  table_within = told_within 8192 (table_bytes p.table) (pages_for (length (table_bytes p.table))) (records_at p.table) were.table (λ j is. (were.table_told.told j is).0) (table_end p.table)
 
-  pub covered_more : ((place : ℕ) → IsAmong place old → IsAmong place new) → IsAmong (page_at (get_or indexes at 0 / 254)) new
-      → (k x : ℕ) → k < at + 1 → get_or indexes k x ≡ x → x / 254 < n → IsAmong (page_at (x / 254)) new
-  covered_more still there_now k x below is fits = elim (cases_eq k at) [
-    | inl last ↦ subst (λ (y : ℕ). IsAmong (page_at (y / 254)) new) (next_is k x last is) there_now
-    | inr other ↦ still (page_at (x / 254)) (covered k x (omega (arith, below, other)) is fits)
-  ]
+  records_within : AreWithin (records_at p.table) (before_at p) records
+  records_within = told_within (records_at p.table) p.records (pages_for (length p.records)) (before_at p) were.records (λ j is. (were.records_told.told j is).0) refl
 
-  pub covered_past : n ≤ get_or indexes at 0 / 254 → (k x : ℕ) → k < at + 1 → get_or indexes k x ≡ x → x / 254 < n → IsAmong (page_at (x / 254)) old
-  covered_past past k x below is fits = elim (cases_eq k at) [
-    | inl last ↦ absurd (omega (arith, past, fits, ap (λ (y : ℕ). y / 254) (next_is k x last is)))
-    | inr other ↦ covered k x (omega (arith, below, other)) is fits
-  ]
+  pub are_within : AreWithin 8192 (before_at p) pages
+  are_within =
+      subst (AreWithin 8192 (before_at p)) (sym were.are) (within_both 8192 (records_at p.table) (before_at p) numbers records (omega arith) (omega arith) table_within records_within)
 
--- the same changes, whatever the order of their indexes
-pub changes_in_order : (xs ys : List ℕ) → IsPermutation xs ys → (ps : List Patch) → All (IsOfChange ys) ps → All (IsOfChange xs) ps
-changes_in_order xs ys same ps of = λ k d below. let one = of k d below in (one.0, Contains-permutation ys xs one.0 (IsPermutation-sym xs ys same) one.1, one.2)
+  pub few : length pages ≤ pages_for (4 * length p.table) + pages_for (length p.records)
+  few =
+      let of_table : length numbers ≡ length were.table = length-map were.table (λ i. (page_at 8192 i, page_of (bytes_on (table_bytes p.table) i))) in
+      let of_records : length records ≡ length were.records = length-map were.records (λ i. (page_at (records_at p.table) i, page_of (bytes_on p.records i))) in
+      omega (
+        arith,
+        ap length were.are,
+        length-append numbers records,
+        of_table,
+        of_records,
+        length-numbers p.table,
+        few_rise were.table (pages_for (length (table_bytes p.table))) were.table_told.rising (λ j is. (were.table_told.told j is).0),
+        few_rise were.records (pages_for (length p.records)) were.records_told.rising (λ j is. (were.records_told.told j is).0),
+      )
 
-pub covered_in_order : (xs ys : List ℕ) → IsPermutation xs ys → (n at : ℕ) → length ys ≤ at → (ps : List Patch)
-    → ((k x : ℕ) → k < at → get_or ys k x ≡ x → x / 254 < n → IsAmong (page_at (x / 254)) ps)
-    → (x : ℕ) → Contains xs x → x / 254 < n → IsAmong (page_at (x / 254)) ps
-covered_in_order xs ys same n at whole ps covered x is fits =
-    let k = Contains-permutation xs ys x same is in
-    covered k.0 x (omega (arith, whole, k.1)) k.2 fits
+  put_both : (c : Content) → put_all pages c ≡ put_all records (put_all numbers c)
+  put_both c = ap (λ (ps : List Patch). put_all ps c) were.are ∙ put_all-append numbers records c
+
+  pub table_written : (old : List ℕ) (c : Content) → AreTold changes old p.table → HasTable old c → HasTable p.table (put_all pages c)
+  table_written old c told has i within =
+      let bytes : List ℕ = table_bytes p.table in
+      let one : Has (page_of (bytes_on bytes i)) (page_at 8192 i) (put_all numbers c) =
+      renewed 8192 bytes (as_records changes) (table_bytes old) were.table c were.table_told (told_in_bytes changes old p.table told) has i within in
+      subst (Has (page_of (bytes_on bytes i)) (page_at 8192 i)) (sym (put_both c))
+      (has_spared (page_of (bytes_on bytes i)) (page_at 8192 i) records (put_all numbers c)
+      (λ x from to. records_within.spares x (inl (omega (arith, to, within, length-numbers p.table, length-on bytes i)))) one)
+
+  -- records that stay at their place
+  renewed_in_place : (old : List ℕ) (c : Content) → AreToldRecords changed old p.records → HasPages old (records_at p.table) c → HasRecords p.table p.records (put_all pages c)
+  renewed_in_place old c told has =
+      subst (HasPages p.records (records_at p.table)) (sym (put_both c))
+      (renewed (records_at p.table) p.records changed old were.records (put_all numbers c) were.records_told told
+      (λ i within. has_spared (page_of (bytes_on old i)) (page_at (records_at p.table) i) numbers c (λ x from to. table_within.spares x (inr (omega (arith, from)))) (has i within)))
+
+-- the records that were kept before, at the place where they stand now
+in_place : (changed : ChangedRecords) (old_table new_table old new : List ℕ) (c : Content) → StayInPlace changed old_table new_table → AreToldRecords changed old new → HasRecords old_table old c
+    → (was : List ℕ) × AreToldRecords changed was new × HasPages was (records_at new_table) c
+in_place Any old_table new_table old new c stay told has = ([], tt, no_pages (records_at new_table) c)
+in_place (At len indexes) old_table new_table old new c stay told has =
+    (old, told, subst (λ (n : ℕ). HasPages old (page_at 8192 (pages_for (4 * n))) c) (sym stay) has)
+
+pub records_written : (changes : ChangedNumbers) (changed : ChangedRecords) (p : Parts) (pages : List Patch) → AreWritten changes changed p pages
+    → (old_table old : List ℕ) (c : Content) → StayInPlace changed old_table p.table → AreToldRecords changed old p.records → HasRecords old_table old c → HasRecords p.table p.records (put_all pages c)
+records_written changes changed p pages were old_table old c stay told has =
+    let was = in_place changed old_table p.table old p.records c stay told has in
+    renewed_in_place changes changed p pages were was.0 c was.1 was.2

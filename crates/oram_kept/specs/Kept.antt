@@ -22,12 +22,18 @@ pub record KeptValue (F : Type 0) : Type 0 where
   pub files : F
   pub redo : Redo
   pub table : List ℕ  -- as it was kept last
+  pub records : List ℕ  -- as they were kept last
   pub has_stopped : Bool  -- a call has failed: the files have to be opened again
 
 -- the table of the first of these texts
 abbrev pub newest_table : List Parts → List ℕ
 newest_table [] = []
 newest_table (p ∷ ps) = p.table
+
+-- the records of the first of these texts
+abbrev pub newest_records : List Parts → List ℕ
+newest_records [] = []
+newest_records (p ∷ ps) = p.records
 
 -- These files are those of a text with these parts: whoever opens them finds it.
 pub record Finds (bounds : Bounds) (p : Parts) (c : Contents) : Type 0 where
@@ -40,6 +46,7 @@ pub record Keeps {F : Type 0} (model : FileModel F) (p : Parts) (k : KeptValue F
   pub consistent : IsCrashConsistent model k.redo [] k.files
   pub holds : Holds p (model.seen k.files Records)
   pub table : k.table ≡ p.table
+  pub records : k.records ≡ p.records
   pub bounded : bounds_of k.redo ≡ bounds
 
 -- a crash leaves files with one of these two texts

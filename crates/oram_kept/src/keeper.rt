@@ -4,7 +4,7 @@ ghost use Rattle.oram_kept.specs.Keeper.{FindsOneOf, Knows};
 ghost use Rattle.oram_kept.specs.Kept.{Finds, bounds};
 ghost use Rattle.oram_kept.specs.Layout.{HaveRoom};
 ghost use Rattle.oram_kept.specs.Opening.{FindsSame, IsNotOpened};
-ghost use Rattle.oram_kept.specs.Pages.{AreTold, parts_of};
+ghost use Rattle.oram_kept.specs.Pages.{AreTold, AreToldRecords, StayInPlace, parts_of};
 ghost use Rattle.oram_kept.specs.Reading.{parts_around};
 ghost use Rattle.oram_redo.specs.FilePair.{ComesAfter, HasFailed, LeavesOnly, Rises};
 
@@ -41,9 +41,10 @@ impl<F: FilePair + Drop> TextKeeper<F> {
         files: F,
         generation: Generation,
     ) -> Result<(TextKeeper<F>, Text), OpenError>
-        ensures texts { IfOk result (λ opened. opened.0.texts ≡ parts_around opened.0.kept.table opened.1.around ∷ []) }
+        ensures texts { IfOk result (λ opened. opened.0.texts ≡ parts_around opened.0.kept.table opened.0.kept.records opened.1.around ∷ []) }
         ensures table { IfOk result (λ opened. opened.1.table.items ≡ opened.0.kept.table) }
-        ensures found { IfOk result (λ opened. F.model.is_honest opened.0.kept.files → Finds bounds (parts_around opened.0.kept.table opened.1.around) (F.model.seen files)) }
+        ensures records { IfOk result (λ opened. opened.1.records.items ≡ opened.0.kept.records) }
+        ensures found { IfOk result (λ opened. F.model.is_honest opened.0.kept.files → Finds bounds (parts_around opened.0.kept.table opened.0.kept.records opened.1.around) (F.model.seen files)) }
         ensures knows { IfOk result (λ opened. F.model.is_honest opened.0.kept.files → Knows F.model opened.0) }
 
         // A crash at any moment leaves what an earlier one might have left, or files with the same text.
@@ -53,7 +54,14 @@ impl<F: FilePair + Drop> TextKeeper<F> {
     {
         let (kept, text) = KeptText::open(alloc, files, generation)?;
         let mut history = TextHistory::new();
-        history.note(&[], &text.around.before, &text.table, &text.around.after);
+        let around = &text.around;
+        history.note(
+            &[],
+            &around.before,
+            &text.table,
+            &around.after,
+            &text.records,
+        );
         Ok((TextKeeper { kept, history }, text))
     }
 }
@@ -74,9 +82,13 @@ impl<F: FilePair> TextKeeper<F> {
     /// Keeps a text in place of the one before, as [`KeptText::keep`] does. Once it returns `Ok`, this text alone is found. After an error this one
     /// may be found, or what might have been found before.
     pub fn keep(&mut self, text: &TextParts<'_>) -> Result<(), RedoError>
-        requires { AreTold text.now.changes self.old.kept.table text.now.table.now }
+        requires table { AreTold text.now.changes self.old.kept.table text.now.table.now }
+        requires records { AreToldRecords text.now.changed_records self.old.kept.records text.now.records.now }
+        requires place { StayInPlace text.now.changed_records self.old.kept.table text.now.table.now }
         ensures table { OnOk result (self.new.kept.table ≡ text.now.table.now) }
         ensures table_before { OnErr result (self.new.kept.table ≡ self.old.kept.table) }
+        ensures records { OnOk result (self.new.kept.records ≡ text.now.records.now) }
+        ensures records_before { OnErr result (self.new.kept.records ≡ self.old.kept.records) }
         ensures texts { OnOk result (self.new.texts ≡ parts_of text.now ∷ []) }
         ensures tried { OnErr result (self.new.texts ≡ parts_of text.now ∷ self.old.texts) }
         ensures knows { Knows F.model self.old → Knows F.model self.new }
@@ -94,13 +106,11 @@ impl<F: FilePair> TextKeeper<F> {
         match self.kept.keep(text) {
             Ok(()) => {
                 self.history.forget();
-                self.history
-                    .note(text.title, text.before, text.table, text.after);
+                self.history.note_text(text);
                 Ok(())
             }
             Err(error) => {
-                self.history
-                    .note(text.title, text.before, text.table, text.after);
+                self.history.note_text(text);
                 Err(error)
             }
         }

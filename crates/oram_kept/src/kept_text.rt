@@ -1,9 +1,9 @@
 //! A text that is kept in a pair of files.
 ghost use Rattle.std.specs.Prelude.{◌≡◌, ◌⊎◌, ◌<◌, ◌≤◌, ◌+◌, ◌^◌, ◌++◌, ◌∷◌, [], ℕ, All, List, IfErr, IfOk, IsErr, IsErrOf, OnErr, OnOk, false, length, true};
 ghost use Rattle.oram_kept.specs.Kept.{FindsEither, Keeps, StandsEither, bounds};
-ghost use Rattle.oram_kept.specs.Layout.{HasTable, HaveRoom, Holds, head_of, pages_for};
+ghost use Rattle.oram_kept.specs.Layout.{HasRecords, HasTable, HaveRoom, Holds, head_of};
 ghost use Rattle.oram_kept.specs.Text.{Parts};
-ghost use Rattle.oram_kept.specs.Pages.{AreTold, AreWithin, IsFor, batch_for, parts_of, patches_of as pages_of};
+ghost use Rattle.oram_kept.specs.Pages.{AreTold, AreToldRecords, AreWritten, StayInPlace, batch_for, parts_of, patches_of as pages_of};
 ghost use Rattle.oram_redo.specs.Batch.{patches_of};
 ghost use Rattle.oram_redo.specs.Content.{Agrees, Content};
 ghost use Rattle.oram_redo.specs.FilePair.{ComesAfter, Contents, HasFailed, LeavesOnly, Rises, WritesNothing};
@@ -12,9 +12,9 @@ ghost use Rattle.oram_redo.specs.Redo.{IsCrashConsistent, bounds_of, end_of};
 ghost use Rattle.oram_redo.specs.declared.file_pair.FileKind.TheVariants.{Log, Records};
 
 use crate::head::HEAD_AT;
-use crate::pages::{Page, all_pages, pages_for, pages_with};
+use crate::pages::{Page, PagedPart, TABLE_AT};
 use crate::reading::Text;
-use crate::text::{ChangedNumbers, TextParts};
+use crate::text::{ChangedNumbers, ChangedRecords, TextParts};
 use crate::text_history::TextHistory;
 use oram_pair::{Generation, PairFormat, PairLetters};
 use oram_redo::{Bounds, FileKind, FilePair, Patch, Redo, RedoError};
@@ -28,11 +28,11 @@ const BOUNDS: Bounds = Bounds {
     records_end: 1 << 62,
 };
 
-/// How the pair of files of a text is laid out: the letters of its two files, with the version 1, and its bounds.
+/// How the pair of files of a text is laid out: the letters of its two files, with the version 2, and its bounds.
 pub const FORMAT: PairFormat = PairFormat {
     letters: PairLetters {
-        records: *b"VIDLAQEC\x01\0\0\0\0\0\0\0",
-        log: *b"VIDLAQCL\x01\0\0\0\0\0\0\0",
+        records: *b"VIDLAQEC\x02\0\0\0\0\0\0\0",
+        log: *b"VIDLAQCL\x02\0\0\0\0\0\0\0",
     },
     bounds: BOUNDS,
 };
@@ -56,35 +56,14 @@ pub struct KeptText<F: FilePair> {
 
 impl<F: FilePair> Model for KeptText<F> {
     ghost use Rattle.std.specs.Prelude.{◌≡◌};
-    ghost use Rattle.oram_kept.specs.Kept.{KeptValue, bounds, newest_table};
+    ghost use Rattle.oram_kept.specs.Kept.{KeptValue, bounds, newest_records, newest_table};
     ghost use Rattle.oram_redo.specs.Redo.{bounds_of};
 
     ghost Value = { KeptValue F };
 
-    ghost view = { λ k. record { files = k.files; redo = k.redo; table = newest_table k.last.texts; has_stopped = k.has_stopped } };
+    ghost view = { λ k. record { files = k.files; redo = k.redo; table = newest_table k.last.texts; records = newest_records k.last.texts; has_stopped = k.has_stopped } };
 
     ghost invariant = { λ k. bounds_of k.redo ≡ bounds };
-}
-
-/// Returns the pages of a table in which numbers may have changed: all of them if there are at least as many changes as pages.
-fn pages_to_write(
-    alloc: Global,
-    table: &[u32],
-    changes: ChangedNumbers<'_>,
-) -> Result<Vec<Page>, AllocError>
-    requires { length table.now < 2 ^ 32 }
-    ensures pages { IfOk result (λ pages. (old : List ℕ) (c : Content) → AreTold changes.entry old table.now → HasTable old c → HasTable table.now (put_all (pages_of pages.items) c)) }
-    ensures changed { IfOk result (λ pages. IsFor changes.entry (pages_for (length table.now)) (pages_of pages.items)) }
-    ensures within { IfOk result (λ pages. AreWithin (pages_for (length table.now)) (pages_of pages.items)) }
-    ensures few { IfOk result (λ pages. length pages.items ≤ pages_for (length table.now)) }
-{
-    let ChangedNumbers::At(indexes) = changes else {
-        return all_pages(alloc, table);
-    };
-    if indexes.len() < pages_for(table.len()) {
-        return pages_with(alloc, table, indexes);
-    }
-    all_pages(alloc, table)
 }
 
 /// What a keeping changes besides the two texts around the table.
@@ -94,17 +73,15 @@ struct Change {
     head: Vec<u8>,
 }
 
-/// Returns what a text changes in the file, if these numbers of its table may have changed.
+/// Returns what a text changes in the file, if these numbers of its table and these records may have changed.
 fn change_for(
     alloc: Global,
     text: &TextParts<'_>,
     changes: ChangedNumbers<'_>,
+    changed_records: ChangedRecords<'_>,
 ) -> Result<Change, RedoError>
     ensures room { OnOk result (HaveRoom (parts_of text.now)) }
-    ensures pages { IfOk result (λ change. (old : List ℕ) (c : Content) → AreTold changes.entry old text.now.table.now → HasTable old c → HasTable text.now.table.now (put_all (pages_of change.pages.items) c)) }
-    ensures changed { IfOk result (λ change. IsFor changes.entry (pages_for (length text.now.table.now)) (pages_of change.pages.items)) }
-    ensures within { IfOk result (λ change. AreWithin (pages_for (length text.now.table.now)) (pages_of change.pages.items)) }
-    ensures few { IfOk result (λ change. length change.pages.items ≤ pages_for (length text.now.table.now)) }
+    ensures pages { IfOk result (λ change. AreWritten changes.entry changed_records.entry (parts_of text.now) (pages_of change.pages.items)) }
     ensures head { IfOk result (λ change. change.head.items ≡ head_of (parts_of text.now)) }
     ensures errors { IfErr result (λ e. (e ≡ RedoError.Memory) ⊎ (e ≡ RedoError.LogFull)) }
     ensures full { IsErrOf result RedoError.LogFull → HaveRoom (parts_of text.now) → ⊥ }
@@ -112,7 +89,11 @@ fn change_for(
     if !text.have_room() {
         return Err(RedoError::LogFull);
     }
-    let pages = pages_to_write(alloc, text.table, changes)?;
+    let table = PagedPart::Table(text.table);
+    let records = PagedPart::Records(text.records);
+    let mut pages = Vec::new(alloc);
+    table.add_told_pages(alloc, TABLE_AT, changes.as_records(), &mut pages)?;
+    records.add_told_pages(alloc, text.records_at(), changed_records, &mut pages)?;
     let head = text.head(alloc)?;
     Ok(Change { pages, head })
 }
@@ -185,7 +166,7 @@ pub fn write_first<F: FilePair>(
     ensures full { IsErrOf result RedoError.LogFull → HaveRoom (parts_of text.now) → ⊥ }
     ensures after { ComesAfter F.model files.old files.new }
 {
-    let change = change_for(alloc, text, ChangedNumbers::Any)?;
+    let change = change_for(alloc, text, ChangedNumbers::Any, ChangedRecords::Any)?;
     let batch = change.batch_of(alloc, text.lent())?;
     write_all(files, &batch)
 }
@@ -261,10 +242,17 @@ impl<F: FilePair> KeptText<F> {
         text: Text,
     ) -> (KeptText<F>, Text)
         requires { bounds_of redo ≡ bounds }
-        ensures { result ≡ (record { files = files; redo = redo; table = text.table.items; has_stopped = false }, text) }
+        ensures { result ≡ (record { files = files; redo = redo; table = text.table.items; records = text.records.items; has_stopped = false }, text) }
     {
         let mut last = TextHistory::new();
-        last.note(&[], &text.around.before, &text.table, &text.around.after);
+        let around = &text.around;
+        last.note(
+            &[],
+            &around.before,
+            &text.table,
+            &around.after,
+            &text.records,
+        );
         let kept = KeptText {
             alloc,
             files,
@@ -292,10 +280,14 @@ impl<F: FilePair> KeptText<F> {
 
     /// Writes a text over the one before.
     fn put(&mut self, text: &TextParts<'_>) -> Result<(), RedoError>
-        requires { AreTold text.now.changes self.old.table text.now.table.now }
+        requires table { AreTold text.now.changes self.old.table text.now.table.now }
+        requires records { AreToldRecords text.now.changed_records self.old.records text.now.records.now }
+        requires place { StayInPlace text.now.changed_records self.old.table text.now.table.now }
         ensures ok { IsCrashConsistent F.model self.old.redo [] self.old.files → HasTable self.old.table (F.model.seen self.old.files Records)
-            → OnOk result (Keeps F.model (parts_of text.now) (record self.new { table = text.now.table.now })) }
+            → HasRecords self.old.table self.old.records (F.model.seen self.old.files Records)
+            → OnOk result (Keeps F.model (parts_of text.now) (record self.new { table = text.now.table.now; records = text.now.records.now })) }
         ensures table { self.new.table ≡ self.old.table }
+        ensures records { self.new.records ≡ self.old.records }
         ensures any_moment { (p : Parts) → Keeps F.model p self.old
             → LeavesOnly F.model self.old.files self.new.files (FindsEither bounds p (parts_of text.now)) }
         ensures failed { IsErrOf result RedoError.Failed → HasFailed F.model self.old.files self.new.files }
@@ -306,21 +298,25 @@ impl<F: FilePair> KeptText<F> {
         ensures stopped { self.new.has_stopped ≡ self.old.has_stopped }
     {
         let alloc = self.alloc;
-        let change = change_for(alloc, text, text.changes)?;
+        let change = change_for(alloc, text, text.changes, text.changed_records)?;
         let batch = change.batch_of(alloc, text.lent())?;
         let (redo, generation) = (&mut self.redo, &mut self.generation);
         commit(alloc, &mut self.files, redo, generation, &batch)
     }
 
-    /// Keeps a text in place of the one before. The text tells which numbers of its table may have changed: this writes the pages
-    /// with these numbers, and the texts around the table. It never looks at the other numbers.
+    /// Keeps a text in place of the one before. The text tells which numbers of its table and which of its records may have changed: this
+    /// writes the pages with these, and the texts around the table. It never looks at the other pages.
     ///
     /// A crash at any moment leaves files with the text of before or with this one, and once this returns `Ok`, only with this one. After an
     /// error nothing more is kept: the files have to be opened again, and hold one of the two.
     pub fn keep(&mut self, text: &TextParts<'_>) -> Result<(), RedoError>
-        requires { AreTold text.now.changes self.old.table text.now.table.now }
+        requires table { AreTold text.now.changes self.old.table text.now.table.now }
+        requires records { AreToldRecords text.now.changed_records self.old.records text.now.records.now }
+        requires place { StayInPlace text.now.changed_records self.old.table text.now.table.now }
         ensures table { OnOk result (self.new.table ≡ text.now.table.now) }
         ensures table_before { OnErr result (self.new.table ≡ self.old.table) }
+        ensures records { OnOk result (self.new.records ≡ text.now.records.now) }
+        ensures records_before { OnErr result (self.new.records ≡ self.old.records) }
         ensures ok { (p : Parts) → Keeps F.model p self.old → OnOk result (Keeps F.model (parts_of text.now) self.new) }
         ensures any_moment { (p : Parts) → Keeps F.model p self.old
             → LeavesOnly F.model self.old.files self.new.files (FindsEither bounds p (parts_of text.now)) }
@@ -342,8 +338,7 @@ impl<F: FilePair> KeptText<F> {
         }
         match self.put(text) {
             Ok(()) => {
-                self.last
-                    .note(text.title, text.before, text.table, text.after);
+                self.last.note_text(text);
                 Ok(())
             }
             Err(error) => {

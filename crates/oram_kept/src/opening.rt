@@ -60,7 +60,7 @@ impl From<AllocError> for OpenError {
 
 /// Reads the text that the records hold.
 fn read_text<F: FilePair>(alloc: Global, files: &mut F, redo: &Redo) -> Result<Text, OpenError>
-    ensures found { IfOk result (λ text. F.model.is_honest files.new → Holds (parts_around text.table.items text.around) (F.model.seen files.old Records)) }
+    ensures found { IfOk result (λ text. F.model.is_honest files.new → Holds (parts_around text.table.items text.records.items text.around) (F.model.seen files.old Records)) }
     ensures none { IsErrOf result OpenError.NoText → F.model.is_honest files.new → (p : Parts) → Holds p (F.model.seen files.old Records) → ⊥ }
     ensures reads { ReadsText F.model redo.now result files.old files.new }
 {
@@ -68,8 +68,10 @@ fn read_text<F: FilePair>(alloc: Global, files: &mut F, redo: &Redo) -> Result<T
     let Some(head) = Head::read(&bytes) else {
         return Err(OpenError::NoText);
     };
-    let body = redo.read(alloc, files, TABLE_AT, head.body_len())?;
-    let Some(text) = text_in(alloc, &head, &body)? else {
+    let table_pages = redo.read(alloc, files, TABLE_AT, head.table_pages_len())?;
+    let record_pages = redo.read(alloc, files, head.records_at(), head.record_pages_len())?;
+    let texts = redo.read(alloc, files, head.texts_at(), head.texts_len())?;
+    let Some(text) = text_in(alloc, &head, &table_pages, record_pages, &texts)? else {
         return Err(OpenError::NoText);
     };
     Ok(text)
@@ -84,9 +86,10 @@ impl<F: FilePair + Drop> KeptText<F> {
         generation: Generation,
     ) -> Result<(KeptText<F>, Text), OpenError>
         // It is the text that was kept last, and is kept again from then on.
-        ensures found { IfOk result (λ opened. F.model.is_honest opened.0.files → Finds bounds (parts_around opened.0.table opened.1.around) (F.model.seen files)) }
-        ensures kept { IfOk result (λ opened. F.model.is_honest opened.0.files → Keeps F.model (parts_around opened.0.table opened.1.around) opened.0) }
+        ensures found { IfOk result (λ opened. F.model.is_honest opened.0.files → Finds bounds (parts_around opened.0.table opened.0.records opened.1.around) (F.model.seen files)) }
+        ensures kept { IfOk result (λ opened. F.model.is_honest opened.0.files → Keeps F.model (parts_around opened.0.table opened.0.records opened.1.around) opened.0) }
         ensures table { IfOk result (λ opened. opened.1.table.items ≡ opened.0.table) }
+        ensures records { IfOk result (λ opened. opened.1.records.items ≡ opened.0.records) }
         ensures goes_on { IfOk result (λ opened. opened.0.has_stopped ≡ false) }
 
         // A crash at any moment leaves what an earlier one might have left, or files with the same text.

@@ -1,10 +1,10 @@
-//! A text with a table of numbers in it, and what the file's head says of it.
+//! A text with a table of numbers and with records in it, and what the file's head says of it.
 ghost use Rattle.std.specs.Prelude.{◌≡◌, ◌↔◌, ◌<◌, ◌^◌, ◌++◌, ◌+◌, All, IfOk, IsTrue, length};
-ghost use Rattle.oram_kept.specs.Layout.{HaveRoom, after_at, before_at, check_of, head_of};
-ghost use Rattle.oram_kept.specs.Pages.{parts_of};
+ghost use Rattle.oram_kept.specs.Layout.{HaveRoom, after_at, before_at, check_of, head_of, records_at};
+ghost use Rattle.oram_kept.specs.Pages.{as_records, parts_of};
 
 use crate::head::Head;
-use crate::pages::{page_at, pages_for};
+use crate::pages::{NUMBER_LEN, TABLE_AT, page_at, pages_for};
 use std::alloc::{AllocError, Global};
 use std::hash::{DefaultHasher, Hasher};
 
@@ -17,7 +17,35 @@ pub enum ChangedNumbers<'a> {
     At(&'a [u32]),
 }
 
-/// The parts of a text: what stands before its table, the numbers of the table, and what stands behind it.
+impl<'a> ChangedNumbers<'a> {
+    /// Returns the numbers as records of four bytes each.
+    pub(crate) fn as_records(self) -> ChangedRecords<'a>
+        ensures { result ≡ as_records self.entry }
+    {
+        match self {
+            ChangedNumbers::Any => ChangedRecords::Any,
+            ChangedNumbers::At(indexes) => ChangedRecords::At {
+                record_len: NUMBER_LEN as u32,
+                indexes,
+            },
+        }
+    }
+}
+
+/// The records of a text that may have changed since they were kept last.
+#[derive(Clone, Copy, Debug)]
+pub enum ChangedRecords<'a> {
+    /// Any of them.
+    Any,
+    /// Those with these indexes. An index may stand here more than once.
+    At {
+        /// The length of each record in bytes.
+        record_len: u32,
+        indexes: &'a [u32],
+    },
+}
+
+/// The parts of a text: what stands before its table, the numbers of the table, what stands behind it, and the records.
 #[derive(Clone, Copy, Debug)]
 pub struct TextParts<'a> {
     /// The first bytes of the text. They are apart from those that follow so that nobody has to copy the two together.
@@ -28,6 +56,10 @@ pub struct TextParts<'a> {
     /// The numbers of the table that may differ from those of the table that was kept last.
     pub changes: ChangedNumbers<'a>,
     pub after: &'a [u8],
+    /// The bytes of the records, one record after the other. The text ends with them.
+    pub records: &'a [u8],
+    /// The records that may differ from those that were kept last. If that isn't `Any`, the table is as long as the one that was kept last.
+    pub changed_records: ChangedRecords<'a>,
 }
 
 /// Returns the checksum of the text before a table, which has a title and more bytes, and of the text behind the table.
@@ -60,6 +92,8 @@ impl TextParts<'_> {
             table: self.table,
             changes: self.changes,
             after: self.after,
+            records: self.records,
+            changed_records: self.changed_records,
         }
     }
 
@@ -73,6 +107,7 @@ impl TextParts<'_> {
             && self.before.len() <= most - self.title.len()
             && self.table.len() <= most
             && self.after.len() <= most
+            && self.records.len() <= most
     }
 
     /// Returns how many bytes stand before the table.
@@ -91,12 +126,20 @@ impl TextParts<'_> {
         self.before_at() + self.title.len() as u64
     }
 
+    /// Returns the place of the first page of the records.
+    pub(crate) fn records_at(&self) -> u64
+        requires { HaveRoom (parts_of self.now) }
+        ensures { result ≡ records_at (parts_of self.now).table }
+    {
+        page_at(TABLE_AT, pages_for(self.table.len() * NUMBER_LEN))
+    }
+
     /// Returns the place of the text before the table.
     pub(crate) fn before_at(&self) -> u64
         requires { HaveRoom (parts_of self.now) }
         ensures { result ≡ before_at (parts_of self.now) }
     {
-        page_at(pages_for(self.table.len()))
+        page_at(self.records_at(), pages_for(self.records.len()))
     }
 
     /// Returns the place of the text behind the table.
@@ -116,6 +159,7 @@ impl TextParts<'_> {
             before: self.before_len(),
             table: self.table.len() as u64,
             after: self.after.len() as u64,
+            records: self.records.len() as u64,
             check: check_of(self.title, self.before, self.after),
         };
         head.encode(alloc)

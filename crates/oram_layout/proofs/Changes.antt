@@ -11,8 +11,8 @@ use Rattle.oram_redo.specs.Log.{Patch, Spares, put_all}
 use Rattle.oram_redo.proofs.Bytes.{has-put, put_outside}
 use Rattle.oram_redo.proofs.Heal.{put_all-append, put_all_heals, put_all_spares, put_heals}
 use Rattle.oram_layout.specs.BucketFile.{IsBucketFile}
-use Rattle.oram_layout.specs.Changes.{IsCell, IsOffRecords, marks, path_patches, record_patch}
-use Rattle.oram_layout.specs.Laws.{HasNode, LooseKeepsRecords, MarkPutsRecord, MarksKeepFile, OffStaysOff, PathIsPut, PutsPath, PutsRecord, RecordIsPut, UnmarkedIsOff}
+use Rattle.oram_layout.specs.Changes.{IsCell, IsOffRecords, level_patches, marks, record_patch}
+use Rattle.oram_layout.specs.Laws.{HasNode, LevelsArePut, LooseKeepsRecords, MarkPutsRecord, MarksKeepFile, OffStaysOff, PutsLevels, PutsRecord, RecordIsPut, UnmarkedIsOff}
 use Rattle.oram_layout.specs.Records.{KeepsOthers, records_in}
 use Rattle.oram_layout.specs.Trees.{AreApart, Trees, cell_at, next_of, tree_at}
 use Rattle.oram_layout.specs.declared.trees.Tree.{Tree}
@@ -75,11 +75,11 @@ pub record_put : RecordIsPut
 record_put trees c new n tree node bytes is has long same =
     subst (λ (e : Content). PutsRecord trees c n node bytes e) (sym (content_is (put_all (record_patch tree node bytes ∷ []) c) new same)) (put_is trees c n tree node bytes is has long)
 
--- the records of some levels of a path are put
-record PutsLevels (trees : Trees) (c : Content) (number : ℕ) (tree : Tree) (leaf : ℕ) (bytes : List ℕ) (level n : ℕ) (new : Content) : Type 0 where
+-- the records of some levels of a path are put: n of them, from the i-th on
+record PutsSome (trees : Trees) (c : Content) (number : ℕ) (tree : Tree) (leaf first : ℕ) (bytes : List ℕ) (i n : ℕ) (new : Content) : Type 0 where
   is_file : IsBucketFile trees new
-  each : (k : ℕ) → level ≤ k → k < level + n → records_in trees new number (node_on tree.shape.depth leaf k) ≡ Some (record_at tree.shape.record_len bytes k)
-  others : (other node : ℕ) → ((other ≢ number) ⊎ ((k : ℕ) → level ≤ k → k < level + n → node ≢ node_on tree.shape.depth leaf k)) → records_in trees new other node ≡ records_in trees c other node
+  each : (k : ℕ) → i ≤ k → k < i + n → records_in trees new number (node_on tree.shape.depth leaf (first + k)) ≡ Some (record_at tree.shape.record_len bytes k)
+  others : (other node : ℕ) → ((other ≢ number) ⊎ ((k : ℕ) → i ≤ k → k < i + n → node ≢ node_on tree.shape.depth leaf (first + k))) → records_in trees new other node ≡ records_in trees c other node
 
 pub length-record_at : (len : ℕ) (bytes : List ℕ) (level levels : ℕ) → length bytes ≡ levels * len → level < levels → length (record_at len bytes level) ≡ len
 length-record_at len bytes level levels whole below =
@@ -87,47 +87,48 @@ length-record_at len bytes level levels whole below =
     let step = add-mul level 1 len in
     length-take ((level + 1) * len - level * len) (drop (level * len) bytes) ∙ (omega (arith, length-drop (level * len) bytes))
 
-module _ (trees : Trees) (number : ℕ) (tree : Tree) (there : tree_at trees number ≡ Some tree) (leaf : ℕ) (leaf_in : leaf < 2 ^ tree.shape.depth) (bytes : List ℕ)
-    (whole : length bytes ≡ (tree.shape.depth + 1) * tree.shape.record_len) where
-  levels_put : (n level : ℕ) (c : Content) → IsBucketFile trees c → level + n ≤ tree.shape.depth + 1
-      → PutsLevels trees c number tree leaf bytes level n (put_all (path_patches tree leaf bytes level n) c)
-  levels_put zero level c is fits = record {
+module _ (trees : Trees) (number : ℕ) (tree : Tree) (there : tree_at trees number ≡ Some tree) (leaf : ℕ) (leaf_in : leaf < 2 ^ tree.shape.depth) (first count : ℕ)
+    (within : first + count ≤ tree.shape.depth + 1) (bytes : List ℕ) (whole : length bytes ≡ count * tree.shape.record_len) where
+  some_put : (n i : ℕ) (c : Content) → IsBucketFile trees c → i + n ≤ count
+      → PutsSome trees c number tree leaf first bytes i n (put_all (level_patches tree leaf first bytes i n) c)
+  some_put zero i c is fits = record {
     is_file = is;
     each = λ k from below. absurd (omega arith);
     others = λ other node differ. refl;
   }
-  levels_put (suc n) level c is fits =
+  some_put (suc n) i c is fits =
       let depth : ℕ = tree.shape.depth in
-      let node : ℕ = node_on depth leaf level in
-      let piece : List ℕ = record_at tree.shape.record_len bytes level in
-      let has : HasNode trees number tree node = record { is_there = there; within = node_on-within depth leaf level leaf_in (omega arith) } in
-      let first : PutsRecord trees c number node piece (put (1 ∷ piece) (cell_at tree node) c) =
-      put_is trees c number tree node piece is has (length-record_at tree.shape.record_len bytes level (depth + 1) whole (omega arith)) in
-      let rest = levels_put n (suc level) (put (1 ∷ piece) (cell_at tree node) c) first.is_file (omega arith) in
+      let node : ℕ = node_on depth leaf (first + i) in
+      let piece : List ℕ = record_at tree.shape.record_len bytes i in
+      let has : HasNode trees number tree node = record { is_there = there; within = node_on-within depth leaf (first + i) leaf_in (omega arith) } in
+      let here : PutsRecord trees c number node piece (put (1 ∷ piece) (cell_at tree node) c) =
+      put_is trees c number tree node piece is has (length-record_at tree.shape.record_len bytes i count whole (omega arith)) in
+      let rest = some_put n (suc i) (put (1 ∷ piece) (cell_at tree node) c) here.is_file (omega arith) in
       record {
         is_file = rest.is_file;
-        each = λ k from below. elim (cases_eq k level) [
+        each = λ k from below. elim (cases_eq k i) [
           | inl same ↦
-              rest.others number (node_on depth leaf k) (inr (λ j above under e. absurd (omega (arith, node_on-injective depth leaf k j (omega arith) (omega arith) e))))
-              ∙ ap (λ (l : ℕ). records_in trees (put (1 ∷ piece) (cell_at tree node) c) number (node_on depth leaf l)) same ∙ first.there
+              rest.others number (node_on depth leaf (first + k))
+              (inr (λ j above under e. absurd (omega (arith, node_on-injective depth leaf (first + k) (first + j) (omega arith) (omega arith) e))))
+              ∙ ap (λ (l : ℕ). records_in trees (put (1 ∷ piece) (cell_at tree node) c) number (node_on depth leaf (first + l))) same ∙ here.there
               ∙ ap (λ (l : ℕ). Some (record_at tree.shape.record_len bytes l)) (sym same)
           | inr other ↦ rest.each k (omega arith) (omega arith)
         ];
         others = λ other b differ. elim differ [
-          | inl ne ↦ rest.others other b (inl ne) ∙ first.others other b (inl ne)
+          | inl ne ↦ rest.others other b (inl ne) ∙ here.others other b (inl ne)
           | inr off ↦
-              rest.others other b (inr (λ k from below. off k (omega arith) (omega arith))) ∙ first.others other b (inr (off level (omega arith) (omega arith)))
+              rest.others other b (inr (λ k from below. off k (omega arith) (omega arith))) ∙ here.others other b (inr (off i (omega arith) (omega arith)))
         ];
       }
 
-pub path_put : PathIsPut
-path_put trees c new number tree leaf bytes is there leaf_in whole same =
-    let levels = levels_put trees number tree there leaf leaf_in bytes whole (tree.shape.depth + 1) 0 c is (omega arith) in
-    subst (λ (e : Content). PutsPath trees c number tree leaf bytes e) (sym (content_is (put_all (path_patches tree leaf bytes 0 (tree.shape.depth + 1)) c) new same))
+pub levels_put : LevelsArePut
+levels_put trees c new number tree leaf first count bytes is there leaf_in within whole same =
+    let put = some_put trees number tree there leaf leaf_in first count within bytes whole count 0 c is (omega arith) in
+    subst (λ (e : Content). PutsLevels trees c number tree leaf first count bytes e) (sym (content_is (put_all (level_patches tree leaf first bytes 0 count) c) new same))
     (record {
-      is_file = levels.is_file;
-      path = record { whole = whole; each = λ level h. levels.each level (omega arith) (omega arith) };
-      others = λ other node differ. levels.others other node (elim differ [
+      is_file = put.is_file;
+      levels = record { whole = whole; each = λ i below. put.each i (omega arith) (omega arith) };
+      others = λ other node differ. put.others other node (elim differ [
         | inl ne ↦ inl ne
         | inr off ↦ inr (λ k from below. off k (omega arith))
       ]);

@@ -4,7 +4,7 @@ use Rattle.oram_host.specs.Path.{node_on, record_at}
 use Rattle.oram_host.proofs.Nodes.{node_on-within}
 use Rattle.oram_redo.specs.Log.{Fits}
 use Rattle.oram_redo.specs.declared.bounds.Bounds.{Bounds}
-use Rattle.oram_layout.specs.Changes.{IsCell, marks, path_patches, record_patch, tree_patch}
+use Rattle.oram_layout.specs.Changes.{IsCell, level_patches, marks, record_patch, tree_patch}
 use Rattle.oram_layout.specs.Laws.{AllPatchesFit}
 use Rattle.oram_layout.specs.Limits.{nodes_of}
 use Rattle.oram_layout.specs.Trees.{Trees, cell_at, end_of, sizes_of}
@@ -34,14 +34,14 @@ module _ (bounds : Bounds) (end : bounds.records_end ≡ 2 ^ 62) where
         length_fits = omega (arith, long, record_len_small tree.shape);
       }
 
-  levels_fit : (tree : Tree) (leaf : ℕ) (bytes : List ℕ) → leaf < 2 ^ tree.shape.depth → length bytes ≡ (tree.shape.depth + 1) * tree.shape.record_len
-      → (n level : ℕ) → level + n ≤ tree.shape.depth + 1 → All (Fits bounds) (path_patches tree leaf bytes level n)
-  levels_fit tree leaf bytes leaf_in whole zero level fits = λ k d h. absurd (omega arith)
-  levels_fit tree leaf bytes leaf_in whole (suc n) level fits =
+  levels_fit : (tree : Tree) (leaf first count : ℕ) (bytes : List ℕ) → leaf < 2 ^ tree.shape.depth → first + count ≤ tree.shape.depth + 1 → length bytes ≡ count * tree.shape.record_len
+      → (n i : ℕ) → i + n ≤ count → All (Fits bounds) (level_patches tree leaf first bytes i n)
+  levels_fit tree leaf first count bytes leaf_in within whole zero i fits = λ k d h. absurd (omega arith)
+  levels_fit tree leaf first count bytes leaf_in within whole (suc n) i fits =
       all_cons (Fits bounds) _ _
-      (record_fits tree (node_on tree.shape.depth leaf level) (record_at tree.shape.record_len bytes level) (node_on-within tree.shape.depth leaf level leaf_in (omega arith))
-      (length-record_at tree.shape.record_len bytes level (tree.shape.depth + 1) whole (omega arith)))
-      (levels_fit tree leaf bytes leaf_in whole n (suc level) (omega arith))
+      (record_fits tree (node_on tree.shape.depth leaf (first + i)) (record_at tree.shape.record_len bytes i) (node_on-within tree.shape.depth leaf (first + i) leaf_in (omega arith))
+      (length-record_at tree.shape.record_len bytes i count whole (omega arith)))
+      (levels_fit tree leaf first count bytes leaf_in within whole n (suc i) (omega arith))
 
   mark_fits : (trees : Trees) (cell : ℕ) → IsCell trees cell → Fits bounds (cell, 1 ∷ [])
   mark_fits trees cell its =
@@ -68,7 +68,7 @@ module _ (bounds : Bounds) (end : bounds.records_end ≡ 2 ^ 62) where
 pub patches_fit : AllPatchesFit
 patches_fit bounds end = record {
   of_record = record_fits bounds end;
-  of_path = λ tree leaf bytes leaf_in whole. levels_fit bounds end tree leaf bytes leaf_in whole (tree.shape.depth + 1) 0 (omega arith);
+  of_levels = λ tree leaf first count bytes leaf_in within whole. levels_fit bounds end tree leaf first count bytes leaf_in within whole count 0 (omega arith);
   of_marks = marks_fit bounds end;
   of_tree = tree_fits bounds end;
 }

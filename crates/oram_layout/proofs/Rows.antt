@@ -3,7 +3,7 @@ use Rattle.std.proofs.Common.{◌≡◌, [], ◌∷◌, Some, None, refl, lit≤
 use Rattle.oram_host.specs.Path.{node_on}
 use Rattle.oram_redo.specs.Content.{Content, put}
 use Rattle.oram_redo.specs.Log.{put_all}
-use Rattle.oram_layout.specs.Changes.{marks, path_patches, unmarked_patch}
+use Rattle.oram_layout.specs.Changes.{level_patches, marks, unmarked_patch}
 use Rattle.oram_pair.specs.Fronts.{front_bytes}
 use Rattle.oram_layout.specs.Header.{letters}
 use Rattle.oram_layout.specs.Limits.{cell_len, cells_len}
@@ -57,9 +57,14 @@ row_marked : records_in two (put_all (marks (8200 ∷ [])) (put_all (unmarked_pa
 row_marked = refl
 
 -- the path of leaf 1 is the root and node 2
-row_path : path_patches narrow 1 (1 ∷ 2 ∷ 3 ∷ 4 ∷ 5 ∷ 6 ∷ []) 0 2 ≡ (8192, 1 ∷ 1 ∷ 2 ∷ 3 ∷ []) ∷ (8200, 1 ∷ 4 ∷ 5 ∷ 6 ∷ []) ∷ []
+row_path : level_patches narrow 1 0 (1 ∷ 2 ∷ 3 ∷ 4 ∷ 5 ∷ 6 ∷ []) 0 2 ≡ (8192, 1 ∷ 1 ∷ 2 ∷ 3 ∷ []) ∷ (8200, 1 ∷ 4 ∷ 5 ∷ 6 ∷ []) ∷ []
 unfolding node_on
 row_path = refl
+
+-- its last level alone
+row_level : level_patches narrow 1 1 (4 ∷ 5 ∷ 6 ∷ []) 0 1 ≡ (8200, 1 ∷ 4 ∷ 5 ∷ 6 ∷ []) ∷ []
+unfolding node_on
+row_level = refl
 
 row_front : front_bytes letters (record { 0 = 9 ∷ 8 ∷ [] }) ≡ 86 ∷ 73 ∷ 68 ∷ 76 ∷ 65 ∷ 81 ∷ 69 ∷ 66 ∷ 3 ∷ 0 ∷ 0 ∷ 0 ∷ 0 ∷ 0 ∷ 0 ∷ 0 ∷ 9 ∷ 8 ∷ []
 row_front = refl

@@ -17,11 +17,11 @@ record_patch tree node bytes = (cell_at tree node, 1 ∷ bytes)
 abbrev pub unmarked_patch : Tree → ℕ → List ℕ → Patch
 unmarked_patch tree node bytes = (suc (cell_at tree node), bytes)
 
--- patches for the records of a leaf's path: n levels, from `level` on
-abbrev pub path_patches : Tree → ℕ → List ℕ → ℕ → ℕ → List Patch
-path_patches tree leaf bytes level zero = []
-path_patches tree leaf bytes level (suc n) =
-    record_patch tree (node_on tree.shape.depth leaf level) (record_at tree.shape.record_len bytes level) ∷ path_patches tree leaf bytes (suc level) n
+-- patches for the records of a leaf's path from level `first` on: n of them, from the i-th on
+abbrev pub level_patches : Tree → ℕ → ℕ → List ℕ → ℕ → ℕ → List Patch
+level_patches tree leaf first bytes i zero = []
+level_patches tree leaf first bytes i (suc n) =
+    record_patch tree (node_on tree.shape.depth leaf (first + i)) (record_at tree.shape.record_len bytes i) ∷ level_patches tree leaf first bytes (suc i) n
 
 -- writes a tree into the header
 abbrev pub tree_patch : ℕ → Tree → Patch

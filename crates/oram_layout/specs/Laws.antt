@@ -4,11 +4,11 @@ use Rattle.oram_redo.specs.Content.{Content, Agrees, put}
 use Rattle.oram_redo.specs.Log.{Patch, AgreesBut, Fits, put_all}
 use Rattle.oram_redo.specs.declared.bounds.Bounds.{Bounds}
 use Rattle.oram_layout.specs.BucketFile.{IsBucketFile}
-use Rattle.oram_layout.specs.Changes.{IsCell, IsOffRecords, marks, path_patches, record_patch, tree_patch, unmarked_patch}
+use Rattle.oram_layout.specs.Changes.{IsCell, IsOffRecords, level_patches, marks, record_patch, tree_patch, unmarked_patch}
 use Rattle.oram_pair.specs.Fronts.{front_bytes}
 use Rattle.oram_layout.specs.Header.{HasTrees, letters}
 use Rattle.oram_layout.specs.Limits.{nodes_of}
-use Rattle.oram_layout.specs.Records.{AreKept, IsPathOf, KeepsOffPath, KeepsOthers, records_in}
+use Rattle.oram_layout.specs.Records.{AreKept, AreLevelsOf, KeepsOffLevels, KeepsOthers, records_in}
 use Rattle.oram_layout.specs.Trees.{AddsTree, AreApart, HasNoTree, Trees, cell_at, next_of, sizes_of, tree_at}
 use Rattle.oram_layout.specs.declared.entries.TheConstants.{TREES}
 use Rattle.oram_pair.specs.declared.fronts.Identity.{Identity}
@@ -31,11 +31,11 @@ pub record PutsRecord (trees : Trees) (old : Content) (number node : ℕ) (bytes
   pub there : records_in trees new number node ≡ Some bytes
   pub others : KeepsOthers (records_in trees old) number node (records_in trees new)
 
--- The new content is a bucket file too, with these records on a leaf's path, and every other record is as it was.
-pub record PutsPath (trees : Trees) (old : Content) (number : ℕ) (tree : Tree) (leaf : ℕ) (bytes : List ℕ) (new : Content) : Type 0 where
+-- The new content is a bucket file too, with these records on some levels of a leaf's path, and every other record is as it was.
+pub record PutsLevels (trees : Trees) (old : Content) (number : ℕ) (tree : Tree) (leaf first count : ℕ) (bytes : List ℕ) (new : Content) : Type 0 where
   pub is_file : IsBucketFile trees new
-  pub path : IsPathOf (records_in trees new) number (sizes_of tree.shape) leaf bytes
-  pub others : KeepsOffPath (records_in trees old) number (sizes_of tree.shape) leaf (records_in trees new)
+  pub levels : AreLevelsOf (records_in trees new) number (sizes_of tree.shape) leaf first count bytes
+  pub others : KeepsOffLevels (records_in trees old) number (sizes_of tree.shape) leaf first count (records_in trees new)
 
 -- A content that agrees with a bucket file's everywhere is a bucket file with the same records.
 abbrev pub SameRecords : Type 0
@@ -56,11 +56,11 @@ RecordIsPut = (trees : Trees) (c new : Content) (number : ℕ) (tree : Tree) (no
     → HasNode trees number tree node → length bytes ≡ tree.shape.record_len
     → Agrees new (put_all (record_patch tree node bytes ∷ []) c) → PutsRecord trees c number node bytes new
 
--- A path's patches write its records, and no others.
-abbrev pub PathIsPut : Type 0
-PathIsPut = (trees : Trees) (c new : Content) (number : ℕ) (tree : Tree) (leaf : ℕ) (bytes : List ℕ) → IsBucketFile trees c
-    → tree_at trees number ≡ Some tree → leaf < 2 ^ tree.shape.depth → length bytes ≡ (tree.shape.depth + 1) * tree.shape.record_len
-    → Agrees new (put_all (path_patches tree leaf bytes 0 (tree.shape.depth + 1)) c) → PutsPath trees c number tree leaf bytes new
+-- The patches of some levels of a path write their records, and no others.
+abbrev pub LevelsArePut : Type 0
+LevelsArePut = (trees : Trees) (c new : Content) (number : ℕ) (tree : Tree) (leaf first count : ℕ) (bytes : List ℕ) → IsBucketFile trees c
+    → tree_at trees number ≡ Some tree → leaf < 2 ^ tree.shape.depth → first + count ≤ tree.shape.depth + 1 → length bytes ≡ count * tree.shape.record_len
+    → Agrees new (put_all (level_patches tree leaf first bytes 0 count) c) → PutsLevels trees c number tree leaf first count bytes new
 
 -- Whatever bytes are in places off the records, the records are the same.
 abbrev pub LooseKeepsRecords : Type 0
@@ -103,8 +103,8 @@ MarkSharesBlock = (trees : Trees) (number : ℕ) (tree : Tree) (node half : ℕ)
 -- Each patch that changes a bucket file fits these bounds of a redo log.
 pub record PatchesFit (bounds : Bounds) : Type 0 where
   pub of_record : (tree : Tree) (node : ℕ) (bytes : List ℕ) → node < nodes_of (sizes_of tree.shape) → length bytes ≡ tree.shape.record_len → Fits bounds (record_patch tree node bytes)
-  pub of_path : (tree : Tree) (leaf : ℕ) (bytes : List ℕ) → leaf < 2 ^ tree.shape.depth → length bytes ≡ (tree.shape.depth + 1) * tree.shape.record_len
-      → All (Fits bounds) (path_patches tree leaf bytes 0 (tree.shape.depth + 1))
+  pub of_levels : (tree : Tree) (leaf first count : ℕ) (bytes : List ℕ) → leaf < 2 ^ tree.shape.depth → first + count ≤ tree.shape.depth + 1
+      → length bytes ≡ count * tree.shape.record_len → All (Fits bounds) (level_patches tree leaf first bytes 0 count)
   pub of_marks : (trees : Trees) (cells : List ℕ) → All (IsCell trees) cells → All (Fits bounds) (marks cells)
   pub of_tree : (number : ℕ) (tree : Tree) → number < TREES → Fits bounds (tree_patch number tree)
 

@@ -1,5 +1,5 @@
 -- The records in a bucket file, by tree and node.
-use Rattle.std.specs.Prelude.{◌≡◌, ◌≢◌, ◌⊎◌, ℕ, suc, ◌+◌, ◌*◌, ◌≤◌, ◌==◌, ◌&&◌, nat_lt, if◌then◌else◌, List, length, Option, Some, None}
+use Rattle.std.specs.Prelude.{◌≡◌, ◌≢◌, ◌⊎◌, ℕ, suc, ◌+◌, ◌*◌, ◌<◌, ◌≤◌, ◌==◌, ◌&&◌, nat_lt, if◌then◌else◌, List, length, Option, Some, None}
 use Rattle.oram_host.specs.Path.{node_on, record_at}
 use Rattle.oram_redo.specs.Content.{Content, bytes_at}
 use Rattle.oram_layout.specs.Limits.{TreeShape, nodes_of}
@@ -36,6 +36,16 @@ LacksOn records tree s leaf = (level : ℕ) × (level ≤ s.depth) × (records t
 abbrev pub KeepsOffPath : Records → ℕ → TreeShape → ℕ → Records → Type 0
 KeepsOffPath old tree s leaf new =
     (other node : ℕ) → ((other ≢ tree) ⊎ ((level : ℕ) → level ≤ s.depth → node ≢ node_on s.depth leaf level)) → new other node ≡ old other node
+
+-- The bytes are the records of `count` levels of a leaf's path, from level `first` on.
+pub record AreLevelsOf (records : Records) (tree : ℕ) (s : TreeShape) (leaf first count : ℕ) (bytes : List ℕ) : Type 0 where
+  pub whole : length bytes ≡ count * s.record_len
+  pub each : (i : ℕ) → i < count → records tree (node_on s.depth leaf (first + i)) ≡ Some (record_at s.record_len bytes i)
+
+-- each record except those of these levels of the path is as it was
+abbrev pub KeepsOffLevels : Records → ℕ → TreeShape → ℕ → ℕ → ℕ → Records → Type 0
+KeepsOffLevels old tree s leaf first count new =
+    (other node : ℕ) → ((other ≢ tree) ⊎ ((i : ℕ) → i < count → node ≢ node_on s.depth leaf (first + i))) → new other node ≡ old other node
 
 -- each record except this one is as it was
 abbrev pub KeepsOthers : Records → ℕ → ℕ → Records → Type 0

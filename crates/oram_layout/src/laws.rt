@@ -1,5 +1,5 @@
 //! Laws of the layout, as contracts of functions that do nothing.
-ghost use Rattle.oram_layout.specs.Laws.{AllPatchesFit, IsFileAtFirst, LooseKeepsRecords, MarkPutsRecord, MarkSharesBlock, MarksKeepFile, OffStaysOff, PathIsPut, RecordIsPut, SameRecords, TreeIsAdded, TreesAreOne, UnmarkedIsOff};
+ghost use Rattle.oram_layout.specs.Laws.{AllPatchesFit, IsFileAtFirst, LevelsArePut, LooseKeepsRecords, MarkPutsRecord, MarkSharesBlock, MarksKeepFile, OffStaysOff, RecordIsPut, SameRecords, TreeIsAdded, TreesAreOne, UnmarkedIsOff};
 
 /// A content that agrees with a bucket file's everywhere is a bucket file with the same records.
 pub fn same_content()
@@ -21,9 +21,9 @@ pub fn a_record_is_put()
     ensures { RecordIsPut }
 {}
 
-/// A path's patches write its records, and no others.
-pub fn the_path_is_put()
-    ensures { PathIsPut }
+/// The patches of some levels of a path write their records, and no others.
+pub fn levels_are_put()
+    ensures { LevelsArePut }
 {}
 
 /// Patches that write outside of the records change no record, whatever a crash leaves of them.

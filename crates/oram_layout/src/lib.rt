@@ -22,8 +22,8 @@ pub use entries::{TREES, entry_place, next_base, read_trees};
 pub use faults::LayoutFault;
 pub use fronts::{Front, LETTERS, read_front};
 pub use laws::{
-    a_mark_shares_a_block, a_record_is_put, a_tree_is_added, an_empty_file, loose_patches,
-    marked_records, one_list_of_trees, patches_fit, same_content, the_path_is_put,
+    a_mark_shares_a_block, a_record_is_put, a_tree_is_added, an_empty_file, levels_are_put,
+    loose_patches, marked_records, one_list_of_trees, patches_fit, same_content,
 };
 pub use shapes::Shape;
 pub use trees::{CELLS_AT, CELLS_END, ENTRY_LEN, Tree};

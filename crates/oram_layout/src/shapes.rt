@@ -19,6 +19,9 @@ pub struct Shape {
 }
 
 impl Shape {
+    ghost use Rattle.oram_layout.specs.Limits.{levels_from};
+    ghost use Rattle.oram_layout.specs.Trees.{sizes_of};
+
     /// Returns a shape, or `None` if no tree may have it. A STORE of one of a tree's paths has to
     /// fit in a frame.
     pub fn new(depth: u8, record_len: u32) -> Option<Shape>
@@ -52,6 +55,14 @@ impl Shape {
         ensures { result ≡ (self.now.depth + 1) * self.now.record_len }
     {
         (self.depth as usize + 1) * self.record_len as usize
+    }
+
+    /// Returns how many levels a path has from level `first` on.
+    pub fn levels_from(&self, first: u8) -> u8
+        requires { first ≤ self.now.depth }
+        ensures { result ≡ levels_from (sizes_of self.now) first }
+    {
+        self.depth + 1 - first
     }
 
     /// Returns the node at a level of a leaf's path.

@@ -1,5 +1,5 @@
 -- What is ahead is the end of the core's next FETCHes.
-use Rattle.std.proofs.Common.{◌≡◌, ◌⊎◌, ℕ, ◌<◌, arith, zero, suc, Bool, true, false, List, [], ◌∷◌, ◌++◌, length, length-append, slice_index, Option, Some, None, Ok, Err, refl, sym, ap, ◌∙◌, subst, inl, inr, append_assoc, append-nil}
+use Rattle.std.proofs.Common.{◌≡◌, ◌⊎◌, ℕ, ◌<◌, arith, zero, suc, Bool, true, false, List, [], ◌∷◌, ◌++◌, length, slice_index, Option, Some, None, Ok, Err, refl, sym, ap, ◌∙◌, subst, inl, inr, append_assoc, append-nil}
 use Rattle.std.specs.Prelude.{MatchResult}
 use Rattle.std.specs.List.{flat_map}
 use Rattle.oram_geometry.specs.declared.Sizes.{Sizes}
@@ -30,9 +30,10 @@ use Rattle.oram_session.proofs.Honesty.{waits_by}
 use Rattle.oram_link_laws.specs.Runs.{Exchange, bodies_of}
 use Rattle.oram_link_laws.proofs.Exchanged.{folds_split}
 use Rattle.oram_rounds.specs.AheadInTurn.{AheadIsNotSent, AheadStaysInTurn, IsAheadInTurn, NothingAheadIsInTurn}
-use Rattle.oram_rounds.specs.Batches.{BatchOutcome, IsBatch, answered}
+use Rattle.oram_rounds.specs.Batches.{BatchOutcome, answered}
 use Rattle.oram_rounds.specs.CatchUp.{IsPlainCall, PlainRun}
 use Rattle.oram_rounds.specs.Law.{AreBatches}
+use Rattle.oram_rounds.specs.Overlay.{AreOverlaid}
 use Rattle.oram_rounds.specs.Process.{Act, Does, DoesAll, IsGoingOn, Process, exchanges_of, next_bodies}
 use Rattle.oram_rounds.specs.Process.Act.{Calls, GoesAhead, Hears, Keeps, Misses}
 use Rattle.oram_rounds.specs.Rounds.{GivesAhead, IsFirstAhead, Round, RoundCall, WentAhead}
@@ -53,10 +54,11 @@ first_ahead : (ahead : List Exchange) (m : List ℕ) (rest : List (List ℕ)) �
 first_ahead [] m rest is = absurd (let both : [] ≡ m ∷ rest = is in cc)
 first_ahead (e ∷ ahead) m rest is = let both : e.0 ∷ bodies_of ahead ≡ m ∷ rest = is in cc
 
-answered_bodies : (fetches answers : List (List ℕ)) → length answers ≡ length fetches → bodies_of (answered fetches answers) ≡ fetches
-answered_bodies [] answers count = refl
-answered_bodies (f ∷ fetches) [] count = absurd (omega (arith, count))
-answered_bodies (f ∷ fetches) (a ∷ answers) count = ap (λ (rest : List (List ℕ)). f ∷ rest) (answered_bodies fetches answers (omega (arith, count)))
+overlaid_bodies : (d : Sizes) (len : ℕ) (stores fetches answers given : List (List ℕ)) → AreOverlaid d len stores fetches answers given → bodies_of (answered fetches given) ≡ fetches
+overlaid_bodies d len stores [] answers given over = refl
+overlaid_bodies d len stores (f ∷ fetches) [] given over = absurd over
+overlaid_bodies d len stores (f ∷ fetches) (a ∷ answers) [] over = absurd over
+overlaid_bodies d len stores (f ∷ fetches) (a ∷ answers) (x ∷ given) over = ap (λ (rest : List (List ℕ)). f ∷ rest) (overlaid_bodies d len stores fetches answers given over.1)
 
 -- Messages that are the end of a list of messages, and what becomes of them when the first message of the list has gone.
 abbrev Ends : List (List ℕ) → List (List ℕ) → Type 0
@@ -175,29 +177,26 @@ module _ {B : Type 0} (batches : B → List (List ℕ) → BatchOutcome → List
 
 -- what goes ahead
 
-module _ {B : Type 0} (batches : B → List (List ℕ) → BatchOutcome → List Exchange → B → Type 0) (are : AreBatches batches) (l m : Round B) (fetches : List (List ℕ)) (exchanges : List Exchange) where
+module _ {B : Type 0} (batches : B → List (List ℕ) → BatchOutcome → List Exchange → B → Type 0) (l m : Round B) (fetches : List (List ℕ)) (exchanges : List Exchange) where
   none_ends : m.ahead ≡ [] → Ends fetches (bodies_of m.ahead)
   none_ends none = (fetches, sym (append-nil fetches) ∙ ap (λ (ahead : List Exchange). fetches ++ bodies_of ahead) (sym none))
 
-  all_end : (answers : List (List ℕ)) → GivesAhead batches l.device l.record_len l fetches answers m → length answers ≡ length (l.kept ++ fetches) → Ends fetches (bodies_of m.ahead)
-  all_end answers g count = elim g.either [
-    | inl done ↦
-        let few : length g.given ≡ length fetches =
-        omega (arith, count, g.count, ap length g.all, length-append g.acks g.given, length-append l.kept fetches) in
-        ([], sym (ap bodies_of done.2 ∙ answered_bodies fetches g.given few))
-    | inr refused ↦ none_ends refused.1
+  all_end : (answers : List (List ℕ)) → GivesAhead batches l.device l.record_len l fetches answers m → Ends fetches (bodies_of m.ahead)
+  all_end answers g = elim g.either [
+    | inl done ↦ ([], sym (ap bodies_of done.4 ∙ overlaid_bodies l.device l.record_len l.kept fetches g.given done.2 done.3))
+    | inr refused ↦ none_ends refused.2
   ]
 
   pub gone_ends : WentAhead batches l fetches exchanges m → Ends fetches (bodies_of m.ahead)
   gone_ends went = elim went.does [
-    | inl s ↦ by s.outcome (are l.inner m.inner (l.kept ++ fetches) s.outcome exchanges s.batch) s.gives
+    | inl s ↦ by s.outcome s.gives
     | inr none ↦ none_ends none.ahead
   ]
     where
-      by : (outcome : BatchOutcome) → IsBatch (l.kept ++ fetches) outcome exchanges
+      by : (outcome : BatchOutcome)
           → MatchResult outcome (λ answers. GivesAhead batches l.device l.record_len l fetches answers m) (λ fault. (m.kept ≡ l.kept) × (m.ahead ≡ [])) → Ends fetches (bodies_of m.ahead)
-      by (Err fault) batch g = none_ends g.1
-      by (Ok answers) batch g = all_end answers g batch.0
+      by (Err fault) g = none_ends g.1
+      by (Ok answers) g = all_end answers g
 
 -- an event that changes no more than whether the outstanding message is lost
 
@@ -263,9 +262,9 @@ module _ {B K : Type 0} (batches : B → List (List ℕ) → BatchOutcome → Li
       inl (same_core p.core q.core p.link q.link does.0.3 a.asks
       (end_stays batches v.device p.core p.link q.link does.0.0 o exchanges out.0 out.1 a.asks does.0.2 (next_bodies v.device p.core) a.before a.next))
   one_act (GoesAhead exchanges) p q host after array dev len on a does run =
-      inl (same_core p.core q.core p.link q.link does.0.1 a.asks (gone_ends batches are p.link q.link (next_bodies v.device p.core) exchanges does.0.0))
+      inl (same_core p.core q.core p.link q.link does.0.1 a.asks (gone_ends batches p.link q.link (next_bodies v.device p.core) exchanges does.0.0))
   one_act (Keeps true) p q host after array dev len on a does run =
-      inl (same_core p.core q.core p.link q.link does.1 a.asks (none_ends batches are p.link q.link (next_bodies v.device p.core) [] (ap (λ (l : Round B). l.ahead) does.2)))
+      inl (same_core p.core q.core p.link q.link does.1 a.asks (none_ends batches p.link q.link (next_bodies v.device p.core) [] (ap (λ (l : Round B). l.ahead) does.2)))
   one_act (Keeps false) p q host after array dev len on a does run =
       inl (subst (λ (l : Round B). IsAheadInTurn v.device q.core l) (sym does.2) (same_core p.core q.core p.link p.link does.1 a.asks (a.before, a.next)))
 

@@ -121,15 +121,36 @@ taken may_lie v r host after body keeps s (inr lie) =
       | inr full ↦ absurd (lie.3.room full.refused)
     ]
 
-pub acked_catches : (may_lie : Bool) (v : Scheme) (kept held acks : List (List ℕ)) (host after later : Host) → length acks ≡ length kept → AreDone acks
-    → PlainRun may_lie v host (answered kept acks) after → CatchesUp v host (kept ++ held) later → CatchesUp v after held later
-acked_catches may_lie v [] held acks host after later count done run c = subst (λ (h : Host). CatchesUp v h held later) run c
-acked_catches may_lie v (body ∷ kept) held [] host after later count done run c = absurd (omega (arith, count))
-acked_catches may_lie v (body ∷ kept) held (ack ∷ acks) host after later count done run c =
+acked_keeps : (may_lie : Bool) (v : Scheme) (kept acks : List (List ℕ)) (r : ℕ → ℕ → List ℕ) (host after : Host) → length acks ≡ length kept → AreDone acks
+    → ArePathStores v.device (record_len v) kept → KeepsAll v r host → PlainRun may_lie v host (answered kept acks) after → KeepsAll v (left_by v r kept) after
+acked_keeps may_lie v [] acks r host after count done paths keeps run = subst (KeepsAll v r) run keeps
+acked_keeps may_lie v (body ∷ kept) [] r host after count done paths keeps run = absurd (omega (arith, count))
+acked_keeps may_lie v (body ∷ kept) (ack ∷ acks) r host after count done paths keeps run =
     let P : List ℕ → Type 0 = λ a. IsPlainCall may_lie v host body (Ok a) run.0 in
-    let keeps = taken may_lie v c.records host run.0 body c.keeps c.paths.0 (subst P done.0 run.1) in
-    acked_catches may_lie v kept held acks run.0 after later (omega (arith, count)) done.1 run.2
-    (record { records = records_after v c.records (body ∷ []); keeps = keeps; paths = c.paths.1; ahead = c.ahead })
+    acked_keeps may_lie v kept acks (records_after v r (body ∷ [])) run.0 after (omega (arith, count)) done.1 paths.1
+    (taken may_lie v r host run.0 body keeps paths.0 (subst P done.0 run.1)) run.2
+
+paths_split : (v : Scheme) (kept held : List (List ℕ)) → ArePathStores v.device (record_len v) (kept ++ held)
+    → ArePathStores v.device (record_len v) kept × ArePathStores v.device (record_len v) held
+paths_split v [] held paths = (tt, paths)
+paths_split v (body ∷ kept) held paths = let rest = paths_split v kept held paths.1 in ((paths.0, rest.0), rest.1)
+
+module _ (may_lie : Bool) (v : Scheme) (kept held acks : List (List ℕ)) (host after later : Host) (count : length acks ≡ length kept) (done : AreDone acks) (run : PlainRun may_lie v host (answered kept acks) after) (c : CatchesUp v host (kept ++ held) later) where
+  keeps_left : KeepsAll v (left_by v c.records kept) after
+  keeps_left = acked_keeps may_lie v kept acks c.records host after count done (paths_split v kept held c.paths).0 c.keeps run
+
+  -- the host before them catches up to the one after them
+  pub acked_caught : CatchesUp v host kept after
+  acked_caught = record { records = c.records; keeps = c.keeps; paths = (paths_split v kept held c.paths).0; ahead = keeps_left }
+
+  -- and that one has only the others still to carry out
+  pub acked_catches : CatchesUp v after held later
+  acked_catches = record {
+    records = left_by v c.records kept;
+    keeps = keeps_left;
+    paths = (paths_split v kept held c.paths).1;
+    ahead = subst (λ (q : ℕ → ℕ → List ℕ). KeepsAll v q later) (left_append v kept held c.records) c.ahead;
+  }
 
 -- a STORE that is added to those that wait
 

@@ -1,11 +1,11 @@
 -- A STORE of ones waits, and the server keeps zeros.
-use Rattle.std.proofs.Common.{◌≡◌, ℕ, ◌+◌, ◌*◌, ◌^◌, ◌<◌, arith, Bool, true, ◌==◌, ◌&&◌, Some, List, [], ◌∷◌, length, replicate, Ok, refl, sym, ap, ◌∙◌, subst, inl, inr}
+use Rattle.std.proofs.Common.{◌≡◌, ℕ, ◌+◌, ◌*◌, ◌^◌, ◌<◌, arith, Bool, true, false, ◌==◌, ◌&&◌, Some, List, [], ◌∷◌, length, replicate, Ok, refl, sym, ap, ◌∙◌, subst, inl, inr}
 use Rattle.std.specs.Prelude.{MatchBool}
 use Rattle.oram_geometry.specs.Path.{node_on}
 use Rattle.oram_geometry.specs.Sizes.{depth_of, trees_of}
 use Rattle.oram_hash.specs.Path.{path_of, record_at}
-use Rattle.oram_wire.specs.HostMessages.{fetch_body, payload_answer, store_body}
-use Rattle.oram_wire.specs.declared.host_messages.HostAnswer.TheVariants.{Payload}
+use Rattle.oram_wire.specs.HostMessages.{done_answer, fetch_body, payload_answer, store_body}
+use Rattle.oram_wire.specs.declared.host_messages.HostAnswer.TheVariants.{Done, Payload}
 use Rattle.oram_host.specs.Answers.{IsFetched}
 use Rattle.oram_host.specs.Host.{Host, Kept, record_of}
 use Rattle.oram_host.specs.Path.{node_on as host_node, record_at as host_record}
@@ -13,11 +13,13 @@ use Rattle.oram_host.specs.Service.{Serves}
 use Rattle.oram_semantics.proofs.Replaced.{store_replaces}
 use Rattle.oram_semantics.specs.Moves.{records_after}
 use Rattle.oram_semantics.specs.Scheme.{record_len}
+use Rattle.oram_host_laws.specs.Honest.{Takes}
+use Rattle.oram_session.specs.Links.{ToServer}
 use Rattle.oram_tree.specs.Content.{node_count}
 use Rattle.oram_link_laws.specs.Examples.{new_host, new_server, one_block}
 use Rattle.oram_link_laws.proofs.Device.{eighty_eight, no_depth, one_tree, session_example}
 use Rattle.oram_link_laws.specs.Overlay.{IsLaidOver}
-use Rattle.oram_rounds.specs.Examples.{DirectBatches, OneWaitsExample, one_ahead, one_waits, zeros_fetched}
+use Rattle.oram_rounds.specs.Examples.{DirectBatches, OneWaitsExample, one_ahead, one_kept, one_waits, ones_ahead, stored_behind, zeros_fetched}
 use Rattle.oram_rounds.specs.Rounds.{RoundCall, WentAhead}
 use Rattle.oram_rounds.specs.CatchUp.{CatchesUp, left_by}
 use Rattle.oram_rounds.specs.Law.{AreAhead, IsStocked}
@@ -54,10 +56,13 @@ now_caught = let held = session_example.1 in record { records = held.world.recor
 pub whole_record : 88 ≡ record_len one_block
 whole_record = eighty_eight
 
-caught : (later : Host) × CatchesUp one_block new_host (store_body 0 0 ones ∷ []) later
-caught =
+put : (later : Host) × CatchesUp one_block new_host (store_body 0 0 ones ∷ []) later × Takes new_host (store_body 0 0 ones) later
+put =
     let s = subst (λ (len : ℕ). IsPathStore one_block.device len (store_body 0 0 ones)) whole_record stores_ones in
-    let c = put_catches one_block [] (store_body 0 0 ones) new_host new_host s now_caught in (c.0, c.1)
+    put_catches one_block [] (store_body 0 0 ones) new_host new_host s now_caught
+
+caught : (later : Host) × CatchesUp one_block new_host (store_body 0 0 ones ∷ []) later
+caught = (put.0, put.1)
 
 -- the record that the STORE leaves is as long as records are
 
@@ -146,6 +151,12 @@ call = record {
   }));
 }
 
+-- where no STORE is kept, an answer stays as it came
+pub unlaid : (len : ℕ) (b : Bool) (bytes : List ℕ)
+    → MatchBool b ((new : List ℕ) × LaysAllOver one_block.device len 0 0 [] bytes new × (payload_answer bytes ≡ payload_answer new)) (payload_answer bytes ≡ payload_answer bytes)
+unlaid len true bytes = (bytes, refl, refl)
+unlaid len false bytes = refl
+
 -- the FETCH goes ahead, and the core asks for it then
 
 went : WentAhead DirectBatches one_waits (fetch_body 0 0 ∷ []) zeros_fetched one_ahead
@@ -158,7 +169,7 @@ went = record {
     paths = (fetches, tt);
     outcome = Ok (payload_answer zeros ∷ []);
     batch = ((new_server, record { answer = (Payload zeros, gives, omega arith, refl); faults = refl }, refl), (refl, [], tt, refl));
-    gives = record { acks = []; given = payload_answer zeros ∷ []; all = refl; count = refl; either = inl (tt, refl, refl) };
+    gives = record { given = payload_answer zeros ∷ []; acks = []; all = refl; count = refl; either = inl (tt, refl, payload_answer zeros ∷ [], ((fetches, unlaid 88 (holds_path one_block.device 88 0 0 (payload_answer zeros)) zeros), (refl, refl)), refl) };
   });
 }
 
@@ -183,6 +194,38 @@ taken = record {
   })));
 }
 
+-- the FETCH goes ahead of the STORE, and the server carries out both
+
+abbrev stored_server : ToServer
+stored_server = record { host = put.0; faults = 0 }
+
+went_over : WentAhead DirectBatches one_kept (fetch_body 0 0 ∷ []) stored_behind (ones_ahead stored_server)
+went_over = record {
+  device = refl;
+  record_len = refl;
+  held = refl;
+  does = inl (record {
+    some = λ none. absurd (let both : fetch_body 0 0 ∷ [] ≡ [] = none in cc);
+    paths = (fetches, tt);
+    outcome = Ok (payload_answer zeros ∷ done_answer ∷ []);
+    batch = (
+      (
+        new_server,
+        record { answer = (Payload zeros, gives, omega arith, refl); faults = refl },
+        (stored_server, record { answer = (Done, put.2, tt, refl); faults = refl }, refl),
+      ),
+      (refl, [], tt, refl),
+    );
+    gives = record {
+      given = payload_answer zeros ∷ [];
+      acks = done_answer ∷ [];
+      all = refl;
+      count = refl;
+      either = inl ((refl, tt), refl, payload_answer ones ∷ [], ((fetches, overlaid), (refl, refl)), refl);
+    };
+  });
+}
+
 pub one_waits_example : OneWaitsExample
 one_waits_example = (
   λ l m bodies o exchanges h. h.1,
@@ -192,4 +235,5 @@ one_waits_example = (
   went,
   λ may_lie. (record { each = tt; alone = inl refl }, are_ahead may_lie),
   taken,
+  (stored_server, went_over, λ may_lie. (new_host, inl (Payload zeros, omega arith, refl, gives), (put.0, inl (Done, tt, refl, put.2), refl))),
 )

@@ -1,11 +1,12 @@
 -- A host that keeps the trees of a device, and the paths of a FETCH and of STOREs laid over it.
-use Rattle.std.proofs.Common.{◌≡◌, ◌⊎◌, ℕ, zero, suc, ◌+◌, ◌-◌, ◌*◌, ◌^◌, ◌<◌, ◌≤◌, arith, List, [], ◌∷◌, ◌++◌, length, take, drop, Option, Some, unwrap_or, refl, sym, ap, ◌∙◌, subst, inl, inr}
+use Rattle.std.proofs.Common.{◌≡◌, ◌⊎◌, ℕ, zero, suc, ◌+◌, ◌-◌, ◌*◌, ◌^◌, ◌<◌, ◌≤◌, ◌≢◌, arith, List, [], ◌∷◌, ◌++◌, length, take, drop, Option, Some, unwrap_or, refl, sym, ap, ◌∙◌, subst, inl, inr}
 use Rattle.std.proofs.Math.Pow.{pow_mono}
 use Rattle.std.specs.Int.{w32, to_be_bytes, from_be_bytes}
 use Rattle.std.specs.Prelude.{IsSome, MatchOption}
 use Rattle.std.specs.List.{flat_map, range_with_len}
 use Rattle.std.proofs.lemmas.Bool.{cases_eq}
-use Rattle.std.proofs.lemmas.List.{drop-drop, drop_at, take_at}
+use Rattle.std.proofs.lemmas.List.{drop-drop, drop_at, length-drop, length-take-le, take_at}
+use Rattle.std.proofs.Math.Nat.{mul-le-mul_right}
 use Rattle.std.proofs.lemmas.Nat.{from_be_bytes-to_be_bytes_4}
 use Rattle.oram_geometry.specs.Path.{IsOffPath, node_on}
 use Rattle.oram_geometry.specs.Sizes.{depth_of}
@@ -35,7 +36,7 @@ use Rattle.oram_link_laws.proofs.Overlay.{one_level}
 use Rattle.oram_link_laws.proofs.Put.{first}
 use Rattle.oram_rounds.specs.CatchUp.{left_by}
 use Rattle.oram_rounds.specs.Overlay.{LaysAllOver, LaysOver}
-use Rattle.oram_rounds.specs.PathMessages.{IsPathStore}
+use Rattle.oram_rounds.specs.PathMessages.{ArePathStores, IsPathStore}
 
 pub leaf_fits : (d : Sizes) (i leaf : ℕ) → leaf < 2 ^ depth_of d i → leaf < 2 ^ 32
 leaf_fits d i leaf fits =
@@ -129,14 +130,14 @@ level_of size f a (suc n) (suc j) below h =
     ∙ ap (λ xs. take size (drop (j * size) xs)) (drop_at (f a) (flat_map f (range_with_len (a + 1) n)) size (h a (omega arith) (omega arith)))
     ∙ level_of size f (a + 1) n j (omega arith) (λ b low high. h b (omega arith) (omega arith)) ∙ ap f next
 
-pub has_path : (v : Scheme) (i leaf : ℕ) (records : ℕ → List ℕ) (host : Host) (k : KeepsTree v i records host) → leaf < 2 ^ depth_of v.device i
-    → ((n : ℕ) → n < node_count (depth_of v.device i) → length (records n) ≡ record_len v) → (bytes : List ℕ) × IsFetched host i leaf bytes
-has_path v i leaf records host k fits long =
+pub has_levels : (v : Scheme) (i leaf : ℕ) (records : ℕ → List ℕ) (host : Host) (k : KeepsTree v i records host) → leaf < 2 ^ depth_of v.device i
+    → ((l : ℕ) → l ≤ depth_of v.device i → length (records (node_on (depth_of v.device i) leaf l)) ≡ record_len v) → (bytes : List ℕ) × IsFetched host i leaf bytes
+has_levels v i leaf records host k fits long =
     let deep : ℕ = depth_of v.device i in
     let size : ℕ = record_len v in
     let f : ℕ → List ℕ = λ l. records (node_on deep leaf l) in
     let each : (b : ℕ) → 0 ≤ b → b < 0 + (deep + 1) → length (f b) ≡ size =
-    λ b low high. long (node_on deep leaf b) (node_in deep leaf b fits (omega (arith, high))) in
+    λ b low high. long b (omega (arith, high)) in
     let bytes : List ℕ = flat_map f (range_with_len 0 (deep + 1)) in (
       bytes,
       fetched_so v i leaf records host k fits bytes (length_chunks size f 0 (deep + 1) each) (λ l low.
@@ -144,6 +145,12 @@ has_path v i leaf records host k fits long =
           let none : 0 + l ≡ l = omega arith in
           ap (λ n. take n (drop (l * size) bytes)) part ∙ level_of size f 0 (deep + 1) l (omega (arith, low)) each ∙ ap f none),
     )
+
+pub has_path : (v : Scheme) (i leaf : ℕ) (records : ℕ → List ℕ) (host : Host) (k : KeepsTree v i records host) → leaf < 2 ^ depth_of v.device i
+    → ((n : ℕ) → n < node_count (depth_of v.device i) → length (records n) ≡ record_len v) → (bytes : List ℕ) × IsFetched host i leaf bytes
+has_path v i leaf records host k fits long =
+    has_levels v i leaf records host k fits
+    (λ l low. long (node_on (depth_of v.device i) leaf l) (node_in (depth_of v.device i) leaf l fits low))
 
 -- the records of STOREs, laid over a path
 
@@ -158,45 +165,62 @@ module _ (v : Scheme) (tree leaf : ℕ) (leaf_in : leaf < 2 ^ depth_of v.device 
   abbrev pub IsLeft : (ℕ → ℕ → List ℕ) → (ℕ → ℕ → List ℕ) → List ℕ → List ℕ → ℕ → Type 0
   IsLeft r q bytes new l = (at new l ≡ q tree (node l)) ⊎ ((at new l ≡ at bytes l) × (q tree (node l) ≡ r tree (node l)))
 
-  one_over : (r : ℕ → ℕ → List ℕ) (body bytes new : List ℕ) → LaysOver v.device (record_len v) tree leaf body bytes new → (l : ℕ) → l ≤ depth_of v.device tree
-      → IsLeft r (records_after v r (body ∷ [])) bytes new l
-  one_over r body bytes new lays l low =
-      let s : IsPathStore v.device (record_len v) body = lays.0 in
+  -- A STORE leaves its own record of a level, if it stores at that level's node. Otherwise it leaves what was there.
+  one_left : (r : ℕ → ℕ → List ℕ) (body : List ℕ) (s : IsPathStore v.device (record_len v) body) (l : ℕ) → l ≤ depth_of v.device tree
+      → ((s.tree ≡ tree) × (host_node (depth_of v.device tree) leaf l ≡ host_node (depth_of v.device tree) s.leaf l)
+      × (at s.records l ≡ records_after v r (body ∷ []) tree (node l)))
+      ⊎ ((s.tree ≡ tree → host_node (depth_of v.device tree) leaf l ≢ host_node (depth_of v.device tree) s.leaf l)
+      × (records_after v r (body ∷ []) tree (node l) ≡ r tree (node l)))
+  one_left r body s l low =
       let is : records_after v r (body ∷ []) ≡ records_after v r (store_body s.tree s.leaf s.records ∷ []) =
       ap (λ (b : List ℕ). records_after v r (b ∷ [])) s.named in
-      elim lays.1 [
+      elim (cases_eq s.tree tree) [
         | inr other ↦ inr (
-          ap (λ (b : List ℕ). at b l) other.1,
+          (λ e. absurd (other e)),
           ap (λ (f : ℕ → ℕ → List ℕ). f tree (node l)) is
-              ∙ ap (λ (f : ℕ → List ℕ). f (node l)) (store_leaves v r s.tree s.leaf tree s.records (λ e. other.0 (sym e))),
+              ∙ ap (λ (f : ℕ → List ℕ). f (node l)) (store_leaves v r s.tree s.leaf tree s.records (λ e. other (sym e))),
         )
-        | inl over ↦
+        | inl there ↦
             let P : ℕ → Type 0 = λ i. s.leaf < 2 ^ depth_of v.device i in
-            let leaf_there : s.leaf < 2 ^ depth_of v.device tree = subst P over.0 s.leaf_in in
+            let leaf_there : s.leaf < 2 ^ depth_of v.device tree = subst P there s.leaf_in in
             let Q : ℕ → Type 0 = λ i. records_after v r (body ∷ []) ≡ records_after v r (store_body i s.leaf s.records ∷ []) in
-            let here : records_after v r (body ∷ []) ≡ records_after v r (store_body tree s.leaf s.records ∷ []) = subst Q over.0 is in
+            let here : records_after v r (body ∷ []) ≡ records_after v r (store_body tree s.leaf s.records ∷ []) = subst Q there is in
             let new_there = store_replaces v r tree s.leaf [] s.records (leaf_small v tree s.leaf leaf_there) in
             elim (cases_eq (host_node (depth_of v.device tree) leaf l) (host_node (depth_of v.device tree) s.leaf l)) [
               | inl shared ↦
                   let same : node l ≡ node_on (depth_of v.device tree) s.leaf l =
                   sym (node_same (depth_of v.device tree) leaf l) ∙ shared ∙ node_same (depth_of v.device tree) s.leaf l in
                   inl (
-                  over.1.shared l low shared
-                  ∙ record_same (path_of v.device tree s.leaf v.cipher.overhead s.records) l
-                  ∙ sym (new_there.on_path l low)
-                  ∙ ap (λ (n : ℕ). records_after v r (store_body tree s.leaf s.records ∷ []) tree n) (sym same)
-                  ∙ sym (ap (λ (f : ℕ → ℕ → List ℕ). f tree (node l)) here))
+                    there,
+                    shared,
+                    record_same (path_of v.device tree s.leaf v.cipher.overhead s.records) l
+                        ∙ sym (new_there.on_path l low)
+                        ∙ ap (λ (n : ℕ). records_after v r (store_body tree s.leaf s.records ∷ []) tree n) (sym same)
+                        ∙ sym (ap (λ (f : ℕ → ℕ → List ℕ). f tree (node l)) here),
+                  )
               | inr apart ↦
                   let off : IsOffPath (depth_of v.device tree) s.leaf (node l) = λ j within e.
                   let nodes : host_node (depth_of v.device tree) leaf l ≡ host_node (depth_of v.device tree) s.leaf j =
                   node_same (depth_of v.device tree) leaf l ∙ e ∙ sym (node_same (depth_of v.device tree) s.leaf j) in
                   let level : l ≡ j = one_level (depth_of v.device tree) leaf s.leaf l j leaf_in leaf_there low within nodes in
                   apart (nodes ∙ ap (host_node (depth_of v.device tree) s.leaf) (sym level)) in
-                  inr (
-                    over.1.others l low apart,
-                    ap (λ (f : ℕ → ℕ → List ℕ). f tree (node l)) here ∙ new_there.off_path (node l) off,
-                  )
+                  inr ((λ e. apart), ap (λ (f : ℕ → ℕ → List ℕ). f tree (node l)) here ∙ new_there.off_path (node l) off)
             ]
+      ]
+
+  one_over : (r : ℕ → ℕ → List ℕ) (body bytes new : List ℕ) → LaysOver v.device (record_len v) tree leaf body bytes new → (l : ℕ) → l ≤ depth_of v.device tree
+      → IsLeft r (records_after v r (body ∷ [])) bytes new l
+  one_over r body bytes new lays l low =
+      let left = one_left r body lays.0 l low in
+      elim lays.1 [
+        | inr other ↦ elim left [
+          | inl here ↦ absurd (other.0 here.0)
+          | inr off ↦ inr (ap (λ (b : List ℕ). at b l) other.1, off.1)
+        ]
+        | inl over ↦ elim left [
+          | inl here ↦ inl (over.1.shared l low here.1 ∙ here.2)
+          | inr off ↦ inr (over.1.others l low (off.0 over.0), off.1)
+        ]
       ]
 
   pub all_over : (stores : List (List ℕ)) (r : ℕ → ℕ → List ℕ) (bytes new : List ℕ) → LaysAllOver v.device (record_len v) tree leaf stores bytes new
@@ -215,3 +239,30 @@ module _ (v : Scheme) (tree leaf : ℕ) (leaf_in : leaf < 2 ^ depth_of v.device 
   whole_over [] bytes new lays whole = ap length (sym lays) ∙ whole
   whole_over (body ∷ stores) bytes new lays whole =
       whole_over stores lays.0 new lays.2 (elim lays.1.1 [ inl over ↦ over.1.whole | inr other ↦ ap length other.1 ∙ whole ])
+
+  -- a record of such bytes has its length
+
+  pub record_long : (bytes : List ℕ) → length bytes ≡ (depth_of v.device tree + 1) * record_len v → (l : ℕ) → l ≤ depth_of v.device tree → length (at bytes l) ≡ record_len v
+  record_long bytes whole l low =
+      let len : ℕ = record_len v in
+      let part : (l + 1) * len - l * len ≡ len = omega arith in
+      let more : (l + 1) * len ≡ l * len + len = omega arith in
+      let most : (l + 1) * len ≤ (depth_of v.device tree + 1) * len = mul-le-mul_right len (omega (arith, low)) in
+      ap (λ (k : ℕ). length (take k (drop (l * len) bytes))) part
+      ∙ length-take-le len (drop (l * len) bytes) (omega (arith, length-drop (l * len) bytes, most, more, whole))
+
+  -- and so has what STOREs leave
+
+  one_long : (r : ℕ → ℕ → List ℕ) (body : List ℕ) → IsPathStore v.device (record_len v) body → (l : ℕ) → l ≤ depth_of v.device tree → length (r tree (node l)) ≡ record_len v
+      → length (records_after v r (body ∷ []) tree (node l)) ≡ record_len v
+  one_long r body s l low long = elim (one_left r body s l low) [
+    | inl here ↦
+        let whole : length s.records ≡ (depth_of v.device tree + 1) * record_len v = s.whole ∙ ap (λ (t : ℕ). (depth_of v.device t + 1) * record_len v) here.0 in
+        ap length (sym here.2) ∙ record_long s.records whole l low
+    | inr off ↦ ap length off.1 ∙ long
+  ]
+
+  pub all_long : (stores : List (List ℕ)) (r : ℕ → ℕ → List ℕ) → ArePathStores v.device (record_len v) stores → (l : ℕ) → l ≤ depth_of v.device tree
+      → length (r tree (node l)) ≡ record_len v → length (left_by v r stores tree (node l)) ≡ record_len v
+  all_long [] r paths l low long = long
+  all_long (body ∷ stores) r paths l low long = all_long stores (records_after v r (body ∷ [])) paths.1 l low (one_long r body paths.0 l low long)

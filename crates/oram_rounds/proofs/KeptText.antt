@@ -11,7 +11,8 @@ use Rattle.oram_state.specs.DecodedCore.{AreSavedFields}
 use Rattle.oram_state.specs.StateBytes.{table_text, with_table}
 use Rattle.oram_state.proofs.Sized.{one_core_bare}
 use Rattle.oram_state.proofs.Tools.{IsBytes, IsBytes-take}
-use Rattle.oram_rounds.specs.Files.{AreCounted, FilesTellOfOneProcess, IsShort, checksum, kept_text, sized_text, stores_text}
+use Rattle.oram_rounds.specs.Files.{AreCounted, FilesTellOfOneProcess, IsShort, IsShortNote, front_text, kept_text, sized_text, stores_text}
+use Rattle.oram_rounds.specs.LinkNotes.{LinkNote}
 
 -- the first eight bytes are those of the number that they are read as
 pub number_front : (bytes number rest : List ℕ) (n : ℕ) → IsBytes bytes → number ≡ take 8 bytes → rest ≡ drop 8 bytes → length rest + 8 ≡ length bytes → n ≡ from_be_bytes w64 number
@@ -107,39 +108,106 @@ pub short_more : (front : List (List ℕ)) (b : List ℕ) → AreShort front →
 short_more [] b short low = (low, tt)
 short_more (x ∷ front) b short low = (short.0, short_more front b short.1 low)
 
+-- the front of a text, whose parts are then joined otherwise
+pub front_apart : (stores : List (List ℕ)) (note : LinkNote) (rest : List ℕ) → front_text stores note ++ rest ≡ stores_text stores ++ (sized_text note.text ++ (to_be_bytes w64 (length note.records) ++ rest))
+front_apart stores note rest = in_four (stores_text stores) (sized_text note.text) (to_be_bytes w64 (length note.records)) rest
+  where
+    in_four : (a b c d : List ℕ) → (a ++ (b ++ c)) ++ d ≡ a ++ (b ++ (c ++ d))
+    in_four a b c d = simp append_assoc
+
+-- two fronts that are equal, and what follows them
+pub fronts_same : (xs ys : List (List ℕ)) (a b : LinkNote) (r t : List ℕ) → AreCounted xs → AreCounted ys → IsShortNote a → IsShortNote b → front_text xs a ++ r ≡ front_text ys b ++ t
+    → (xs ≡ ys) × (a.text ≡ b.text) × (length a.records ≡ length b.records) × (r ≡ t)
+fronts_same xs ys a b r t counted_x counted_y short_a short_b e =
+    let numbered_a : List ℕ = to_be_bytes w64 (length a.records) ++ r in
+    let numbered_b : List ℕ = to_be_bytes w64 (length b.records) ++ t in
+    let first = texts_same xs ys (sized_text a.text ++ numbered_a) (sized_text b.text ++ numbered_b) counted_x counted_y (sym (front_apart xs a r) ∙ e ∙ front_apart ys b t) in
+    let second = sized_same a.text b.text numbered_a numbered_b short_a.text short_b.text first.1 in
+    let third = number_same (length a.records) (length b.records) r t short_a.records short_b.records second.1 in
+    (first.0, second.0, third.0, third.1)
+
+-- two lists whose ends have the same length
+ends_same : (a b c d : List ℕ) → length b ≡ length d → a ++ b ≡ c ++ d → (a ≡ c) × (b ≡ d)
+ends_same a b c d same e = append_parts a b c d (omega (arith, same, ap length e, length-append a b, length-append c d)) e
+
 -- two files that are equal
-pub kept_same : (xs ys : List (List ℕ)) (a b fields other : List ℕ) → AreCounted xs → AreCounted ys → IsShort a → IsShort b → kept_text xs a fields ≡ kept_text ys b other
+pub kept_same : (xs ys : List (List ℕ)) (a b : LinkNote) (fields other : List ℕ) → AreCounted xs → AreCounted ys → IsShortNote a → IsShortNote b → kept_text xs a fields ≡ kept_text ys b other
     → (xs ≡ ys) × (a ≡ b) × (fields ≡ other)
 kept_same xs ys a b fields other counted_x counted_y short_a short_b e =
-    let first = texts_same xs ys (sized_text a ++ fields) (sized_text b ++ other) counted_x counted_y e in
-    let second = sized_same a b fields other short_a short_b first.1 in
-    (first.0, second.0, second.1)
+    let first = fronts_same xs ys a b (fields ++ a.records) (other ++ b.records) counted_x counted_y short_a short_b e in
+    let last = ends_same fields a.records other b.records first.2 first.3 in
+    (first.0, (λ i. record { text = first.1 i; records = last.1 i }), last.0)
 
 -- where no note follows the STOREs, the text is that of no process
 pub no_note : (text rest : List ℕ) (read : List (List ℕ)) → text ≡ stores_text read ++ rest → AreCounted read
     → ((sized behind : List ℕ) → IsShort sized → rest ≢ sized_text sized ++ behind)
-    → (stores : List (List ℕ)) (note fields : List ℕ) → AreCounted stores → IsShort note → text ≢ kept_text stores note fields
+    → (stores : List (List ℕ)) (note : LinkNote) (fields : List ℕ) → AreCounted stores → IsShortNote note → text ≢ front_text stores note ++ fields
 no_note text rest read is counted none stores note fields counted_too short e =
-    let same = texts_same read stores rest (sized_text note ++ fields) counted counted_too (sym is ∙ e) in
-    none note fields short same.1
+    let numbered : List ℕ = to_be_bytes w64 (length note.records) ++ fields in
+    let same = texts_same read stores rest (sized_text note.text ++ numbered) counted counted_too (sym is ∙ e ∙ front_apart stores note fields) in
+    none note.text numbered short.text same.1
 
--- what stands before the fields
-pub front_by : (stores : List (List ℕ)) (note start text noted : List ℕ) → start ≡ [] → text ≡ start ++ stores_text stores → noted ≡ text ++ sized_text note → noted ≡ stores_text stores ++ sized_text note
-front_by stores note start text noted none pushed notes = notes ∙ ap (λ (b : List ℕ). b ++ sized_text note) (pushed ∙ ap (λ (b : List ℕ). b ++ stores_text stores) none)
+-- where fewer than eight bytes follow the note, the text is that of no process
+pub no_number : (text noted rest : List ℕ) (read : List (List ℕ)) → text ≡ stores_text read ++ (sized_text noted ++ rest) → AreCounted read → IsShort noted → length rest < 8
+    → (stores : List (List ℕ)) (note : LinkNote) (fields : List ℕ) → AreCounted stores → IsShortNote note → text ≢ front_text stores note ++ fields
+no_number text noted rest read is counted short_noted few stores note fields counted_too short e =
+    let numbered : List ℕ = to_be_bytes w64 (length note.records) ++ fields in
+    let first = texts_same read stores (sized_text noted ++ rest) (sized_text note.text ++ numbered) counted counted_too (sym is ∙ e ∙ front_apart stores note fields) in
+    let second = sized_same noted note.text rest numbered short_noted short.text first.1 in
+    let eight : length (to_be_bytes w64 (length note.records)) ≡ 8 = refl in
+    omega (arith, few, eight, ap length second.1, length-append (to_be_bytes w64 (length note.records)) fields)
 
--- a text is written part by part, and its fields are written around a table
-pub written_by : (stores : List (List ℕ)) (note start text noted all fields table after : List ℕ) → start ≡ [] → text ≡ start ++ stores_text stores → noted ≡ text ++ sized_text note → all ≡ noted ++ fields
-    → with_table all table after ≡ kept_text stores note (with_table fields table after)
-written_by stores note start text noted all fields table after none pushed notes adds =
-    ap (λ (b : List ℕ). with_table b table after) (adds ∙ ap (λ (b : List ℕ). b ++ fields) (front_by stores note start text noted none pushed notes))
-    ∙ in_five (stores_text stores) (sized_text note) fields (table_text table) after
+-- a text with other records than are wanted is that of no process with these
+pub other_records : (text : List ℕ) (read : List (List ℕ)) (noted fields : List ℕ) (count : ℕ) → text ≡ (stores_text read ++ (sized_text noted ++ to_be_bytes w64 count)) ++ fields
+    → AreCounted read → IsShort noted → count < 2 ^ 64
+    → (stores : List (List ℕ)) (note : LinkNote) (others : List ℕ) → AreCounted stores → IsShortNote note → length note.records ≢ count → text ≢ front_text stores note ++ others
+other_records text read noted fields count is counted short_noted low stores note others counted_too short differs e =
+    let numbered : List ℕ = to_be_bytes w64 (length note.records) ++ others in
+    let apart : text ≡ stores_text read ++ (sized_text noted ++ (to_be_bytes w64 count ++ fields)) = is ∙ in_four (stores_text read) (sized_text noted) (to_be_bytes w64 count) fields in
+    let first = texts_same read stores (sized_text noted ++ (to_be_bytes w64 count ++ fields)) (sized_text note.text ++ numbered) counted counted_too (sym apart ∙ e ∙ front_apart stores note others) in
+    let second = sized_same noted note.text (to_be_bytes w64 count ++ fields) numbered short_noted short.text first.1 in
+    differs (sym (number_same count (length note.records) fields others low short.records second.1).0)
   where
-    in_five : (a b c d e : List ℕ) → ((a ++ b) ++ c) ++ (d ++ e) ≡ a ++ (b ++ (c ++ (d ++ e)))
+    in_four : (a b c d : List ℕ) → (a ++ (b ++ c)) ++ d ≡ a ++ (b ++ (c ++ d))
+    in_four a b c d = simp append_assoc
+
+-- a front is read part by part
+pub read_by : (stores : List (List ℕ)) (note : List ℕ) (count : ℕ) (fields text rest noted : List ℕ) → text ≡ stores_text stores ++ rest → rest ≡ sized_text note ++ noted
+    → noted ≡ to_be_bytes w64 count ++ fields → text ≡ (stores_text stores ++ (sized_text note ++ to_be_bytes w64 count)) ++ fields
+read_by stores note count fields text rest noted first second third =
+    first ∙ ap (λ (b : List ℕ). stores_text stores ++ b) (second ∙ ap (λ (b : List ℕ). sized_text note ++ b) third) ∙ in_four (stores_text stores) (sized_text note) (to_be_bytes w64 count) fields
+  where
+    in_four : (a b c d : List ℕ) → a ++ (b ++ (c ++ d)) ≡ (a ++ (b ++ c)) ++ d
+    in_four a b c d = simp append_assoc
+
+-- a front is written part by part
+pub front_by : (stores : List (List ℕ)) (note : LinkNote) (start text noted all : List ℕ) → start ≡ [] → text ≡ start ++ stores_text stores → noted ≡ text ++ sized_text note.text
+    → all ≡ noted ++ to_be_bytes w64 (length note.records) → all ≡ front_text stores note
+front_by stores note start text noted all none pushed notes counts =
+    let number : List ℕ = to_be_bytes w64 (length note.records) in
+    counts ∙ ap (λ (b : List ℕ). b ++ number) (notes ∙ ap (λ (b : List ℕ). b ++ sized_text note.text) (pushed ∙ ap (λ (b : List ℕ). b ++ stores_text stores) none))
+    ∙ append_assoc (stores_text stores) (sized_text note.text) number
+
+-- a text is a front, fields around a table, and records
+pub written_by : (stores : List (List ℕ)) (note : LinkNote) (front all fields table after : List ℕ) → front ≡ front_text stores note → all ≡ front ++ fields
+    → with_table all table after ++ note.records ≡ kept_text stores note (with_table fields table after)
+written_by stores note front all fields table after is adds =
+    ap (λ (b : List ℕ). with_table b table after ++ note.records) (adds ∙ ap (λ (b : List ℕ). b ++ fields) is)
+    ∙ in_five (front_text stores note) fields (table_text table) after note.records
+  where
+    in_five : (a b c d e : List ℕ) → ((a ++ b) ++ (c ++ d)) ++ e ≡ a ++ ((b ++ (c ++ d)) ++ e)
     in_five a b c d e = simp append_assoc
 
--- the check of what stands before the fields, and of the fields before and after the table
-pub check_by : (stores : List (List ℕ)) (note front before after : List ℕ) → front ≡ stores_text stores ++ sized_text note → checksum (front ++ (before ++ after)) ≡ checksum (kept_text stores note (before ++ after))
-check_by stores note front before after is = ap checksum (ap (λ (b : List ℕ). b ++ (before ++ after)) is ∙ append_assoc (stores_text stores) (sized_text note) (before ++ after))
+-- a text that ends with its fields, and the records behind it
+pub joined_by : (stores : List (List ℕ)) (note : LinkNote) (front fields text : List ℕ) → front ≡ front_text stores note → text ≡ front ++ fields → text ++ note.records ≡ kept_text stores note fields
+joined_by stores note front fields text is all =
+    ap (λ (b : List ℕ). b ++ note.records) (all ∙ ap (λ (b : List ℕ). b ++ fields) is) ∙ append_assoc (front_text stores note) fields note.records
+
+-- a file is a front and its fields, and records behind them, if it has as many records
+pub split_by : (stores : List (List ℕ)) (note : LinkNote) (fields text records : List ℕ) → length note.records ≡ length records → text ++ records ≡ kept_text stores note fields
+    → (text ≡ front_text stores note ++ fields) × (records ≡ note.records)
+split_by stores note fields text records same e =
+    ends_same text records (front_text stores note ++ fields) note.records (sym same) (e ∙ sym (append_assoc (front_text stores note) fields note.records))
 
 -- three writes are one
 pub written_thrice : (a b c : List ℕ) → sip.write (sip.write (sip.write sip.initial a) b) c ≡ sip.write sip.initial (a ++ (b ++ c))

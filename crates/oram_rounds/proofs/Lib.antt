@@ -1,5 +1,6 @@
 pub mod Texts
 pub mod Folds
+pub mod LaidAnswers
 pub mod LeftRecords
 pub mod KeptPaths
 pub mod CatchUp
@@ -20,6 +21,7 @@ pub mod AheadInTurn
 pub mod Start
 pub mod Talk
 pub mod Noted
+pub mod Told
 pub mod Results
 pub mod FailedReplies
 pub mod NewProcess

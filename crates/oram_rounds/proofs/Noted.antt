@@ -11,11 +11,12 @@ use Rattle.oram_rounds.specs.Batches.{BatchOutcome}
 use Rattle.oram_rounds.specs.Files.{IsFile, IsFileWith, check_of}
 use Rattle.oram_rounds.specs.Keeping.{DoesAllNoted, IsKeptWithNote, IsNoted, MayBeKeptWithNote}
 use Rattle.oram_rounds.specs.Law.{LearningSendsNothing}
+use Rattle.oram_rounds.specs.LinkNotes.{LinkNote}
 use Rattle.oram_rounds.specs.Process.{Act, Does, DoesAll, HasTalked, Process, TalksAll, replies_of}
 use Rattle.oram_rounds.specs.Process.Act.{Calls, GoesAhead, Hears, Keeps, Misses}
 use Rattle.oram_rounds.specs.Rounds.{Round, waiting}
 
-module _ {B K : Type 0} (batches : B → List (List ℕ) → BatchOutcome → List Exchange → B → Type 0) (notes : B → List ℕ) (learns : B → ℕ → B → Type 0) (reads_back : K → List ℕ → Type 0) where
+module _ {B K : Type 0} (batches : B → List (List ℕ) → BatchOutcome → List Exchange → B → Type 0) (notes : B → LinkNote) (learns : B → ℕ → B → Type 0) (reads_back : K → List ℕ → Type 0) where
   abbrev pub DoesNoted : Scheme → Process B K → Act → Process B K → Type 0
   DoesNoted v p act q = Does v batches reads_back p act q × IsNoted v notes learns reads_back p act q
 

@@ -20,6 +20,7 @@ use Rattle.oram_link_laws.specs.Examples.{one_block}
 use Rattle.oram_link_laws.proofs.Device.{one_tree, session_example}
 use Rattle.oram_rounds.specs.ReadingExample.{reading_core, one_read}
 use Rattle.oram_rounds.specs.Files.{IsFile, kept_text}
+use Rattle.oram_rounds.specs.LinkNotes.{LinkNote}
 
 pub message_is : reading_core.message ≡ fetch_body 0 0
 unfolding trees_of blocks_in level_for least_from
@@ -130,8 +131,12 @@ saved = record {
   state = refl;
 }
 
+-- a link with nothing to keep
+abbrev no_records : LinkNote
+no_records = record { text = []; records = [] }
+
 abbrev pub file_bytes : List ℕ
-file_bytes = kept_text [] [] fields
+file_bytes = kept_text [] no_records fields
 
 pub is_file : IsFile one_block file_bytes [] reading_core
-is_file = record { counted = (omega arith, tt); note = []; short = omega arith; fields = fields; saved = saved; all = refl }
+is_file = record { counted = (omega arith, tt); note = no_records; short = record { text = omega arith; records = omega arith }; fields = fields; saved = saved; all = refl }

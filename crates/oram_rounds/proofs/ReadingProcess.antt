@@ -1,6 +1,5 @@
 -- A read of a block is submitted to a process, which keeps itself and sends its FETCH ahead.
-use Rattle.std.proofs.Common.{◌≡◌, ℕ, ◌*◌, ◌^◌, ◌<◌, arith, Bool, true, false, Option, Some, None, unwrap_or, List, [], ◌∷◌, replicate, Ok, refl, sym, ap, ◌∙◌, subst, inl, inr}
-use Rattle.std.specs.Prelude.{MatchBool}
+use Rattle.std.proofs.Common.{◌≡◌, ℕ, ◌*◌, ◌^◌, ◌<◌, arith, Bool, true, Option, Some, None, unwrap_or, List, [], ◌∷◌, replicate, Ok, refl, sym, ap, ◌∙◌, subst, inl, inr}
 use Rattle.std.specs.List.{AllByRecursion}
 use Rattle.oram_geometry.specs.Least.{least_from}
 use Rattle.oram_geometry.specs.Sizes.{blocks_in, level_for, trees_of}
@@ -27,14 +26,14 @@ use Rattle.oram_link_laws.specs.Runs.{LinkRun}
 use Rattle.oram_rounds.specs.ReadingExample.{ReadingProcessExample, reading_acts, reading_core, one_read, process_with, reads, reads_kept, shown_in}
 use Rattle.oram_rounds.specs.CatchUp.{CatchesUp}
 use Rattle.oram_rounds.specs.Examples.{DirectBatches, zero_array, zeros_fetched}
-use Rattle.oram_rounds.specs.Overlay.{LaysAllOver, holds_path}
+use Rattle.oram_rounds.specs.Overlay.{IsOverlaid, holds_path}
 use Rattle.oram_rounds.specs.PathMessages.{IsPathFetch}
 use Rattle.oram_rounds.specs.Process.{DoesAll, IsKept, Process, next_bodies}
 use Rattle.oram_rounds.specs.Rounds.{RoundCall, WentAhead}
 use Rattle.oram_rounds.specs.Service.{IsServed, WillHoldAfter}
 use Rattle.oram_rounds.proofs.AheadInTurn.{nothing_ahead_is_in_turn}
 use Rattle.oram_rounds.proofs.ReadingCore.{file_bytes, is_file, message_is, sound}
-use Rattle.oram_rounds.proofs.Example.{one_waits_example}
+use Rattle.oram_rounds.proofs.Example.{one_waits_example, unlaid}
 use Rattle.oram_rounds.proofs.Start.{held_goes_on, held_is_safe, served_submitted}
 
 -- the steps of the core
@@ -94,12 +93,6 @@ ran = elim one_waits_example.2.does [
   | inr (inr (inr takes)) ↦ absurd (let some = takes.none in cc)
 ]
 
--- where no STORE waits, the core receives what the host gives
-unlaid : (b : Bool) (bytes : List ℕ)
-    → MatchBool b ((new : List ℕ) × LaysAllOver one_block.device (record_len one_block) 0 0 [] bytes new × (payload_answer bytes ≡ payload_answer new)) (payload_answer bytes ≡ payload_answer bytes)
-unlaid true bytes = (bytes, refl, refl)
-unlaid false bytes = refl
-
 abbrev pub now : Process ToServer (List (List ℕ) × State)
 now = process_with reading_core reading_core
 
@@ -114,6 +107,10 @@ next_is = refl
 abbrev pub answer : List ℕ
 answer = payload_answer (replicate 88 0)
 
+-- where no STORE waits, the core receives what the host gives
+unchanged : IsOverlaid one_block.device (record_len one_block) 0 0 [] answer answer
+unchanged = unlaid (record_len one_block) (holds_path one_block.device (record_len one_block) 0 0 answer) (replicate 88 0)
+
 pub went : WentAhead DirectBatches now.link (next_bodies one_block.device reading_core) zeros_fetched now_ahead.link
 went =
     subst (λ (bodies : List (List ℕ)). WentAhead DirectBatches now.link bodies zeros_fetched now_ahead.link) (sym next_is) (record {
@@ -125,7 +122,7 @@ went =
         paths = (path, tt);
         outcome = Ok (answer ∷ []);
         batch = (ran, (refl, [], tt, refl));
-        gives = record { acks = []; given = answer ∷ []; all = refl; count = refl; either = inl (tt, refl, refl) };
+        gives = record { given = answer ∷ []; acks = []; all = refl; count = refl; either = inl (tt, refl, answer ∷ [], ((path, unchanged), (refl, refl)), refl) };
       });
     })
 
@@ -139,7 +136,7 @@ called = record {
     next = refl;
     given = answer;
     reported = refl;
-    over = unlaid (holds_path one_block.device (record_len one_block) 0 0 answer) (replicate 88 0);
+    over = unchanged;
     none = refl;
     same = refl;
     kept = refl;

@@ -98,7 +98,7 @@ module _ {B K : Type 0} (batches : B → List (List ℕ) → BatchOutcome → Li
       subst (λ (s : State). IsServed v s c.next array) (sym does.0.3) (served_on batches reads_back are may_lie v device p.core on.0 c.next array o c.waits on.2 c.heard) in
       inl (record { now = array; goes_on = (c.next, c.catches, served, c.ahead); replied = same_queue array p.core.queue q.core.queue (ap (λ (s : State). s.queue) does.0.3) })
   goes_on (GoesAhead exchanges) p q host after array dev len on does run =
-      let gone = ahead_is_of_the_host batches are may_lie v p.link q.link (next_bodies v.device p.core) exchanges host after on.0 dev on.1 does.0.0 run in
+      let gone = ahead_is_of_the_host batches are may_lie v p.link q.link (next_bodies v.device p.core) exchanges host after on.0 dev len on.1 does.0.0 run in
       inl (record {
         now = array;
         goes_on = (on.0, gone.0, subst (λ (s : State). IsServed v s on.0 array) (sym does.0.1) on.2, gone.1);

@@ -78,7 +78,7 @@ module _ (may_lie : Bool) (v : Scheme) where
       → WillHoldAfter may_lie v core stores host array → WillHoldAfter may_lie v core stores after array
   will_hold_on core stores host after array exchanges all run w = (w.0, run_catches v stores w.0 may_lie exchanges host after all run w.1, w.2)
 
-  -- The host has had tries of STOREs that are kept and of FETCHes after them.
+  -- The host has had tries of STOREs that are kept and of FETCHes.
   pub kept_on : (d : Sizes) (sent later fetches : List (List ℕ)) (bytes : List ℕ) (host after : Host) (before array : ℕ → List ℕ) (exchanges : List Exchange) → d ≡ v.device
       → (exchanges ≡ []) ⊎ (AllByRecursion (IsPathFetch d) fetches × AreAmong (bodies_of exchanges) (sent ++ fetches)) → ((b : List ℕ) → IsAmong b later → IsAmong b sent)
       → PlainRun may_lie v host exchanges after → IsKept may_lie v sent bytes host before array → IsKept may_lie v later bytes after before array
@@ -302,7 +302,7 @@ module _ {B K : Type 0} (batches : B → List (List ℕ) → BatchOutcome → Li
   act_safe (GoesAhead exchanges) p q host after before array safe does run =
       let live = safe.live in
       let went = does.0.0 in
-      let on = ahead_is_of_the_host batches are may_lie v p.link q.link (next_bodies v.device p.core) exchanges host after live.0 safe.device live.1 went run in
+      let on = ahead_is_of_the_host batches are may_lie v p.link q.link (next_bodies v.device p.core) exchanges host after live.0 safe.device safe.record_len_is live.1 went run in
       record {
         device = went.device ∙ safe.device;
         record_len_is = went.record_len ∙ safe.record_len_is;

@@ -10,7 +10,7 @@ use Rattle.oram_session.specs.declared.link.LinkFault.TheVariants.{Closed, OutOf
 use Rattle.oram_link_laws.specs.Repair.{IsAmong}
 use Rattle.oram_link_laws.specs.Runs.{Exchange}
 use Rattle.oram_rounds.specs.Batches.{BatchOutcome, answered}
-use Rattle.oram_rounds.specs.Overlay.{IsOverlaid}
+use Rattle.oram_rounds.specs.Overlay.{AreOverlaid, IsOverlaid}
 use Rattle.oram_rounds.specs.PathMessages.{IsPathFetch, IsPathStore}
 use Rattle.oram_rounds.specs.Rounds.{AreDone, Does, Fetches, Gives, IsCounted, IsFirstAhead, Round, WentAhead, refused_with}
 
@@ -105,31 +105,32 @@ marked {B} i l is inner kept held ahead whole none nothing =
     ∙ ap (λ (r : Round B). let q : Round B = record r { inner = inner; kept = r.kept ++ r.held; held = []; ahead = [] } in q) is
 
 -- of what went ahead, by what the batch gave
-module _ {B : Type 0} (batches : B → List (List ℕ) → BatchOutcome → List Exchange → B → Type 0) (i l : Round B) (is : i ≡ l) (fetches : List (List ℕ)) (inner : B) (exchanges : List Exchange) (answers acks given : List (List ℕ))
-    (some : fetches ≢ []) (paths : AllByRecursion (IsPathFetch i.device) fetches) (batch : batches i.inner (i.kept ++ fetches) (Ok answers) exchanges inner) (all : answers ≡ acks ++ given) (count : length acks ≡ length i.kept) where
+module _ {B : Type 0} (batches : B → List (List ℕ) → BatchOutcome → List Exchange → B → Type 0) (i l : Round B) (is : i ≡ l) (fetches : List (List ℕ)) (inner : B) (exchanges : List Exchange) (answers given acks : List (List ℕ))
+    (some : fetches ≢ []) (paths : AllByRecursion (IsPathFetch i.device) fetches) (batch : batches i.inner (fetches ++ i.kept) (Ok answers) exchanges inner) (all : answers ≡ given ++ acks) (count : length given ≡ length fetches) where
   -- not each STORE was carried out
-  pub goes_refused : (nothing : List Exchange) → nothing ≡ [] → WentAhead batches l fetches exchanges (record i { inner = inner; ahead = nothing })
-  goes_refused nothing none = subst (λ (r : Round B). WentAhead batches r fetches exchanges (record i { inner = inner; ahead = nothing })) is (record {
+  pub goes_refused : (nothing : List Exchange) → nothing ≡ [] → ¬ AreDone acks → WentAhead batches l fetches exchanges (record i { inner = inner; ahead = nothing })
+  goes_refused nothing none refused = subst (λ (r : Round B). WentAhead batches r fetches exchanges (record i { inner = inner; ahead = nothing })) is (record {
     device = refl;
     record_len = refl;
     held = refl;
-    does = inl (record { some = some; paths = paths; outcome = Ok answers; batch = batch; gives = record { acks = acks; given = given; all = all; count = count; either = inr (refl, none) } });
+    does = inl (record { some = some; paths = paths; outcome = Ok answers; batch = batch; gives = record { given = given; acks = acks; all = all; count = count; either = inr (refused, refl, none) } });
   })
 
   -- each was
-  pub goes_answered : (m : Round B) → m ≡ record i { inner = inner; kept = []; ahead = answered fetches given } → AreDone acks → WentAhead batches l fetches exchanges m
-  goes_answered m same done =
+  pub goes_answered : (laid : List (List ℕ)) → AreOverlaid i.device i.record_len i.kept fetches given laid → (m : Round B)
+      → m ≡ record i { inner = inner; kept = []; ahead = answered fetches laid } → AreDone acks → WentAhead batches l fetches exchanges m
+  goes_answered laid over m same done =
       subst (λ (r : Round B). WentAhead batches l fetches exchanges r) (sym same)
-      (subst (λ (r : Round B). WentAhead batches r fetches exchanges (record i { inner = inner; kept = []; ahead = answered fetches given })) is (record {
+      (subst (λ (r : Round B). WentAhead batches r fetches exchanges (record i { inner = inner; kept = []; ahead = answered fetches laid })) is (record {
         device = refl;
         record_len = refl;
         held = refl;
-        does = inl (record { some = some; paths = paths; outcome = Ok answers; batch = batch; gives = record { acks = acks; given = given; all = all; count = count; either = inl (done, refl, refl) } });
+        does = inl (record { some = some; paths = paths; outcome = Ok answers; batch = batch; gives = record { given = given; acks = acks; all = all; count = count; either = inl (done, refl, laid, over, refl) } });
       }))
 
 -- the batch had no answers
 pub goes_lost : {B : Type 0} (batches : B → List (List ℕ) → BatchOutcome → List Exchange → B → Type 0) (i l : Round B) (is : i ≡ l) (fetches : List (List ℕ)) (inner : B) (exchanges : List Exchange)
-    (fault : LinkFault) → fetches ≢ [] → AllByRecursion (IsPathFetch i.device) fetches → batches i.inner (i.kept ++ fetches) (Err fault) exchanges inner → (nothing : List Exchange) → nothing ≡ []
+    (fault : LinkFault) → fetches ≢ [] → AllByRecursion (IsPathFetch i.device) fetches → batches i.inner (fetches ++ i.kept) (Err fault) exchanges inner → (nothing : List Exchange) → nothing ≡ []
     → WentAhead batches l fetches exchanges (record i { inner = inner; ahead = nothing })
 goes_lost {B} batches i l is fetches inner exchanges fault some paths batch nothing none =
     subst (λ (r : Round B). WentAhead batches r fetches exchanges (record i { inner = inner; ahead = nothing })) is (record {

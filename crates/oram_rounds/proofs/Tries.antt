@@ -1,5 +1,5 @@
 -- Messages that went over a link one after the other.
-use Rattle.std.proofs.Common.{◌≡◌, ℕ, arith, List, [], ◌∷◌, ◌++◌, length, Result, Ok, Err, refl, sym, ap, subst, inl, inr}
+use Rattle.std.proofs.Common.{◌≡◌, ◌⊎◌, ℕ, arith, List, [], ◌∷◌, ◌++◌, length, Result, Ok, Err, refl, sym, ap, subst, inl, inr}
 use Rattle.std.specs.Prelude.{OnErr}
 use Rattle.oram_session.specs.Outcome.{Outcome}
 use Rattle.oram_link_laws.specs.Repair.{AreAmong, IsAmong}
@@ -87,3 +87,17 @@ on_err (Err e) p = p
 pub among_whole : (bodies front rest : List (List ℕ)) → AreAmong bodies front → AreAmong bodies (front ++ rest)
 among_whole [] front rest are = tt
 among_whole (b ∷ bodies) front rest are = (among_front front rest b are.0, among_whole bodies front rest are.1)
+
+-- those among two lists are among them in the other order
+
+among_either : (front rest : List (List ℕ)) (x : List ℕ) → IsAmong x (front ++ rest) → IsAmong x front ⊎ IsAmong x rest
+among_either [] rest x among = inr among
+among_either (b ∷ front) rest x (inl same) = inl (inl same)
+among_either (b ∷ front) rest x (inr later) = elim (among_either front rest x later) [ inl here ↦ inl (inr here) | inr behind ↦ inr behind ]
+
+pub among_turned : (bodies front rest : List (List ℕ)) → AreAmong bodies (front ++ rest) → AreAmong bodies (rest ++ front)
+among_turned [] front rest are = tt
+among_turned (b ∷ bodies) front rest are = (
+  elim (among_either front rest b are.0) [ inl here ↦ among_back rest front b here | inr behind ↦ among_front rest front b behind ],
+  among_turned bodies front rest are.1,
+)

@@ -1,7 +1,7 @@
 -- Examples that meet the premises of the laws: a device of one block, whose tree has one node, over a server in memory.
 use Rattle.std.specs.Prelude.{ℕ, Bool, List, [], ◌∷◌, replicate, Ok, ⊤, true}
 use Rattle.oram_geometry.specs.Sizes.{IsDevice}
-use Rattle.oram_wire.specs.HostMessages.{fetch_body, payload_answer, store_body}
+use Rattle.oram_wire.specs.HostMessages.{done_answer, fetch_body, payload_answer, store_body}
 use Rattle.oram_host.specs.Host.{Host}
 use Rattle.oram_session.specs.Links.{DirectCall, ToServer}
 use Rattle.oram_link_laws.specs.Examples.{new_core, new_host, new_server, one_block}
@@ -38,6 +38,18 @@ zeros_fetched = (fetch_body 0 0, Ok (payload_answer (replicate 88 0))) ∷ []
 abbrev pub one_ahead : Round ToServer
 one_ahead = record one_waits { ahead = zeros_fetched }
 
+-- the same STORE, once it is kept, so that it may leave
+abbrev pub one_kept : Round ToServer
+one_kept = record one_waits { kept = store_body 0 0 (replicate 88 1) ∷ []; held = [] }
+
+-- the FETCH goes ahead of it, and the server gives the zeros
+abbrev pub stored_behind : List Exchange
+stored_behind = (fetch_body 0 0, Ok (payload_answer (replicate 88 0))) ∷ (store_body 0 0 (replicate 88 1), Ok done_answer) ∷ []
+
+-- the server has carried out the STORE then, and the ones are ahead
+abbrev pub ones_ahead : ToServer → Round ToServer
+ones_ahead after = record one_kept { inner = after; kept = []; ahead = (fetch_body 0 0, Ok (payload_answer (replicate 88 1))) ∷ [] }
+
 -- Once the STORE is carried out, the host keeps the ones; so the FETCH is answered with the ones, even if it went ahead.
 abbrev pub OneWaitsExample : Type 0
 OneWaitsExample = AreBatches DirectBatches
@@ -47,6 +59,8 @@ OneWaitsExample = AreBatches DirectBatches
     × WentAhead DirectBatches one_waits (fetch_body 0 0 ∷ []) zeros_fetched one_ahead
     × ((may_lie : Bool) → AreAhead may_lie one_block new_host one_waits × AreAhead may_lie one_block new_host one_ahead)
     × RoundCall DirectBatches one_ahead (fetch_body 0 0) (Ok (payload_answer (replicate 88 1))) [] one_waits
+    × ((after : ToServer) × WentAhead DirectBatches one_kept (fetch_body 0 0 ∷ []) stored_behind (ones_ahead after)
+    × ((may_lie : Bool) → PlainRun may_lie one_block new_host stored_behind after.host))
 
 -- what may be read back is a file of the new core
 abbrev pub is_new_file : ⊤ → List ℕ → Type 0

@@ -1,18 +1,19 @@
--- A process that keeps itself, together with the note of its link.
+-- A process that keeps itself, together with the note and the records of its link.
 use Rattle.std.specs.Prelude.{◌≡◌, ◌⊎◌, ℕ, true, false, List, ⊤}
 use Rattle.std.specs.List.{FoldsTo}
 use Rattle.oram_semantics.specs.Scheme.{Scheme}
 use Rattle.oram_link_laws.specs.Runs.{Exchange}
 use Rattle.oram_rounds.specs.Batches.{BatchOutcome}
 use Rattle.oram_rounds.specs.Files.{IsFileWith, check_of}
+use Rattle.oram_rounds.specs.LinkNotes.{LinkNote}
 use Rattle.oram_rounds.specs.Process.{Act, Does, Process}
 use Rattle.oram_rounds.specs.Process.Act.{Calls, GoesAhead, Hears, Keeps, Misses}
 use Rattle.oram_rounds.specs.Rounds.{waiting}
 
 -- for a device, links with these notes that learn of a keeping by `learns`, and a keeper that says which bytes may be read back
-module _ (v : Scheme) {B K : Type 0} (notes : B → List ℕ) (learns : B → ℕ → B → Type 0) (reads_back : K → List ℕ → Type 0) where
-  -- One file is read back from then on: the process's file, with the note of the link below. That link learns the check of just this
-  -- process.
+module _ (v : Scheme) {B K : Type 0} (notes : B → LinkNote) (learns : B → ℕ → B → Type 0) (reads_back : K → List ℕ → Type 0) where
+  -- One file is read back from then on: the process's file, with the note and the records of the link below. That link learns the check of
+  -- just this process.
   pub record IsKeptWithNote (p q : Process B K) : Type 0 where
     pub file : List ℕ
     pub is : IsFileWith v file (waiting p.link) (notes p.link.inner) p.core

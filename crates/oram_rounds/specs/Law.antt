@@ -46,10 +46,11 @@ CallsAreOfTheHostLater {B} batches = AreBatches batches
     → RoundCall batches l body o exchanges m → PlainRun may_lie v host exchanges after
     → (next : Host) × CatchesUp v after (waiting m) next × IsHeardCall may_lie v later body o next × AreAhead may_lie v after m
 
--- STOREs that are kept and FETCHes after them are sent ahead. Then the host beside the link catches up to what it
--- would have caught up to before, and gives the answers that are ahead now.
+-- FETCHes are sent ahead, and the STOREs that are kept behind them. Then the host beside the link catches up to what it would have
+-- caught up to before, and gives the answers that are ahead now, since it has carried out the STOREs that are laid over them.
 abbrev pub AheadIsOfTheHost : {B : Type 0} → (B → List (List ℕ) → BatchOutcome → List Exchange → B → Type 0) → Type 0
 AheadIsOfTheHost {B} batches = AreBatches batches
     → (may_lie : Bool) (v : Scheme) (l m : Round B) (fetches : List (List ℕ)) (exchanges : List Exchange) (host after later : Host)
-    → l.device ≡ v.device → CatchesUp v host (waiting l) later → WentAhead batches l fetches exchanges m → PlainRun may_lie v host exchanges after
+    → l.device ≡ v.device → l.record_len ≡ record_len v → CatchesUp v host (waiting l) later → WentAhead batches l fetches exchanges m
+    → PlainRun may_lie v host exchanges after
     → CatchesUp v after (waiting m) later × AreAhead may_lie v after m

@@ -4,6 +4,7 @@ pub mod CatchUp
 pub mod Batches
 pub mod Rounds
 pub mod Law
+pub mod LinkNotes
 pub mod Examples
 pub mod Service
 pub mod Files

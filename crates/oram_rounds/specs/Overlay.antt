@@ -5,7 +5,7 @@ use Rattle.oram_geometry.specs.Sizes.{depth_of}
 use Rattle.oram_wire.specs.HostMessages.{payload_answer}
 use Rattle.oram_wire.specs.declared.host_messages.TheConstants.{GOOD}
 use Rattle.oram_link_laws.specs.Overlay.{IsLaidOver, TreePath}
-use Rattle.oram_rounds.specs.PathMessages.{IsPathStore}
+use Rattle.oram_rounds.specs.PathMessages.{IsPathFetch, IsPathStore}
 
 -- of a device, with records of this length, and the path of a leaf
 module _ (d : Sizes) (record_len tree leaf : ℕ) where
@@ -31,3 +31,12 @@ module _ (d : Sizes) (record_len tree leaf : ℕ) where
   abbrev pub IsOverlaid : List (List ℕ) → List ℕ → List ℕ → Type 0
   IsOverlaid stores answer given = MatchBool (holds_path answer)
       ((new : List ℕ) × LaysAllOver stores (drop 1 answer) new × (given ≡ payload_answer new)) (given ≡ answer)
+
+-- The answers to FETCHes of a device's paths, and the same answers once the records of STOREs are laid over each.
+module _ (d : Sizes) (record_len : ℕ) (stores : List (List ℕ)) where
+  abbrev pub AreOverlaid : List (List ℕ) → List (List ℕ) → List (List ℕ) → Type 0
+  AreOverlaid [] answers given = (answers ≡ []) × (given ≡ [])
+  AreOverlaid (body ∷ fetches) [] given = ⊥
+  AreOverlaid (body ∷ fetches) (answer ∷ answers) [] = ⊥
+  AreOverlaid (body ∷ fetches) (answer ∷ answers) (new ∷ given) =
+      ((f : IsPathFetch d body) × IsOverlaid d record_len f.tree f.leaf stores answer new) × AreOverlaid fetches answers given

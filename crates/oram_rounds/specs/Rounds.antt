@@ -10,7 +10,7 @@ use Rattle.oram_session.specs.declared.link.LinkFault.TheVariants.{Closed, OutOf
 use Rattle.oram_link_laws.specs.Repair.{IsAmong}
 use Rattle.oram_link_laws.specs.Runs.{Exchange}
 use Rattle.oram_rounds.specs.Batches.{BatchOutcome, answered}
-use Rattle.oram_rounds.specs.Overlay.{IsOverlaid}
+use Rattle.oram_rounds.specs.Overlay.{AreOverlaid, IsOverlaid}
 use Rattle.oram_rounds.specs.PathMessages.{IsPathFetch, IsPathStore}
 
 -- a link over another one that carries batches, for a device whose records have this length
@@ -103,21 +103,23 @@ module _ {B : Type 0} (batches : B → List (List ℕ) → BatchOutcome → List
   abbrev pub Does : Round B → List ℕ → Outcome → List Exchange → Round B → Type 0
   Does l body o exchanges m = HoldsBack l body o exchanges m ⊎ (Fetches l body o exchanges m ⊎ (Declines l body o exchanges m ⊎ TakesAhead l body o exchanges m))
 
-  -- The answers to the STOREs that were kept, and those to the FETCHes after them. Unless each STORE was carried out, nothing
-  -- is ahead.
+  -- The answers to the FETCHes, and those to the STOREs that were kept. If each STORE was carried out, each FETCH is ahead, with the
+  -- records of these STOREs laid over its answer. Otherwise nothing is ahead.
   pub record GivesAhead (l : Round B) (fetches answers : List (List ℕ)) (m : Round B) : Type 0 where
-    pub acks : List (List ℕ)
     pub given : List (List ℕ)
-    pub all : answers ≡ acks ++ given
-    pub count : length acks ≡ length l.kept
-    pub either : (AreDone acks × (m.kept ≡ []) × (m.ahead ≡ answered fetches given)) ⊎ ((m.kept ≡ l.kept) × (m.ahead ≡ []))
+    pub acks : List (List ℕ)
+    pub all : answers ≡ given ++ acks
+    pub count : length given ≡ length fetches
+    pub either :
+        (AreDone acks × (m.kept ≡ []) × (laid : List (List ℕ)) × AreOverlaid d record_len l.kept fetches given laid × (m.ahead ≡ answered fetches laid))
+        ⊎ ((¬ AreDone acks) × (m.kept ≡ l.kept) × (m.ahead ≡ []))
 
-  -- one or more FETCHes go to the host after the STOREs that are kept, before the core asks for them
+  -- one or more FETCHes go to the host before the core asks for them, and the STOREs that are kept go behind them
   pub record SendsAhead (l : Round B) (fetches : List (List ℕ)) (exchanges : List Exchange) (m : Round B) : Type 0 where
     pub some : fetches ≢ []
     pub paths : AllByRecursion (IsPathFetch d) fetches
     pub outcome : BatchOutcome
-    pub batch : batches l.inner (l.kept ++ fetches) outcome exchanges m.inner
+    pub batch : batches l.inner (fetches ++ l.kept) outcome exchanges m.inner
     pub gives : MatchResult outcome (λ answers. GivesAhead l fetches answers m) (λ fault. (m.kept ≡ l.kept) × (m.ahead ≡ []))
 
   -- nothing goes ahead: there are no FETCHes, or one of these messages is no FETCH of a path of the device

@@ -7,7 +7,7 @@ use std::alloc::Global;
 use std::collections::VecDeque;
 use std::marker::Model;
 
-/// FETCHes that were sent before the core asked for them, each with the host's answer, the next one first.
+/// FETCHes that were sent before the core asked for them, each with its answer, the next one first.
 #[derive(Drop)]
 pub struct FetchedAhead {
     fetches: VecDeque<Vec<u8>>,

@@ -3,21 +3,26 @@ ghost use Rattle.std.specs.Prelude.{◌≡◌, ℕ, List, ◌++◌, IfOk};
 ghost use Rattle.oram_link_laws.specs.Runs.{Exchange};
 ghost use Rattle.oram_rounds.specs.Batches.{BatchOutcome, batch_outcome_of, texts};
 ghost use Rattle.oram_rounds.specs.Law.{AreBatches, LearningSendsNothing};
+ghost use Rattle.oram_rounds.specs.LinkNotes.{AreRecordsTold, BatchesAreTold, LearningCountsAnew, LinkNote};
 
+use crate::keeper::LinkRecords;
 use oram_session::LinkFault;
 use std::alloc::{AllocError, Global};
 
 /// A link to a host that sends several messages before it reads their answers.
 ///
-/// Such a link may have something to remember beyond the end of its process: its note. Whoever keeps the process writes the
-/// note into the same text, and then tells the link the check of the process.
+/// Such a link may have something to remember beyond the end of its process: a note, and records, of which few change between two
+/// keepings. Whoever keeps the process writes both into the same text, and then tells the link the check of the process.
 pub trait BatchLink {
     /// Whether a batch of these bodies, from the first value, may have this outcome and these exchanges with the host, and
     /// lead to the second value.
     ghost batches: { Self → List (List ℕ) → BatchOutcome → List Exchange → Self → Type 0 };
 
-    /// The bytes that the link wants to have kept with its process.
-    ghost notes: { Self → List ℕ };
+    /// What the link wants to have kept with its process.
+    ghost notes: { Self → LinkNote };
+
+    /// Whether the link tells of each of its records that differs from these bytes.
+    ghost tells: { Self → List ℕ → Type 0 };
 
     /// Whether the first value may become the second one when the link learns that the process was kept, with the link's note, and
     /// has this check.
@@ -36,9 +41,14 @@ pub trait BatchLink {
 
     /// Returns the link's note, which may be empty.
     fn note(&self, alloc: Global) -> Result<Vec<u8>, AllocError>
-        ensures { IfOk result (λ note. note.items ≡ notes self.now) };
+        ensures { IfOk result (λ note. note.items ≡ (notes self.now).text) };
 
-    /// Tells the link that the process was kept, with the link's note, and that its check is `check`. Sends nothing.
+    /// Returns the link's records, of which there may be none.
+    fn records(&self) -> LinkRecords<'_>
+        ensures bytes { result.bytes.now ≡ (notes self.now).records }
+        ensures told { (old : List ℕ) → tells self.now old → AreRecordsTold result.changes old result.bytes.now };
+
+    /// Tells the link that the process was kept, with the link's note and its records, and that its check is `check`. Sends nothing.
     fn learn_kept(&mut self, check: u64)
         ensures { learns self.old check self.new };
 
@@ -47,4 +57,9 @@ pub trait BatchLink {
 
     // When the link learns that the process was kept, it does no more than in a batch of no messages.
     ghost learning_sends_nothing: { LearningSendsNothing batches learns };
+
+    // The link tells of each record that differs from those that were kept last.
+    ghost batches_are_told: { BatchesAreTold notes tells batches };
+
+    ghost learning_counts_anew: { LearningCountsAnew notes tells learns };
 }

@@ -1,23 +1,26 @@
 //! What is kept of a process, as bytes.
 //!
-//! The text has the STOREs that wait, the oldest first, the note of the link ([`BatchLink`](crate::BatchLink)), and the core: the
-//! number of STOREs in eight bytes, each STORE after its length in eight bytes, the note after its length in eight bytes, and the
-//! fields of the core's state file. All numbers are big-endian.
+//! The text has the STOREs that wait, the oldest first, the note of the link ([`BatchLink`](crate::BatchLink)), the core, and the records
+//! of the link: the number of STOREs in eight bytes, each STORE after its length in eight bytes, the note after its length in eight
+//! bytes, the number of bytes of the records in eight bytes, the fields of the core's state file, and the records. All numbers are
+//! big-endian.
 //!
 //! Nothing in the text tells whether it is the one that was written: whoever keeps it adds what detects a torn file. The text is
-//! handed to a [`Keeper`](crate::Keeper) in three parts, with the core's table in the middle, and the check of a process, by which its
-//! keepings are told apart, leaves the table out. So writing takes no longer here if the table is larger.
-ghost use Rattle.std.specs.Prelude.{◌≡◌, ◌≢◌, ◌⊎◌, ◌++◌, ◌<◌, ◌^◌, ℕ, List, None, length, IfErr, IfOk, IfSome, IsErrOf, OnOk};
+//! handed to a [`Keeper`](crate::Keeper) in four parts, two of which are the core's table and the records, and the check of a process, by
+//! which its keepings are told apart, leaves these two out. So writing takes no longer here if they are larger.
+ghost use Rattle.std.specs.Prelude.{◌≡◌, ◌≢◌, ◌⊎◌, ◌++◌, ◌<◌, ◌^◌, [], ℕ, List, None, length, IfErr, IfOk, IfSome, IsErrOf, OnOk};
 ghost use Rattle.std.specs.Int.{w64, to_be_bytes};
 ghost use Rattle.oram_geometry.specs.declared.Sizes.{Sizes};
 ghost use Rattle.oram_semantics.specs.State.{State};
 ghost use Rattle.oram_core.specs.Changes.{AreTold};
 ghost use Rattle.oram_core.specs.Core.{scheme_of};
 ghost use Rattle.oram_rounds.specs.Batches.{texts};
-ghost use Rattle.oram_rounds.specs.Files.{AreCounted, IsFileOf, IsFileWith, IsShort, IsWhole, check_of, checksum, kept_text, sized_text, stores_text};
+ghost use Rattle.oram_rounds.specs.Files.{AreCounted, IsFileOf, IsFileWith, IsShort, IsShortNote, IsWholeWith, check_of, checksum, front_text, kept_text, sized_text, stores_text};
+ghost use Rattle.oram_rounds.specs.KeptParts.{whole_text};
+ghost use Rattle.oram_rounds.specs.LinkNotes.{LinkNote};
 ghost use Rattle.oram_state.specs.StateBytes.{with_table};
 
-use crate::keeper::KeptParts;
+use crate::keeper::{KeptParts, LinkRecords};
 use crate::lists::push;
 use oram_bucket::Sealer;
 use oram_core::{Core, TableChanges};
@@ -29,41 +32,49 @@ use std::hash::{DefaultHasher, Hasher};
 /// The number of bytes of a number in a file.
 const NUMBER_LEN: usize = 8;
 
-/// What is kept of a process.
+/// What is kept of a process, but for the records of its link.
 #[derive(Drop)]
 pub struct KeptCore<S: Sealer> {
     /// The STOREs that the host may not have yet, the oldest first.
     pub stores: Vec<Vec<u8>>,
-    /// What the link wanted to have kept.
+    /// The note of the link.
     pub note: Vec<u8>,
     pub core: Core<S>,
     /// The check of the process.
     pub check: u64,
 }
 
-/// The text of a process around its core's table, and the check of the process.
+/// The text of a process around its core's table and in front of its link's records, and the check of the process.
 #[derive(Drop)]
 pub struct ProcessText {
     /// What stands before the table.
     pub before: Vec<u8>,
-    /// What stands after the table.
+    /// What stands between the table and the records.
     pub after: Vec<u8>,
     pub check: u64,
 }
 
 impl ProcessText {
-    /// Returns the text with the table, and what of it has changed.
-    pub fn with_table<'a>(&'a self, table: &'a [u32], changes: TableChanges<'a>) -> KeptParts<'a>
+    /// Returns the text with the table and the records, and what of them has changed.
+    pub fn with_table<'a>(
+        &'a self,
+        table: &'a [u32],
+        changes: TableChanges<'a>,
+        records: LinkRecords<'a>,
+    ) -> KeptParts<'a>
         ensures before { result.before.now ≡ self.now.before.items }
         ensures table { result.table.now ≡ table.now }
         ensures changes { (old : List ℕ) → AreTold changes.entry old table.now → AreTold result.changes old table.now }
         ensures after { result.after.now ≡ self.now.after.items }
+        ensures records { result.records.bytes.now ≡ records.entry.bytes.now }
+        ensures record_changes { result.records.changes ≡ records.entry.changes }
     {
         KeptParts {
             before: &self.before,
             table,
             changes,
             after: &self.after,
+            records,
         }
     }
 }
@@ -71,9 +82,9 @@ impl ProcessText {
 /// Why bytes can't be read as a process's text.
 #[derive(Clone, Copy, Debug, PartialEq, Eq)]
 pub enum KeptCoreFault {
-    /// The bytes don't begin with STOREs and a note.
+    /// The bytes don't begin with STOREs and a note, or have another number of bytes of records than they say.
     Torn,
-    /// The bytes have STOREs and a note, but what follows isn't a core with this sealer.
+    /// The bytes have STOREs, a note and records, but what is between these isn't a core with this sealer.
     Core(StateFault),
     /// Memory ran out.
     OutOfMemory,
@@ -113,8 +124,8 @@ impl From<StateFault> for KeptCoreFault {
     }
 }
 
-/// Computes the check of a process: `front` are the STOREs and the note of its text, and `before` and `after` the core's fields before
-/// and after the table.
+/// Computes the check of a process: `front` is what stands before the core's fields in its text, and `before` and `after` are these
+/// fields before and after the table.
 #[tactic(auto, unfolding(crate::specs::Files::checksum), using(crate::proofs::KeptText::written_thrice))]
 fn check_of(front: &[u8], before: &[u8], after: &[u8]) -> u64
     ensures { result ≡ checksum (front.now ++ (before.now ++ after.now)) }
@@ -126,12 +137,21 @@ fn check_of(front: &[u8], before: &[u8], after: &[u8]) -> u64
     hasher.finish()
 }
 
+/// Adds the number of some bytes to a text.
+fn push_len(text: &mut Vec<u8>, bytes: &[u8]) -> Result<(), AllocError>
+    ensures written { OnOk result (text.new.items ≡ text.old.items ++ to_be_bytes w64 (length bytes.now)) }
+    ensures short { IsShort bytes.now }
+{
+    text.extend_from_slice(&(bytes.len() as u64).to_be_bytes())?;
+    Ok(())
+}
+
 /// Adds a STORE, or a note, to a text after its length.
 fn push_sized(text: &mut Vec<u8>, bytes: &[u8]) -> Result<(), AllocError>
     ensures written { OnOk result (text.new.items ≡ text.old.items ++ sized_text bytes.now) }
     ensures short { IsShort bytes.now }
 {
-    text.extend_from_slice(&(bytes.len() as u64).to_be_bytes())?;
+    push_len(text, bytes)?;
     text.extend_from_slice(bytes)?;
     Ok(())
 }
@@ -148,9 +168,27 @@ fn push_stores(text: &mut Vec<u8>, stores: &[Vec<u8>]) -> Result<(), AllocError>
     Ok(())
 }
 
-/// Returns how many bytes these STOREs, this note and these fields have.
+/// Adds what stands before the core's fields to an empty text.
+fn push_front(
+    text: &mut Vec<u8>,
+    stores: &[Vec<u8>],
+    note: &[u8],
+    records: &[u8],
+) -> Result<(), AllocError>
+    requires { text.old.items ≡ [] }
+    ensures written { OnOk result (text.new.items ≡ front_text (texts stores.now) (record { text = note.now; records = records.now })) }
+    ensures counted { OnOk result (AreCounted (texts stores.now)) }
+    ensures short { OnOk result (IsShortNote (record { text = note.now; records = records.now })) }
+{
+    push_stores(text, stores)?;
+    push_sized(text, note)?;
+    push_len(text, records)?;
+    Ok(())
+}
+
+/// Returns how many bytes stand before the table in a text with these STOREs, this note and these fields before the table.
 fn before_len(stores: &[Vec<u8>], note: &[u8], fields: &[u8]) -> usize {
-    let mut len = (2 * NUMBER_LEN)
+    let mut len = (3 * NUMBER_LEN)
         .saturating_add(note.len())
         .saturating_add(fields.len());
     for store in stores {
@@ -159,22 +197,23 @@ fn before_len(stores: &[Vec<u8>], note: &[u8], fields: &[u8]) -> usize {
     len
 }
 
-/// Returns the text of the STOREs that wait, of the note of their link, and of the core that sent them, around the core's table, and
-/// the check of this process. Fails only if memory runs out.
+/// Returns the text of the STOREs that wait, of the note of their link, and of the core that sent them, around the core's table and in
+/// front of the link's records, and the check of this process. Fails only if memory runs out.
 pub fn encode_kept<S: Sealer>(
     alloc: Global,
     stores: &[Vec<u8>],
     note: &[u8],
+    records: &[u8],
     core: &Core<S>,
 ) -> Result<ProcessText, AllocError>
     ensures file { let v = scheme_of S.cipher core.now in IfOk result (λ text.
-        IsFileWith v (with_table text.before.items core.now.state.table text.after.items) (texts stores.now) note.now core.now.state) }
-    ensures check { let v = scheme_of S.cipher core.now in IfOk result (λ text. text.check ≡ check_of v (texts stores.now) note.now core.now.state) }
+        IsFileWith v (whole_text text core.now.state.table records.now) (texts stores.now) (record { text = note.now; records = records.now }) core.now.state) }
+    ensures check { let v = scheme_of S.cipher core.now in IfOk result (λ text.
+        text.check ≡ check_of v (texts stores.now) (record { text = note.now; records = records.now }) core.now.state) }
 {
     let fields = encode_around_table(alloc, core)?;
     let mut before = Vec::with_capacity(alloc, before_len(stores, note, &fields.before))?;
-    push_stores(&mut before, stores)?;
-    push_sized(&mut before, note)?;
+    push_front(&mut before, stores, note, records)?;
     let check = check_of(&before, &fields.before, &fields.after);
     before.extend_from_slice(&fields.before)?;
     Ok(ProcessText {
@@ -228,61 +267,94 @@ fn read_stores(alloc: Global, bytes: &[u8]) -> Result<(Vec<Vec<u8>>, &[u8]), Kep
     Ok((stores, rest))
 }
 
-/// The parts of a process's text.
+/// The parts of a process's text in front of its records.
 #[derive(Drop)]
 struct Parts<'a> {
     stores: Vec<Vec<u8>>,
     note: &'a [u8],
+    /// How many bytes the records have, as the text says.
+    records_len: u64,
     /// What stands before the core's fields.
     front: &'a [u8],
     /// The core's fields, unread.
     fields: &'a [u8],
 }
 
-/// Takes a text apart.
+/// Takes a text apart, up to its records.
 fn split_kept(alloc: Global, text: &[u8]) -> Result<Parts<'_>, KeptCoreFault>
     ensures counted { IfOk result (λ parts. AreCounted (texts parts.stores.items)) }
     ensures short { IfOk result (λ parts. IsShort parts.note.now) }
-    ensures front { IfOk result (λ parts. parts.front.now ≡ stores_text (texts parts.stores.items) ++ sized_text parts.note.now) }
-    ensures ok { IfOk result (λ parts. text.now ≡ kept_text (texts parts.stores.items) parts.note.now parts.fields.now) }
-    ensures torn { IsErrOf result KeptCoreFault.Torn → (stores : List (List ℕ)) (note fields : List ℕ) → AreCounted stores → IsShort note → text.now ≢ kept_text stores note fields }
+    ensures small { IfOk result (λ parts. parts.records_len < 2 ^ 64) }
+    ensures front { IfOk result (λ parts. parts.front.now ≡ stores_text (texts parts.stores.items) ++ (sized_text parts.note.now ++ to_be_bytes w64 parts.records_len)) }
+    ensures ok { IfOk result (λ parts. text.now ≡ parts.front.now ++ parts.fields.now) }
+    ensures torn { IsErrOf result KeptCoreFault.Torn → (stores : List (List ℕ)) (note : LinkNote) (fields : List ℕ) → AreCounted stores → IsShortNote note
+        → text.now ≢ front_text stores note ++ fields }
     ensures fault { IfErr result (λ e. (e ≡ KeptCoreFault.Torn) ⊎ (e ≡ KeptCoreFault.OutOfMemory)) }
 {
     let (stores, rest) = read_stores(alloc, text)?;
-    let Some((note, fields)) = next_sized(rest) else {
+    let Some((note, rest)) = next_sized(rest) else {
+        return Err(KeptCoreFault::Torn);
+    };
+    let Some((records_len, fields)) = next_number(rest) else {
         return Err(KeptCoreFault::Torn);
     };
     let (front, _) = text.split_at(text.len() - fields.len());
     Ok(Parts {
         stores,
         note,
+        records_len,
         front,
         fields,
     })
 }
 
-/// Reads the text of a process whose core has this sealer.
+/// Takes a text apart that has these records behind it.
+fn split_before<'a>(
+    alloc: Global,
+    text: &'a [u8],
+    records: &[u8],
+) -> Result<Parts<'a>, KeptCoreFault>
+    ensures counted { IfOk result (λ parts. AreCounted (texts parts.stores.items)) }
+    ensures short { IfOk result (λ parts. IsShortNote (record { text = parts.note.now; records = records.now })) }
+    ensures front { IfOk result (λ parts. parts.front.now ≡ front_text (texts parts.stores.items) (record { text = parts.note.now; records = records.now })) }
+    ensures ok { IfOk result (λ parts. text.now ≡ parts.front.now ++ parts.fields.now) }
+    ensures torn { IsErrOf result KeptCoreFault.Torn → (stores : List (List ℕ)) (note : LinkNote) (fields : List ℕ) → AreCounted stores → IsShortNote note
+        → length note.records ≡ length records.now → text.now ≢ front_text stores note ++ fields }
+    ensures fault { IfErr result (λ e. (e ≡ KeptCoreFault.Torn) ⊎ (e ≡ KeptCoreFault.OutOfMemory)) }
+{
+    let parts = split_kept(alloc, text)?;
+    if parts.records_len != records.len() as u64 {
+        return Err(KeptCoreFault::Torn);
+    }
+    Ok(parts)
+}
+
+/// Reads a process whose core has this sealer, from its text up to the records. The records stand behind that text.
 ///
-/// Fails with `Torn` if the text doesn't begin with STOREs and a note, with `Core` if no core with this sealer follows, and with
-/// `OutOfMemory` if memory runs out.
+/// Fails with `Torn` if the text doesn't begin with STOREs and a note, or says another number of bytes of records; with `Core` if no core
+/// with this sealer stands before the records; and with `OutOfMemory` if memory runs out.
 pub fn decode_kept<S: Sealer>(
     alloc: Global,
     sealer: S,
     text: &[u8],
+    records: &[u8],
 ) -> Result<KeptCore<S>, KeptCoreFault>
     ensures sealer { IfOk result (λ kept. kept.core.sealer ≡ sealer) }
-    ensures ok { IfOk result (λ kept. IsFileWith (scheme_of S.cipher kept.core) text.now (texts kept.stores.items) kept.note.items kept.core.state) }
+    ensures ok { IfOk result (λ kept. IsFileWith (scheme_of S.cipher kept.core) (text.now ++ records.now) (texts kept.stores.items)
+        (record { text = kept.note.items; records = records.now }) kept.core.state) }
     // A text is that of only one process, so the check is the one that `encode_kept` gave.
-    ensures check { IfOk result (λ kept. kept.check ≡ check_of (scheme_of S.cipher kept.core) (texts kept.stores.items) kept.note.items kept.core.state) }
+    ensures check { IfOk result (λ kept. kept.check ≡ check_of (scheme_of S.cipher kept.core) (texts kept.stores.items)
+        (record { text = kept.note.items; records = records.now }) kept.core.state) }
     // It returns the process that was kept, unless memory runs out.
-    ensures same { (d : Sizes) (stores : List (List ℕ)) (core : State) → (it : IsFileOf (S.cipher sealer).overhead d text.now stores core)
-        → IfOk result (λ kept. (texts kept.stores.items ≡ stores) × (kept.core.device ≡ d) × (kept.core.state ≡ core) × (kept.note.items ≡ it.note)) }
-    ensures only { (d : Sizes) (stores : List (List ℕ)) (core : State) → IsFileOf (S.cipher sealer).overhead d text.now stores core
-        → IfErr result (λ fault. fault ≡ KeptCoreFault.OutOfMemory) }
-    ensures torn { IsErrOf result KeptCoreFault.Torn → ¬ IsWhole text.now }
-    ensures core { (fault : StateFault) → IsErrOf result (KeptCoreFault.Core fault) → IsWhole text.now × (fault ≡ StateFault.Content) }
+    ensures same { (d : Sizes) (stores : List (List ℕ)) (core : State) → (it : IsFileOf (S.cipher sealer).overhead d (text.now ++ records.now) stores core)
+        → it.note.records ≡ records.now
+        → IfOk result (λ kept. (texts kept.stores.items ≡ stores) × (kept.core.device ≡ d) × (kept.core.state ≡ core) × (kept.note.items ≡ it.note.text)) }
+    ensures only { (d : Sizes) (stores : List (List ℕ)) (core : State) → (it : IsFileOf (S.cipher sealer).overhead d (text.now ++ records.now) stores core)
+        → it.note.records ≡ records.now → IfErr result (λ fault. fault ≡ KeptCoreFault.OutOfMemory) }
+    ensures torn { IsErrOf result KeptCoreFault.Torn → ¬ IsWholeWith text.now records.now }
+    ensures core { (fault : StateFault) → IsErrOf result (KeptCoreFault.Core fault) → IsWholeWith text.now records.now × (fault ≡ StateFault.Content) }
 {
-    let parts = split_kept(alloc, text)?;
+    let parts = split_before(alloc, text, records)?;
     let note = parts.note.to_vec(alloc)?;
     match decode_fields(alloc, sealer, parts.fields) {
         Ok(core) => {

@@ -17,8 +17,9 @@ pub fn calls_are_of_the_host_later<B: BatchLink>()
     ensures { CallsAreOfTheHostLater B.batches }
 {}
 
-/// A law about definitions: sending FETCHes ahead doesn't change what the host will hold, and each answer that is ahead is
-/// what the host would give now. So [`calls_are_of_the_host_later`] holds of the calls that are answered from them.
+/// A law about definitions: sending FETCHes ahead doesn't change what the host will hold, and each answer that is ahead, with the
+/// records of the STOREs behind it, is what the host would give now. So [`calls_are_of_the_host_later`] holds of the calls that are
+/// answered from them.
 pub fn ahead_is_of_the_host<B: BatchLink>()
     ensures { AheadIsOfTheHost B.batches }
 {}
@@ -42,8 +43,8 @@ pub fn ahead_is_not_sent<B: BatchLink>()
     ensures { AheadIsNotSent B.batches }
 {}
 
-/// A server that keeps a record of zeros, and a STORE of ones that waits, meet the premises of
-/// [`calls_are_of_the_host_later`]: a FETCH is answered with the ones.
+/// A server that keeps a record of zeros, and a STORE of ones that waits, meet the premises of [`calls_are_of_the_host_later`] and
+/// [`ahead_is_of_the_host`]: a FETCH is answered with the ones, also if it goes ahead of the STORE.
 pub fn one_waits_example()
     ensures { OneWaitsExample }
 {}
@@ -81,7 +82,7 @@ pub fn acts_are_safe<B: BatchLink, K: Keeper>()
 {}
 
 /// A law about definitions: wherever a process ends, what is read back will hold one array or the other, whatever the host has
-/// received by then of the STOREs that are kept and of the FETCH after them.
+/// received by then of the STOREs that are kept and of the FETCHes that go with them.
 pub fn ends_are_safe<B: BatchLink, K: Keeper>()
     ensures { EndsAreSafe B.batches K.reads_back }
 {}

@@ -4,10 +4,10 @@
 //! two trees. A [`RoundLink`] answers a STORE at once and sends it later, together with the next FETCH that may leave. Until
 //! then it lays the records of these STOREs over the paths that it fetches, so the core receives what a host would give that
 //! has carried them out. So a command alone waits once for each tree. The first FETCHes of all commands of a round go
-//! together.
+//! together, ahead of the STOREs that may leave; the records of these are laid over their answers, too.
 //!
 //! The client keeps the STOREs that wait in a file before they leave. If its process ends, the next one sends them again.
-//! A [`BatchLink`] carries the STOREs and the FETCH after them; [`OneByOne`] makes one of any link.
+//! A [`BatchLink`] carries the STOREs and the FETCHes that go with them; [`OneByOne`] makes one of any link.
 //!
 //! A round is one keeping and then the work of all commands that were submitted ([`submit_all`], [`perform`], [`resume`]).
 //! Their replies may be given at once, since what is kept has the commands.
@@ -31,7 +31,7 @@ mod submissions;
 
 pub use batch::BatchLink;
 pub use exchanges::carry_out_all;
-pub use keeper::{KeepError, Keeper, KeptParts};
+pub use keeper::{KeepError, Keeper, KeptParts, LinkRecords, RecordChanges};
 pub use kept_file::{KeptCore, KeptCoreFault, ProcessText, decode_kept, encode_kept};
 pub use law::{
     acts_are_safe, ahead_is_not_sent, ahead_is_of_the_host, ahead_stays_in_turn, begun_is_safe,

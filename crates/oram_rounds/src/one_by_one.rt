@@ -5,6 +5,7 @@ ghost use Rattle.oram_link_laws.specs.Runs.{Exchange, LinkRun, bodies_of};
 ghost use Rattle.oram_rounds.specs.Batches.{IsBatch, answered, texts};
 
 use crate::batch::BatchLink;
+use crate::keeper::LinkRecords;
 use crate::lists::push;
 use oram_session::{Link, LinkFault};
 use std::alloc::{AllocError, Global};
@@ -37,14 +38,16 @@ fn call_each<L: Link>(
 }
 
 impl<L: Link> BatchLink for OneByOne<L> {
-    ghost use Rattle.std.specs.Prelude.{◌≡◌, []};
+    ghost use Rattle.std.specs.Prelude.{◌≡◌, [], ⊤};
     ghost use Rattle.std.proofs.Common.{inl};
     ghost use Rattle.oram_link_laws.specs.Runs.{LinkRun};
     ghost use Rattle.oram_rounds.specs.Batches.{IsBatch};
 
     ghost batches = { λ l bodies o exchanges m. LinkRun L.calls l.link exchanges m.link × IsBatch bodies o exchanges };
 
-    ghost notes = { λ l. [] };
+    ghost notes = { λ l. record { text = []; records = [] } };
+
+    ghost tells = { λ l old. ⊤ };
 
     ghost learns = { λ l check m. m ≡ l };
 
@@ -65,9 +68,17 @@ impl<L: Link> BatchLink for OneByOne<L> {
         Ok(Vec::new(alloc))
     }
 
+    fn records(&self) -> LinkRecords<'_> {
+        LinkRecords::none()
+    }
+
     fn learn_kept(&mut self, _check: u64) {}
 
     ghost are_batches = { λ l m bodies o exchanges h. h.1 };
 
     ghost learning_sends_nothing = { λ l m check same. inl same };
+
+    ghost batches_are_told = { λ l m bodies o exchanges old some h told. tt };
+
+    ghost learning_counts_anew = { λ l m check same. tt };
 }

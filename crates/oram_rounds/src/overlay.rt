@@ -62,23 +62,22 @@ pub(crate) fn path_len(device: &Device, record_len: usize, tree: u8) -> usize
     (usize::from(device.depth(tree)) + 1) * record_len
 }
 
-/// Returns the answer to a FETCH with the records of STOREs laid over its path. An answer that has no path stays as it is.
-pub(crate) fn laid_over(
+/// Lays the records of STOREs over the path in the answer to a FETCH. An answer that has no path stays as it is.
+pub(crate) fn lay_over(
     device: &Device,
     record_len: usize,
     tree: u8,
     leaf: u32,
     stores: &[Vec<u8>],
-    mut answer: Vec<u8>,
-) -> Vec<u8>
+    answer: &mut [u8],
+)
     requires tree { tree < trees_of device.now }
     requires leaf { leaf < 2 ^ depth_of device.now tree }
     requires few { record_len < 2 ^ 32 }
     requires stores { ArePathStores device.now record_len (texts stores.now) }
-    ensures { IsOverlaid device.now record_len tree leaf (texts stores.now) answer.items result.items }
+    ensures { IsOverlaid device.now record_len tree leaf (texts stores.now) answer.old answer.new }
 {
     if answer.len() == 1 + path_len(device, record_len, tree) && answer[0] == GOOD {
         lay_stores(device, record_len, tree, leaf, stores, &mut answer[1..]);
     }
-    answer
 }

@@ -1,5 +1,5 @@
 //! A link that holds STOREs back.
-ghost use Rattle.std.specs.Prelude.{◌≡◌, ◌≢◌, ◌↔◌, ◌+◌, ◌*◌, ◌^◌, ◌<◌, [], ◌∷◌, ◌++◌, List, IfOk, IsTrue, MatchOption, MatchResult, OnOk, OnErr};
+ghost use Rattle.std.specs.Prelude.{◌≡◌, ◌≢◌, ◌↔◌, ◌+◌, ◌*◌, ◌^◌, ◌<◌, [], ◌∷◌, ◌++◌, ℕ, List, IfOk, IsTrue, MatchOption, MatchResult, OnOk, OnErr, length};
 ghost use Rattle.std.specs.List.{AllByRecursion};
 ghost use Rattle.oram_geometry.specs.Sizes.{depth_of, trees_of};
 ghost use Rattle.oram_wire.specs.HostMessages.{done_answer, fetch_body};
@@ -7,14 +7,16 @@ ghost use Rattle.oram_session.specs.Outcome.{outcome_of};
 ghost use Rattle.oram_link_laws.specs.Repair.{IsAmong};
 ghost use Rattle.oram_link_laws.specs.Runs.{Exchange};
 ghost use Rattle.oram_rounds.specs.Batches.{texts};
-ghost use Rattle.oram_rounds.specs.Overlay.{IsOverlaid};
+ghost use Rattle.oram_rounds.specs.LinkNotes.{AreRecordsTold};
+ghost use Rattle.oram_rounds.specs.Overlay.{AreOverlaid, IsOverlaid};
 ghost use Rattle.oram_rounds.specs.PathMessages.{ArePathStores, IsPathFetch, IsPathStore};
 ghost use Rattle.oram_rounds.specs.Rounds.{AreDone, Does, IsFirstAhead, WentAhead, refused_with, waiting};
 
 use crate::ahead::FetchedAhead;
 use crate::batch::BatchLink;
+use crate::keeper::LinkRecords;
 use crate::lists::push;
-use crate::overlay::{laid_over, path_len};
+use crate::overlay::{lay_over, path_len};
 use oram_geometry::Device;
 use oram_session::{Link, LinkFault};
 use oram_wire::{GOOD, HostView, REFUSED, is_done};
@@ -123,6 +125,28 @@ fn are_path_fetches(device: &Device, bodies: &[Vec<u8>]) -> bool
         }
     }
     true
+}
+
+/// Lays the records of STOREs over the answer to each of these FETCHes.
+fn lay_over_each(
+    device: &Device,
+    record_len: usize,
+    stores: &[Vec<u8>],
+    fetches: &[Vec<u8>],
+    answers: &mut [Vec<u8>],
+)
+    requires few { record_len < 2 ^ 32 }
+    requires stores { ArePathStores device.now record_len (texts stores.now) }
+    requires paths { AllByRecursion (IsPathFetch device.now) (texts fetches.now) }
+    requires count { length answers.old ≡ length fetches.now }
+    ensures { AreOverlaid device.now record_len (texts stores.now) (texts fetches.now) (texts answers.old) (texts answers.new) }
+{
+    for i in 0..fetches.len() {
+        let Some((tree, leaf)) = fetched_path(device, &fetches[i]) else {
+            unreachable!()
+        };
+        lay_over(device, record_len, tree, leaf, stores, &mut answers[i]);
+    }
 }
 
 /// Returns whether each answer says that the host has done what it was asked.
@@ -246,20 +270,37 @@ impl<B> RoundLink<B> {
     }
 
     /// Returns the answer to a FETCH, with the records of the STOREs that aren't kept yet laid over it.
-    fn overlaid(&self, tree: u8, leaf: u32, answer: Vec<u8>) -> Vec<u8>
+    fn overlaid(&self, tree: u8, leaf: u32, mut answer: Vec<u8>) -> Vec<u8>
         requires tree { tree < trees_of self.now.device }
         requires leaf { leaf < 2 ^ depth_of self.now.device tree }
         ensures { IsOverlaid self.now.device self.now.record_len tree leaf self.now.held answer.items result.items }
     {
         let kept = self.kept;
-        laid_over(
+        lay_over(
             &self.device,
             self.record_len,
             tree,
             leaf,
             &self.stores[kept..],
-            answer,
-        )
+            &mut answer,
+        );
+        answer
+    }
+
+    /// Lays the records of the STOREs that are kept over the answer to each of these FETCHes.
+    fn lay_kept(&self, fetches: &[Vec<u8>], answers: &mut [Vec<u8>])
+        requires paths { AllByRecursion (IsPathFetch self.now.device) (texts fetches.now) }
+        requires count { length answers.old ≡ length fetches.now }
+        ensures { AreOverlaid self.now.device self.now.record_len self.now.kept (texts fetches.now) (texts answers.old) (texts answers.new) }
+    {
+        let kept = self.kept;
+        lay_over_each(
+            &self.device,
+            self.record_len,
+            &self.stores[..kept],
+            fetches,
+            answers,
+        );
     }
 
     /// Adds a STORE to those that wait.
@@ -276,9 +317,17 @@ impl<B> RoundLink<B> {
 impl<B: BatchLink> RoundLink<B> {
     /// Returns the note that the link below wants to have kept.
     pub fn note(&self, alloc: Global) -> Result<Vec<u8>, AllocError>
-        ensures { IfOk result (λ note. note.items ≡ B.notes self.now.inner) }
+        ensures { IfOk result (λ note. note.items ≡ (B.notes self.now.inner).text) }
     {
         self.inner.note(alloc)
+    }
+
+    /// Returns the records that the link below wants to have kept.
+    pub fn records(&self) -> LinkRecords<'_>
+        ensures bytes { result.bytes.now ≡ (B.notes self.now.inner).records }
+        ensures told { (old : List ℕ) → B.tells self.now.inner old → AreRecordsTold result.changes old result.bytes.now }
+    {
+        self.inner.records()
     }
 
     /// Notes that all STOREs that wait are kept, in a process with this check, so they leave with the next FETCH. Forgets
@@ -292,9 +341,10 @@ impl<B: BatchLink> RoundLink<B> {
         self.inner.learn_kept(check);
     }
 
-    /// Sends FETCHes after the STOREs that are kept, all at once, before the core asks for them. Later calls with these
-    /// FETCHes, in this order, are answered from what came. What went ahead before is forgotten. Sends nothing if there are no
-    /// FETCHes.
+    /// Sends FETCHes before the core asks for them, and the STOREs that are kept behind them, all at once. So the host's answers to
+    /// the FETCHes come while the STOREs are still being written. The records of these STOREs are laid over the answers: that is what
+    /// the host would answer now, once it has carried them out. Later calls with these FETCHes, in this order, are answered from
+    /// there. What went ahead before is forgotten. Sends nothing if there are no FETCHes.
     ///
     /// Nothing is ahead afterwards if the batch has a fault, if the host refuses a STORE, if memory runs out, or if a body
     /// isn't a FETCH of a path of the device. Then each FETCH is sent when the core asks for it.
@@ -309,13 +359,14 @@ impl<B: BatchLink> RoundLink<B> {
             return;
         }
         let kept = self.kept;
-        let Ok(mut answers) = self.inner.call_all(alloc, &self.stores[..kept], &fetches) else {
+        let Ok(mut answers) = self.inner.call_all(alloc, &fetches, &self.stores[..kept]) else {
             return;
         };
-        if are_done(&answers[..kept]) {
+        let count = fetches.len();
+        if are_done(&answers[count..]) {
+            answers.truncate(count);
+            self.lay_kept(&fetches, &mut answers);
             self.forget_kept();
-            answers.rotate_left(kept);
-            answers.truncate(fetches.len());
             self.ahead = FetchedAhead::of(fetches, answers);
         }
     }

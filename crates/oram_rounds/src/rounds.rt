@@ -10,6 +10,7 @@ ghost use Rattle.oram_core.specs.PlainSteps.{done};
 ghost use Rattle.oram_session.specs.Honesty.{HasFailed};
 ghost use Rattle.oram_session.specs.CoreWork.{IsBodyOf, HasNoWork, IsUnderWay};
 ghost use Rattle.oram_rounds.specs.KeptParts.{whole_text};
+ghost use Rattle.oram_rounds.specs.LinkNotes.{AreRecordsTold};
 ghost use Rattle.oram_rounds.specs.Keeping.{DoesAllNoted, IsKeptWithNote, MayBeKeptWithNote};
 ghost use Rattle.oram_rounds.specs.Process.{Act, GoesAheadFirst, IsBrokenResumption, IsBrokenRound, IsResumption, IsRound, process, replies_of};
 ghost use Rattle.oram_rounds.specs.Process.Act.{Keeps};
@@ -17,7 +18,7 @@ ghost use Rattle.oram_rounds.specs.Rounds.{waiting};
 
 use crate::batch::BatchLink;
 use crate::exchanges::carry_out_all;
-use crate::keeper::{KeepError, Keeper};
+use crate::keeper::{KeepError, Keeper, LinkRecords};
 use crate::kept_file::{ProcessText, encode_kept};
 use crate::round_fault::RoundFault;
 use crate::round_link::RoundLink;
@@ -27,36 +28,44 @@ use oram_host::ServeFault;
 use oram_session::{has_no_work, reopen};
 use std::alloc::Global;
 
-/// Hands a process's text to the keeper, with the table of its core and the entries of it that have changed.
+/// Hands a process's text to the keeper, with the table of its core and the records of its link, and with what of these has changed.
 fn hand_over<S: Sealer, K: Keeper>(
     core: &Core<S>,
     text: &ProcessText,
+    records: LinkRecords<'_>,
     keeper: &mut K,
 ) -> Result<(), KeepError>
-    requires { IsNotedSince (K.kept_table keeper.old) core.now }
-    ensures there { OnOk result (K.reads_back keeper.new (whole_text text.now core.now.state.table)) }
-    ensures only { OnOk result ((bytes : List ℕ) → K.reads_back keeper.new bytes → bytes ≡ whole_text text.now core.now.state.table) }
-    ensures failed { OnErr result ((bytes : List ℕ) → K.reads_back keeper.new bytes → (bytes ≡ whole_text text.now core.now.state.table) ⊎ K.reads_back keeper.old bytes) }
+    requires noted { IsNotedSince (K.kept_table keeper.old) core.now }
+    requires told { AreRecordsTold records.changes (K.kept_records keeper.old) records.bytes.now }
+    ensures there { OnOk result (K.reads_back keeper.new (whole_text text.now core.now.state.table records.entry.bytes.now)) }
+    ensures only { OnOk result ((bytes : List ℕ) → K.reads_back keeper.new bytes → bytes ≡ whole_text text.now core.now.state.table records.entry.bytes.now) }
+    ensures failed { OnErr result ((bytes : List ℕ) → K.reads_back keeper.new bytes
+        → (bytes ≡ whole_text text.now core.now.state.table records.entry.bytes.now) ⊎ K.reads_back keeper.old bytes) }
     ensures table { OnOk result (K.kept_table keeper.new ≡ core.now.state.table) }
     ensures table_before { OnErr result (K.kept_table keeper.new ≡ K.kept_table keeper.old) }
+    ensures records { OnOk result (K.kept_records keeper.new ≡ records.entry.bytes.now) }
+    ensures records_before { OnErr result (K.kept_records keeper.new ≡ K.kept_records keeper.old) }
 {
-    keeper.keep(&text.with_table(core.table(), core.changes()))
+    keeper.keep(&text.with_table(core.table(), core.changes(), records))
 }
 
-/// Keeps the core, the STOREs that wait, and the note of the link below. The STOREs may leave from then on, and the link below
-/// learns the check of what was kept. The keeper is told which entries of the core's table have changed, and the core forgets them
-/// once they are kept.
+/// Keeps the core, the STOREs that wait, and the note and the records of the link below. The STOREs may leave from then on, and the link
+/// below learns the check of what was kept. The keeper is told which entries of the core's table and which records have changed, and
+/// core and link count changes anew once these are kept.
 pub fn keep<S: Sealer, B: BatchLink, K: Keeper>(
     alloc: Global,
     core: &mut Core<S>,
     link: &mut RoundLink<B>,
     keeper: &mut K,
 ) -> Result<(), RoundFault>
-    requires { IsNotedSince (K.kept_table keeper.old) core.old }
+    requires noted { IsNotedSince (K.kept_table keeper.old) core.old }
+    requires told { B.tells link.old.inner (K.kept_records keeper.old) }
     // From then on the changes of the core's table are counted from the table that is kept now. After a fault they still are
     // counted from the one before.
     ensures forgotten { OnOk result ((core.new ≡ record core.old { noted = nothing_noted }) × (K.kept_table keeper.new ≡ core.old.state.table)) }
     ensures unchanged { OnErr result ((core.new ≡ core.old) × (K.kept_table keeper.new ≡ K.kept_table keeper.old)) }
+    // The link goes on telling of each record that differs from those that are kept.
+    ensures told { B.tells link.new.inner (K.kept_records keeper.new) }
     // What is read back then is the file of the core, of these STOREs and of this note.
     ensures ok { let v = scheme_of S.cipher core.old in
         OnOk result (IsKeptWithNote v B.notes B.learns K.reads_back (process core.old.state link.old keeper.old) (process core.old.state link.new keeper.new)
@@ -69,8 +78,9 @@ pub fn keep<S: Sealer, B: BatchLink, K: Keeper>(
     ensures fault { IfErr result (λ e. (e ≡ RoundFault.NotKept) ⊎ (e ≡ RoundFault.OutOfMemory)) }
 {
     let note = link.note(alloc)?;
-    let text = encode_kept(alloc, link.waiting(), &note, core)?;
-    hand_over(core, &text, keeper)?;
+    let records = link.records();
+    let text = encode_kept(alloc, link.waiting(), &note, records.bytes, core)?;
+    hand_over(core, &text, records, keeper)?;
     core.forget_changes();
     link.keep(alloc, text.check);
     Ok(())
@@ -90,7 +100,9 @@ pub fn perform<S: Sealer, B: BatchLink, K: Keeper>(
 ) -> Result<Vec<Reply>, RoundFault>
     requires under_way { IsUnderWay (done reaction core.old.state) }
     requires noted { IsNotedSince (K.kept_table keeper.old) core.old }
+    requires told { B.tells link.old.inner (K.kept_records keeper.old) }
     ensures noted { IsNotedSince (K.kept_table keeper.new) core.new }
+    ensures told { B.tells link.new.inner (K.kept_records keeper.new) }
     ensures kept { IsSameDevice core.old core.new }
     ensures ok { let v = scheme_of S.cipher core.old in
         IfOk result (λ replies. (acts : List Act) × (flat_map replies_of acts ≡ replies.items)
@@ -131,8 +143,10 @@ pub fn resume<S: Sealer, B: BatchLink, K: Keeper>(
     link: &mut RoundLink<B>,
     keeper: &mut K,
 ) -> Result<Vec<Reply>, RoundFault>
-    requires { IsNotedSince (K.kept_table keeper.old) core.old }
+    requires noted { IsNotedSince (K.kept_table keeper.old) core.old }
+    requires told { B.tells link.old.inner (K.kept_records keeper.old) }
     ensures noted { IsNotedSince (K.kept_table keeper.new) core.new }
+    ensures told { B.tells link.new.inner (K.kept_records keeper.new) }
     ensures kept { IsSameDevice core.old core.new }
     ensures no_work { OnOk result (HasNoWork core.new.state) }
     // In an idle or failed core nothing waits.

@@ -4,7 +4,7 @@ use Rattle.std.specs.Prelude.{All}
 use Rattle.std.proofs.lemmas.Bool.{cases_eq}
 use Rattle.oram_host.specs.Path.{node_on, record_at}
 use Rattle.oram_host.proofs.Paths.{step_is}
-use Rattle.oram_layout.specs.Changes.{marks, path_patches, record_patch}
+use Rattle.oram_layout.specs.Changes.{level_patches, marks, record_patch}
 use Rattle.oram_layout.specs.declared.trees.Tree.{Tree}
 use Rattle.oram_layout.proofs.Changes.{length-record_at}
 use Rattle.oram_redo.specs.Log.{Fits, Patch, entries, entry}
@@ -23,21 +23,21 @@ cells_more len level cells records whole long held k below = elim (cases_eq k le
   | inr other ↦ earlier_piece (len + 1) level cells (1 ∷ record_at len records level) whole k (omega arith) ∙ held k (omega arith)
 ]
 
--- the patches of a path, one by one
-path_from : (tree : Tree) (leaf : ℕ) (bytes : List ℕ) (n level : ℕ)
-    → path_patches tree leaf bytes level (suc n) ≡ path_patches tree leaf bytes level n ++ record_patch tree (node_on tree.shape.depth leaf (level + n)) (record_at tree.shape.record_len bytes (level + n)) ∷ []
-path_from tree leaf bytes zero level =
-    ap (λ (l : ℕ). record_patch tree (node_on tree.shape.depth leaf l) (record_at tree.shape.record_len bytes l) ∷ []) (let e : level ≡ level + 0 = omega arith in e)
-path_from tree leaf bytes (suc n) level =
-    ap (λ (ps : List Patch). record_patch tree (node_on tree.shape.depth leaf level) (record_at tree.shape.record_len bytes level) ∷ ps)
-    (path_from tree leaf bytes n (suc level)
-    ∙ ap (λ (l : ℕ). path_patches tree leaf bytes (suc level) n ++ record_patch tree (node_on tree.shape.depth leaf l) (record_at tree.shape.record_len bytes l) ∷ []) (let e : suc level + n ≡ level + suc n = omega arith in e))
+-- the patches of levels, one by one
+patches_from : (tree : Tree) (leaf first : ℕ) (bytes : List ℕ) (n i : ℕ)
+    → level_patches tree leaf first bytes i (suc n) ≡ level_patches tree leaf first bytes i n ++ record_patch tree (node_on tree.shape.depth leaf (first + (i + n))) (record_at tree.shape.record_len bytes (i + n)) ∷ []
+patches_from tree leaf first bytes zero i =
+    ap (λ (l : ℕ). record_patch tree (node_on tree.shape.depth leaf (first + l)) (record_at tree.shape.record_len bytes l) ∷ []) (let e : i ≡ i + 0 = omega arith in e)
+patches_from tree leaf first bytes (suc n) i =
+    ap (λ (ps : List Patch). record_patch tree (node_on tree.shape.depth leaf (first + i)) (record_at tree.shape.record_len bytes i) ∷ ps)
+    (patches_from tree leaf first bytes n (suc i)
+    ∙ ap (λ (l : ℕ). level_patches tree leaf first bytes (suc i) n ++ record_patch tree (node_on tree.shape.depth leaf (first + l)) (record_at tree.shape.record_len bytes l) ∷ []) (let e : suc i + n ≡ i + suc n = omega arith in e))
 
-pub path_more : (tree : Tree) (leaf : ℕ) (bytes : List ℕ) (n : ℕ)
-    → path_patches tree leaf bytes 0 (n + 1) ≡ path_patches tree leaf bytes 0 n ++ record_patch tree (node_on tree.shape.depth leaf n) (record_at tree.shape.record_len bytes n) ∷ []
-path_more tree leaf bytes n =
-    ap (path_patches tree leaf bytes 0) (let e : n + 1 ≡ suc n = omega arith in e) ∙ path_from tree leaf bytes n 0
-    ∙ ap (λ (l : ℕ). path_patches tree leaf bytes 0 n ++ record_patch tree (node_on tree.shape.depth leaf l) (record_at tree.shape.record_len bytes l) ∷ []) (let e : 0 + n ≡ n = omega arith in e)
+pub level_more : (tree : Tree) (leaf first : ℕ) (bytes : List ℕ) (n : ℕ)
+    → level_patches tree leaf first bytes 0 (n + 1) ≡ level_patches tree leaf first bytes 0 n ++ record_patch tree (node_on tree.shape.depth leaf (first + n)) (record_at tree.shape.record_len bytes n) ∷ []
+level_more tree leaf first bytes n =
+    ap (level_patches tree leaf first bytes 0) (let e : n + 1 ≡ suc n = omega arith in e) ∙ patches_from tree leaf first bytes n 0
+    ∙ ap (λ (l : ℕ). level_patches tree leaf first bytes 0 n ++ record_patch tree (node_on tree.shape.depth leaf (first + l)) (record_at tree.shape.record_len bytes l) ∷ []) (let e : 0 + n ≡ n = omega arith in e)
 
 length-entries : (p : Patch) (ps : List Patch) → length (entries (p ∷ ps)) ≡ 21 + length p.1 + length (entries ps)
 length-entries p ps = length-append (entry p) (entries ps) ∙ ap (λ (n : ℕ). n + length (entries ps)) (length-entry p)
@@ -49,13 +49,13 @@ pub length-marks : (cells : List ℕ) → length (entries (marks cells)) ≡ 22 
 length-marks [] = omega arith
 length-marks (cell ∷ cells) = omega (arith, length-entries (cell, 1 ∷ []) (marks cells), length-marks cells)
 
-pub length-path : (tree : Tree) (leaf : ℕ) (bytes : List ℕ) → length bytes ≡ (tree.shape.depth + 1) * tree.shape.record_len → (n level : ℕ) → level + n ≤ tree.shape.depth + 1
-    → length (entries (path_patches tree leaf bytes level n)) ≡ n * (tree.shape.record_len + 22)
-length-path tree leaf bytes whole zero level fits = omega arith
-length-path tree leaf bytes whole (suc n) level fits =
-    let rest = length-path tree leaf bytes whole n (suc level) (omega arith) in
-    let long = length-record_at tree.shape.record_len bytes level (tree.shape.depth + 1) whole (omega arith) in
-    length-entries (record_patch tree (node_on tree.shape.depth leaf level) (record_at tree.shape.record_len bytes level)) (path_patches tree leaf bytes (suc level) n)
+pub length-levels : (tree : Tree) (leaf first count : ℕ) (bytes : List ℕ) → length bytes ≡ count * tree.shape.record_len → (n i : ℕ) → i + n ≤ count
+    → length (entries (level_patches tree leaf first bytes i n)) ≡ n * (tree.shape.record_len + 22)
+length-levels tree leaf first count bytes whole zero i fits = omega arith
+length-levels tree leaf first count bytes whole (suc n) i fits =
+    let rest = length-levels tree leaf first count bytes whole n (suc i) (omega arith) in
+    let long = length-record_at tree.shape.record_len bytes i count whole (omega arith) in
+    length-entries (record_patch tree (node_on tree.shape.depth leaf (first + i)) (record_at tree.shape.record_len bytes i)) (level_patches tree leaf first bytes (suc i) n)
     ∙ (omega (arith, rest, long, step_is n (tree.shape.record_len + 22)))
 
 all_cons : {X : Type 0} (P : X → Type 0) (x : X) (xs : List X) → P x → All P xs → All P (x ∷ xs)

@@ -7,12 +7,14 @@ use Rattle.std.proofs.lemmas.List.Elements.{All-cons, All-nil}
 use Rattle.std.proofs.lemmas.Nat.{from_be_bytes-to_be_bytes_4}
 use Rattle.oram_layout.specs.Records.{AreKept, Records as RecordsOf, records_in}
 use Rattle.oram_layout.specs.Trees.{Trees}
+use Rattle.oram_levels.specs.Messages.{FetchLevels, StoreLevels}
 use Rattle.oram_redo.specs.FilePair.{Contents, FileModel}
 use Rattle.oram_store.specs.FirstAnswers.{AnswersFirst}
 use Rattle.oram_store.specs.GroupRuns.{AnswersGroups, AreRequests, Group, IsRequest, both_done}
 use Rattle.oram_store.specs.Groups.{AnswersGroup, AnswersInTurn, AreCarriedOut, IsAcceptedChange}
 use Rattle.oram_store.specs.KeptRecords.{Holds, IsSound, StoreValue, records_of, sure_records}
 use Rattle.oram_store.specs.Laws.{no_records}
+use Rattle.oram_store.specs.Messages.{Message, OfHost, OfLevels, body_of}
 use Rattle.oram_store.specs.RecordFile.{Finds, Runs}
 use Rattle.oram_wire.specs.HostBodies.{HasNumbers, IsAnswer}
 use Rattle.oram_wire.specs.HostMessages.{answer_body, done_answer, request_body}
@@ -58,31 +60,43 @@ other_op : (one two : HostRequest) (m n : ℕ) → get_or (request_body one) 0 0
 other_op one two m n is_m is_n same differ = absurd (differ (sym is_m ∙ ap (λ (l : List ℕ). get_or l 0 0) same ∙ is_n))
 
 -- a body is that of one request only
-pub same_message : (trees : Trees) (one two : HostRequest) → IsAcceptedChange trees one → HasNumbers two → request_body one ≡ request_body two → one ≡ two
-same_message trees (request.Fetch tree leaf) two accepted fits same = absurd accepted
-same_message trees (request.Shape tree depth record_len) two accepted fits same = absurd accepted
-same_message trees (request.Store tree leaf records) (request.Store tree' leaf' records') accepted fits same = one_message 2 tree tree' leaf leaf' records records' accepted.0 fits same request.Store
-same_message trees (request.Put tree node bytes) (request.Put tree' node' bytes') accepted fits same = one_message 3 tree tree' node node' bytes bytes' accepted.0 fits same request.Put
-same_message trees (request.Store tree leaf records) (request.Fetch tree' leaf') accepted fits same = other_op (request.Store tree leaf records) (request.Fetch tree' leaf') 2 1 refl refl same (λ e. omega (arith, e))
-same_message trees (request.Store tree leaf records) (request.Put tree' node' bytes') accepted fits same = other_op (request.Store tree leaf records) (request.Put tree' node' bytes') 2 3 refl refl same (λ e. omega (arith, e))
-same_message trees (request.Store tree leaf records) (request.Shape tree' depth' len') accepted fits same = other_op (request.Store tree leaf records) (request.Shape tree' depth' len') 2 4 refl refl same (λ e. omega (arith, e))
-same_message trees (request.Put tree node bytes) (request.Fetch tree' leaf') accepted fits same = other_op (request.Put tree node bytes) (request.Fetch tree' leaf') 3 1 refl refl same (λ e. omega (arith, e))
-same_message trees (request.Put tree node bytes) (request.Store tree' leaf' records') accepted fits same = other_op (request.Put tree node bytes) (request.Store tree' leaf' records') 3 2 refl refl same (λ e. omega (arith, e))
-same_message trees (request.Put tree node bytes) (request.Shape tree' depth' len') accepted fits same = other_op (request.Put tree node bytes) (request.Shape tree' depth' len') 3 4 refl refl same (λ e. omega (arith, e))
+same_request : (trees : Trees) (one two : HostRequest) → IsAcceptedChange trees (OfHost one) → HasNumbers two → request_body one ≡ request_body two → one ≡ two
+same_request trees (request.Fetch tree leaf) two accepted fits same = absurd accepted
+same_request trees (request.Shape tree depth record_len) two accepted fits same = absurd accepted
+same_request trees (request.Store tree leaf records) (request.Store tree' leaf' records') accepted fits same = one_message 2 tree tree' leaf leaf' records records' accepted.0 fits same request.Store
+same_request trees (request.Put tree node bytes) (request.Put tree' node' bytes') accepted fits same = one_message 3 tree tree' node node' bytes bytes' accepted.0 fits same request.Put
+same_request trees (request.Store tree leaf records) (request.Fetch tree' leaf') accepted fits same = other_op (request.Store tree leaf records) (request.Fetch tree' leaf') 2 1 refl refl same (λ e. omega (arith, e))
+same_request trees (request.Store tree leaf records) (request.Put tree' node' bytes') accepted fits same = other_op (request.Store tree leaf records) (request.Put tree' node' bytes') 2 3 refl refl same (λ e. omega (arith, e))
+same_request trees (request.Store tree leaf records) (request.Shape tree' depth' len') accepted fits same = other_op (request.Store tree leaf records) (request.Shape tree' depth' len') 2 4 refl refl same (λ e. omega (arith, e))
+same_request trees (request.Put tree node bytes) (request.Fetch tree' leaf') accepted fits same = other_op (request.Put tree node bytes) (request.Fetch tree' leaf') 3 1 refl refl same (λ e. omega (arith, e))
+same_request trees (request.Put tree node bytes) (request.Store tree' leaf' records') accepted fits same = other_op (request.Put tree node bytes) (request.Store tree' leaf' records') 3 2 refl refl same (λ e. omega (arith, e))
+same_request trees (request.Put tree node bytes) (request.Shape tree' depth' len') accepted fits same = other_op (request.Put tree node bytes) (request.Shape tree' depth' len') 3 4 refl refl same (λ e. omega (arith, e))
+
+-- no STORE of levels has the body of one of the four requests
+not_seven : (two : HostRequest) (body : List ℕ) → get_or body 0 0 ≡ 7 → body ≡ request_body two → ⊥
+not_seven (request.Fetch tree leaf) body seven same = omega (arith, seven, ap (λ (l : List ℕ). get_or l 0 0) same)
+not_seven (request.Store tree leaf records) body seven same = omega (arith, seven, ap (λ (l : List ℕ). get_or l 0 0) same)
+not_seven (request.Put tree node bytes) body seven same = omega (arith, seven, ap (λ (l : List ℕ). get_or l 0 0) same)
+not_seven (request.Shape tree depth record_len) body seven same = omega (arith, seven, ap (λ (l : List ℕ). get_or l 0 0) same)
+
+same_message : (trees : Trees) (one : Message) (two : HostRequest) → IsAcceptedChange trees one → HasNumbers two → body_of one ≡ request_body two → one ≡ OfHost two
+same_message trees (OfHost one) two accepted fits same = ap OfHost (same_request trees one two accepted fits same)
+same_message trees (OfLevels (FetchLevels tree first last leaf)) two accepted fits same = absurd accepted
+same_message trees (OfLevels (StoreLevels tree first leaf records)) two accepted fits same = absurd (not_seven two (body_of (OfLevels (StoreLevels tree first leaf records))) refl same)
 
 -- two messages with the bodies of two others
 module _ (trees : Trees) (first second : HostRequest) (fits : HasNumbers first) (fits_too : HasNumbers second) where
-  pub same_messages : (messages : List HostRequest) → All (IsAcceptedChange trees) messages → map request_body messages ≡ request_body first ∷ request_body second ∷ [] → messages ≡ first ∷ second ∷ []
+  pub same_messages : (messages : List Message) → All (IsAcceptedChange trees) messages → map body_of messages ≡ request_body first ∷ request_body second ∷ [] → messages ≡ OfHost first ∷ OfHost second ∷ []
   same_messages [] accepted are = absurd cc
   same_messages (one ∷ []) accepted are = absurd (omega (arith, ap length are))
   same_messages (one ∷ two ∷ three ∷ rest) accepted are = absurd (omega (arith, ap length are))
   same_messages (one ∷ two ∷ []) accepted are =
-      let here : one ≡ first = same_message trees one first (accepted 0 one (omega arith)) fits (ap (λ (l : List (List ℕ)). get_or l 0 []) are) in
-      let there : two ≡ second = same_message trees two second (accepted 1 two (omega arith)) fits_too (ap (λ (l : List (List ℕ)). get_or l 1 []) are) in
-      ap (λ (m : HostRequest). m ∷ two ∷ []) here ∙ ap (λ (m : HostRequest). first ∷ m ∷ []) there
+      let here : one ≡ OfHost first = same_message trees one first (accepted 0 one (omega arith)) fits (ap (λ (l : List (List ℕ)). get_or l 0 []) are) in
+      let there : two ≡ OfHost second = same_message trees two second (accepted 1 two (omega arith)) fits_too (ap (λ (l : List (List ℕ)). get_or l 1 []) are) in
+      ap (λ (m : Message). m ∷ two ∷ []) here ∙ ap (λ (m : Message). OfHost first ∷ m ∷ []) there
 
 -- answers stay right if the records after them are the same
-in_turn_kept : (trees : Trees) (one two three : RecordsOf) (messages : List HostRequest) → AreKept two three → AnswersInTurn trees one messages answer.Done two → AnswersInTurn trees one messages answer.Done three
+in_turn_kept : (trees : Trees) (one two three : RecordsOf) (messages : List Message) → AreKept two three → AnswersInTurn trees one messages answer.Done two → AnswersInTurn trees one messages answer.Done three
 in_turn_kept trees one two three [] same said = kept_then one two three said same
 in_turn_kept trees one two three (message ∷ rest) same said = (said.0, said.1, in_turn_kept trees said.0 two three rest same said.2)
 
@@ -103,26 +117,26 @@ module _ {F : Type 0} (model : FileModel F) (first second : HostRequest) (fits :
   pub are_requests : AreRequests (both_done first second)
   are_requests =
       All-cons (λ (group : Group). All IsRequest group.bodies) (record { bodies = request_body first ∷ request_body second ∷ []; given = answer.Done }) []
-      (All-cons IsRequest (request_body first) (request_body second ∷ []) (first, fits, refl) (All-cons IsRequest (request_body second) [] (second, fits_too, refl) (All-nil IsRequest)))
+      (All-cons IsRequest (request_body first) (request_body second ∷ []) (OfHost first, fits, refl) (All-cons IsRequest (request_body second) [] (OfHost second, fits_too, refl) (All-nil IsRequest)))
       (All-nil (λ (group : Group). All IsRequest group.bodies))
 
   pub is_answered : AnswersFirst model (request_body first ∷ request_body second ∷ []) answer.Done old new → Runs model old.file new.file → AnswersGroups model (both_done first second) old new
   is_answered said runs = (new, said, runs, refl)
 
   pub both_found : AnswersGroup model (request_body first ∷ request_body second ∷ []) answer.Done old new → model.is_honest new.file.files → IsSound model old → AreKept no_records (records_of model old)
-      → (c : Contents) → model.may_leave new.file.files c → Finds (model.seen new.file.files) (AreCarriedOut new.trees no_records (first ∷ second ∷ [])) c
+      → (c : Contents) → model.may_leave new.file.files c → Finds (model.seen new.file.files) (AreCarriedOut new.trees no_records (OfHost first ∷ OfHost second ∷ [])) c
   both_found said honest sound blank c now =
       let serves = said.serves honest sound in
       let running = said.goes_on tt in
-      let are : said.messages ≡ first ∷ second ∷ [] = same_messages old.trees first second fits fits_too said.messages said.accepted said.are in
-      let both : AnswersInTurn new.trees (records_of model old) (first ∷ second ∷ []) answer.Done (records_of model new) =
-      subst (λ (t : Trees). AnswersInTurn t (records_of model old) (first ∷ second ∷ []) answer.Done (records_of model new)) (sym said.trees)
-      (subst (λ (ms : List HostRequest). AnswersInTurn old.trees (records_of model old) ms answer.Done (records_of model new)) are (serves.records running)) in
-      let begun = in_turn_keeps new.trees no_records (records_of model old) (records_of model new) (first ∷ second ∷ []) answer.Done blank both in
-      found_more (model.seen new.file.files) c (Holds new.trees (sure_records model new)) (AreCarriedOut new.trees no_records (first ∷ second ∷ []))
+      let are : said.messages ≡ OfHost first ∷ OfHost second ∷ [] = same_messages old.trees first second fits fits_too said.messages said.accepted said.are in
+      let both : AnswersInTurn new.trees (records_of model old) (OfHost first ∷ OfHost second ∷ []) answer.Done (records_of model new) =
+      subst (λ (t : Trees). AnswersInTurn t (records_of model old) (OfHost first ∷ OfHost second ∷ []) answer.Done (records_of model new)) (sym said.trees)
+      (subst (λ (ms : List Message). AnswersInTurn old.trees (records_of model old) ms answer.Done (records_of model new)) are (serves.records running)) in
+      let begun = in_turn_keeps new.trees no_records (records_of model old) (records_of model new) (OfHost first ∷ OfHost second ∷ []) answer.Done blank both in
+      found_more (model.seen new.file.files) c (Holds new.trees (sure_records model new)) (AreCarriedOut new.trees no_records (OfHost first ∷ OfHost second ∷ []))
       (λ r holds. (
         holds.file,
-        in_turn_kept new.trees no_records (records_of model new) (records_in new.trees r) (first ∷ second ∷ [])
+        in_turn_kept new.trees no_records (records_of model new) (records_in new.trees r) (OfHost first ∷ OfHost second ∷ [])
             (kept_then (records_of model new) (sure_records model new) (records_in new.trees r) (sure_is model new (said.committed tt)) holds.kept) begun,
       ))
       (found_sure model new (serves.sound running) c now)

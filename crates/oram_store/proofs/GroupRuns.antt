@@ -6,28 +6,30 @@ use Rattle.std.proofs.lemmas.List.{map-append}
 use Rattle.oram_host.specs.declared.refusals.HostRefusal.TheVariants.{OutOfMemory}
 use Rattle.oram_layout.specs.Records.{AreKept, Records as RecordsOf}
 use Rattle.oram_layout.specs.Trees.{Trees}
+use Rattle.oram_levels.specs.Messages.{FetchLevels, StoreLevels}
 use Rattle.oram_redo.specs.Content.{Content}
 use Rattle.oram_redo.specs.FilePair.{Contents, FileModel, LeavesOnly}
 use Rattle.oram_redo.proofs.Moments.{started}
-use Rattle.oram_store.specs.Crashes.{IsCarriedOut, MayBeFound, MayHold}
+use Rattle.oram_store.specs.Crashes.{MayBeFound, MayHold}
 use Rattle.oram_store.specs.FirstAnswers.{AnswersBody, AnswersFirst}
 use Rattle.oram_store.specs.GroupRuns.{Answered, AnswersGroups, AreAnswered, AreInTurn, AreRequests, Exchange, FoundAtBorder, Group, GroupsInTurn, IsFirstCarriedOut, IsGroupCarriedOut, IsRequest, answered_bodies, answered_body}
 use Rattle.oram_store.specs.Groups.{AnswersGroup, AnswersInTurn, AreCarriedOut, IsAcceptedChange, IsDoneOrFull}
 use Rattle.oram_store.specs.KeptRecords.{Holds, IsSound, StoreValue, records_of, sure_records}
+use Rattle.oram_store.specs.LevelsAnswers.{RespondsToLevels}
+use Rattle.oram_store.specs.Messages.{HasItsNumbers, IsDoneIn, Message, OfHost, OfLevels, Responds, body_of}
 use Rattle.oram_store.specs.RecordFile.{FileValue, Finds, OnlyIf, Runs}
 use Rattle.oram_store.specs.Refusals.{RespondsWith}
-use Rattle.oram_wire.specs.HostMessages.{request_body}
 use Rattle.oram_wire.specs.declared.host_messages.HostAnswer.{HostAnswer}
-use Rattle.oram_wire.specs.declared.host_messages.HostRequest.{HostRequest}
 use Rattle.oram_wire.specs.declared.host_messages.HostRequest.TheVariants as request
 use Rattle.oram_store.proofs.Crashes.{found_leads, found_more, found_then, same_front}
 use Rattle.oram_store.proofs.Lives.{found_sure}
-use Rattle.oram_store.proofs.Served.{answers_keep, kept_then}
+use Rattle.oram_store.proofs.MessagesServed.{ServesMessage, as_levels, message_keep}
+use Rattle.oram_store.proofs.Served.{kept_then}
 
 -- the answers stay right if the records before them are the same
 answered_keep : (trees after : Trees) (one two three : RecordsOf) (all : List Exchange) → AreKept one two → AreAnswered trees two all after three → AreAnswered trees one all after three
 answered_keep trees after one two three [] same said = (said.0, kept_then one two three same said.1)
-answered_keep trees after one two three (first ∷ rest) same said = (said.0, said.1, said.2, answers_keep trees one two said.1 first.message first.given same said.3, said.4)
+answered_keep trees after one two three (first ∷ rest) same said = (said.0, said.1, said.2, message_keep trees one two said.1 first.message first.given same said.3, said.4)
 
 -- some messages, and then some more
 pub answered_then : (trees mid_trees after : Trees) (old mid new : RecordsOf) (first more : List Exchange) → AreAnswered trees old first mid_trees mid → AreAnswered mid_trees mid more after new
@@ -37,23 +39,28 @@ answered_then trees mid_trees after old mid new [] more said then =
 answered_then trees mid_trees after old mid new (one ∷ rest) more said then =
     (said.0, said.1, said.2, said.3, answered_then said.0 mid_trees after said.1 mid new rest more said.4 then)
 
-abbrev with_answer : HostAnswer → HostRequest → Exchange
+abbrev with_answer : HostAnswer → Message → Exchange
 with_answer given message = record { message = message; given = given }
 
 -- the trees give this answer to each STORE and PUT that they don't refuse
-responds_accepted : (trees : Trees) (message : HostRequest) (given : HostAnswer) → IsAcceptedChange trees message → IsDoneOrFull given → RespondsWith trees message given trees
-responds_accepted trees (request.Fetch tree leaf) given accepted either = absurd accepted
-responds_accepted trees (request.Shape tree depth record_len) given accepted either = absurd accepted
-responds_accepted trees (request.Store tree leaf records) given accepted (inl done) =
+responds_accepted : (trees : Trees) (message : Message) (given : HostAnswer) → IsAcceptedChange trees message → IsDoneOrFull given → Responds trees message given trees
+responds_accepted trees (OfHost (request.Fetch tree leaf)) given accepted either = absurd accepted
+responds_accepted trees (OfHost (request.Shape tree depth record_len)) given accepted either = absurd accepted
+responds_accepted trees (OfLevels (FetchLevels tree first last leaf)) given accepted either = absurd accepted
+responds_accepted trees (OfHost (request.Store tree leaf records)) given accepted (inl done) =
     subst (λ (a : HostAnswer). RespondsWith trees (request.Store tree leaf records) a trees) (sym done) (accepted.1, refl)
-responds_accepted trees (request.Store tree leaf records) given accepted (inr full) =
+responds_accepted trees (OfHost (request.Store tree leaf records)) given accepted (inr full) =
     subst (λ (a : HostAnswer). RespondsWith trees (request.Store tree leaf records) a trees) (sym full) (OutOfMemory, refl, inr (accepted.1, refl), refl)
-responds_accepted trees (request.Put tree node bytes) given accepted (inl done) =
+responds_accepted trees (OfHost (request.Put tree node bytes)) given accepted (inl done) =
     subst (λ (a : HostAnswer). RespondsWith trees (request.Put tree node bytes) a trees) (sym done) (accepted.1, refl)
-responds_accepted trees (request.Put tree node bytes) given accepted (inr full) =
+responds_accepted trees (OfHost (request.Put tree node bytes)) given accepted (inr full) =
     subst (λ (a : HostAnswer). RespondsWith trees (request.Put tree node bytes) a trees) (sym full) (OutOfMemory, refl, inr (accepted.1, refl), refl)
+responds_accepted trees (OfLevels (StoreLevels tree first leaf records)) given accepted (inl done) =
+    (subst (λ (a : HostAnswer). RespondsToLevels trees (StoreLevels tree first leaf records) a) (sym done) accepted.1, refl)
+responds_accepted trees (OfLevels (StoreLevels tree first leaf records)) given accepted (inr full) =
+    (subst (λ (a : HostAnswer). RespondsToLevels trees (StoreLevels tree first leaf records) a) (sym full) (OutOfMemory, refl, inr (accepted.1, refl)), refl)
 
-in_turn_answered : (trees : Trees) (one two : RecordsOf) (messages : List HostRequest) (given : HostAnswer) → All (IsAcceptedChange trees) messages → IsDoneOrFull given → AnswersInTurn trees one messages given two
+in_turn_answered : (trees : Trees) (one two : RecordsOf) (messages : List Message) (given : HostAnswer) → All (IsAcceptedChange trees) messages → IsDoneOrFull given → AnswersInTurn trees one messages given two
     → AreAnswered trees one (map (with_answer given) messages) trees two
 in_turn_answered trees one two [] given accepted either said = (refl, said)
 in_turn_answered trees one two (message ∷ rest) given accepted either said = (
@@ -64,9 +71,9 @@ in_turn_answered trees one two (message ∷ rest) given accepted either said = (
   in_turn_answered trees said.0 two rest given (λ k d h. accepted (suc k) d (omega arith)) either said.2,
 )
 
-same_bodies : (messages : List HostRequest) (given : HostAnswer) → map answered_body (map (with_answer given) messages) ≡ map (λ (body : List ℕ). (body, given)) (map request_body messages)
+same_bodies : (messages : List Message) (given : HostAnswer) → map answered_body (map (with_answer given) messages) ≡ map (λ (body : List ℕ). (body, given)) (map body_of messages)
 same_bodies [] given = refl
-same_bodies (message ∷ rest) given = ap (λ (all : List Answered). (request_body message, given) ∷ all) (same_bodies rest given)
+same_bodies (message ∷ rest) given = ap (λ (all : List Answered). (body_of message, given) ∷ all) (same_bodies rest given)
 
 module _ {F : Type 0} (model : FileModel F) where
   -- one group
@@ -78,19 +85,30 @@ module _ {F : Type 0} (model : FileModel F) where
     moments : LeavesOnly model old.file.files mid.file.files
         (Finds (model.seen old.file.files) (λ c. MayHold old.trees (sure_records model old) (records_of model old) c ⊎ IsGroupCarriedOut old.trees (records_of model old) group c))
 
+  -- what a store has done about one message, whichever it is
+  message_done : (message : Message) (body : List ℕ) (given : HostAnswer) (old mid : StoreValue F) → HasItsNumbers message → body ≡ body_of message → AnswersBody model body given old mid
+      → model.is_honest mid.file.files → IsSound model old → Responds old.trees message given mid.trees × ServesMessage model message given old mid
+  message_done (OfHost message) body given old mid numbers is said honest s =
+      let call = said.request message numbers is in
+      let serves = call.serves honest s in
+      (call.responds, record { sound = serves.sound; records = serves.records; any_moment = serves.any_moment })
+  message_done (OfLevels message) body given old mid numbers is said honest s =
+      let call = said.levels message numbers is in
+      ((call.responds, call.trees), as_levels model message given old mid (call.serves honest s))
+
   step_alone : (group : Group) (old mid : StoreValue F) (body : List ℕ) → group.bodies ≡ body ∷ [] → AnswersBody model body group.given old mid → IsRequest body
       → model.is_honest mid.file.files → IsSound model old → StepsOn group old mid
   step_alone group old mid body one said is honest s =
-      let message : HostRequest = is.0 in
-      let call = said.request message is.1 is.2 in
-      let serves = call.serves honest s in
+      let message : Message = is.0 in
+      let done = message_done message body group.given old mid is.1 is.2 said honest s in
+      let serves = done.1 in
       record {
         sound = serves.sound;
         exchanges = with_answer group.given message ∷ [];
         are = ap (λ (b : List ℕ). (b, group.given) ∷ []) (sym is.2) ∙ ap (map (λ (b : List ℕ). (b, group.given))) (sym one);
-        answered = λ running. (mid.trees, records_of model mid, call.responds, serves.records running, (refl, λ tree node. refl));
+        answered = λ running. (mid.trees, records_of model mid, done.0, serves.records running, (refl, λ tree node. refl));
         moments = found_leads model old.file.files mid.file.files
-            (λ c. MayHold old.trees (sure_records model old) (records_of model old) c ⊎ OnlyIf (MayBeFound group.given mid.file.has_stopped) (IsCarriedOut old.trees (records_of model old) message c))
+            (λ c. MayHold old.trees (sure_records model old) (records_of model old) c ⊎ OnlyIf (MayBeFound group.given mid.file.has_stopped) (IsDoneIn old.trees (records_of model old) message c))
             (λ c. MayHold old.trees (sure_records model old) (records_of model old) c ⊎ IsGroupCarriedOut old.trees (records_of model old) group c) serves.any_moment
             (λ c either. ⊎_elim (λ may. inl may) (λ out. inr (inl (message, one ∙ ap (λ (b : List ℕ). b ∷ []) is.2, out.holds))) either);
       }

@@ -8,7 +8,7 @@ pub mod Outcomes
 pub mod Allowed
 pub mod Sound
 pub mod Identity
-mod Levels
+pub mod Levels
 mod CellReads
 pub mod BatchBytes
 pub mod GroupBytes
@@ -16,6 +16,7 @@ pub mod Fronts
 pub mod CommittedPuts
 pub mod ServedBy
 pub mod Served
+pub mod MessagesServed
 pub mod Together
 pub mod AddedRecords
 pub mod Puts

@@ -4,26 +4,29 @@ use Rattle.std.specs.Prelude.{map}
 use Rattle.std.specs.List.{flat_map}
 use Rattle.std.proofs.lemmas.List.{map-append}
 use Rattle.std.proofs.lemmas.List.Concat.{flat_map-append}
+use Rattle.oram_levels.specs.Messages.{FetchLevels, StoreLevels}
 use Rattle.oram_redo.specs.Content.{Content}
 use Rattle.oram_redo.specs.FilePair.{Contents, FileModel}
 use Rattle.oram_layout.specs.BucketFile.{IsBucketFile}
 use Rattle.oram_layout.specs.Records.{Records as RecordsOf, records_in}
 use Rattle.oram_layout.specs.Trees.{Trees}
-use Rattle.oram_store.specs.Crashes.{IsCarriedOut, MayHold}
+use Rattle.oram_store.specs.Crashes.{MayHold}
 use Rattle.oram_store.specs.GroupRuns.{Answered, AnswersGroups, AreInTurn, FoundAtBorder, Group, GroupsInTurn, IsFirstCarriedOut, answered_bodies, answered_body}
 use Rattle.oram_store.specs.KeptRecords.{StoreValue, records_of, sure_records}
+use Rattle.oram_store.specs.Messages.{IsDoneIn, Message, OfHost, OfLevels}
 use Rattle.oram_store.specs.RecordFile.{Finds}
 use Rattle.oram_store.specs.Reopened.{IsFoundAgain, IsOpenedOver}
-use Rattle.oram_wire.specs.declared.host_messages.HostRequest.{HostRequest}
 use Rattle.oram_wire.specs.declared.host_messages.HostRequest.TheVariants as request
 use Rattle.oram_store.proofs.GroupRuns.{answered_then}
 
 -- a content that was found is that of a bucket file
-some_file : (trees : Trees) (records : RecordsOf) (message : HostRequest) (c : Content) → IsCarriedOut trees records message c → (t : Trees) × IsBucketFile t c
-some_file trees records (request.Fetch tree leaf) c done = (trees, done.file)
-some_file trees records (request.Store tree leaf bytes) c done = (trees, done.0)
-some_file trees records (request.Put tree node bytes) c done = (trees, done.0)
-some_file trees records (request.Shape tree depth len) c done = (done.0, done.2.file)
+some_file : (trees : Trees) (records : RecordsOf) (message : Message) (c : Content) → IsDoneIn trees records message c → (t : Trees) × IsBucketFile t c
+some_file trees records (OfHost (request.Fetch tree leaf)) c done = (trees, done.file)
+some_file trees records (OfHost (request.Store tree leaf bytes)) c done = (trees, done.0)
+some_file trees records (OfHost (request.Put tree node bytes)) c done = (trees, done.0)
+some_file trees records (OfHost (request.Shape tree depth len)) c done = (done.0, done.2.file)
+some_file trees records (OfLevels (FetchLevels tree first last leaf)) c done = (trees, done.file)
+some_file trees records (OfLevels (StoreLevels tree first leaf bytes)) c done = (trees, done.0)
 
 first_file : (trees : Trees) (records : RecordsOf) (groups : List Group) (c : Content) → IsFirstCarriedOut trees records groups c → (t : Trees) × IsBucketFile t c
 first_file trees records [] c done = absurd done

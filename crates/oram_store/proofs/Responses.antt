@@ -1,7 +1,8 @@
 -- The outcome of a request, as its answer.
 use Rattle.oram_redo.specs.FilePair.{FileModel}
-use Rattle.std.proofs.Common.{◌≡◌, ◌≤◌, inl, refl, arith, Err, Ok, Option, Result, Some, List, [], ◌∷◌, ℕ, None, drop, get_or, sym, ap, ◌∙◌}
+use Rattle.std.proofs.Common.{◌≡◌, ◌≤◌, inl, true, false, true≢false, refl, arith, Err, Ok, Option, Result, Some, List, [], ◌∷◌, ℕ, None, drop, get_or, sym, ap, ◌∙◌}
 use Rattle.std.specs.Prelude.{IfOk, IsErrAnd, IsSomeAnd}
+use Rattle.oram_levels.specs.Messages.{FetchLevels, LevelsMessage, StoreLevels, levels_body, names_levels}
 use Rattle.oram_records.specs.Messages.{names_records, records_body}
 use Rattle.oram_records.specs.declared.request.RecordsRequest.{RecordsRequest}
 use Rattle.oram_wire.specs.HostMessages.{request_body}
@@ -89,6 +90,23 @@ not_records (request.Shape tree depth record_len) body is names = let first : 4 
 
 pub records_named : (r : RecordsRequest) (body : List ℕ) → body ≡ records_body r → names_records body
 records_named r body is = (drop 1 (records_body r), is)
+
+-- the first byte of a body tells the messages about levels from the others
+pub levels_named : (message : LevelsMessage) (body : List ℕ) → body ≡ levels_body message → names_levels body ≡ true
+levels_named (FetchLevels tree first last leaf) body is = ap names_levels is
+levels_named (StoreLevels tree first leaf records) body is = ap names_levels is
+
+request_is_no_levels : (message : HostRequest) → names_levels (request_body message) ≡ false
+request_is_no_levels (request.Fetch tree leaf) = refl
+request_is_no_levels (request.Store tree leaf records) = refl
+request_is_no_levels (request.Put tree node bytes) = refl
+request_is_no_levels (request.Shape tree depth record_len) = refl
+
+pub not_levels : (message : HostRequest) (body : List ℕ) → body ≡ request_body message → names_levels body ≡ true → ⊥
+not_levels message body is names = true≢false (sym names ∙ ap names_levels is ∙ request_is_no_levels message)
+
+pub records_not_levels : (body : List ℕ) → names_records body → names_levels body ≡ true → ⊥
+records_not_levels body records names = true≢false (sym names ∙ ap names_levels records.1)
 
 -- what follows from what is known of a result
 pub if_ok_leads : {V E : Type 0} (result : Result V E) (P Q : V → Type 0) → IfOk result P → ((v : V) → P v → Q v) → IfOk result Q

@@ -46,13 +46,16 @@ module _ {F : Type 0} (model : FileModel F) where
             (MayHold old.trees (sure_records model old) (records_of model old)) served.any_moment (λ r either. ⊎_elim (λ may. may) (λ out. inr out.holds) either);
       }
 
-  -- the rows of one tree's cells are those of the store's records, by the tree's number
+  -- the records of one tree's cells are those of the store's records, by the tree's number
+  pub records_read : (old mid : StoreValue F) (number : ℕ) (tree : Tree) → CommitsPuts model old mid → mid.pending ≡ [] → mid.trees ≡ old.trees → mid.file.has_stopped ≡ false → tree_at old.trees number ≡ Some tree
+      → (node : ℕ) → records_of_tree tree (model.seen mid.file.files Records) 0 node ≡ records_of model old number node
+  records_read old mid number tree commits none same running there node =
+      ap (λ (t : Option Tree). record_in t node (model.seen mid.file.files Records)) (sym (ap (λ (t : Trees). tree_at t number) same ∙ there))
+      ∙ ap (λ (l : List ℕ). records_in mid.trees (put_all (marks l) (model.seen mid.file.files Records)) number node) (sym none)
+      ∙ commits.records running number node
+
   pub rows_read : (old mid : StoreValue F) (number : ℕ) (tree : Tree) (first count : ℕ) → CommitsPuts model old mid → mid.pending ≡ [] → mid.trees ≡ old.trees → mid.file.has_stopped ≡ false
       → tree_at old.trees number ≡ Some tree
       → rows_of (records_of_tree tree (model.seen mid.file.files Records)) 0 first count ≡ rows_of (records_of model old) number first count
   rows_read old mid number tree first count commits none same running there =
-      rows_same (records_of_tree tree (model.seen mid.file.files Records)) (records_of model old) 0 number
-      (λ node.
-      ap (λ (t : Option Tree). record_in t node (model.seen mid.file.files Records)) (sym (ap (λ (t : Trees). tree_at t number) same ∙ there))
-      ∙ ap (λ (l : List ℕ). records_in mid.trees (put_all (marks l) (model.seen mid.file.files Records)) number node) (sym none)
-      ∙ commits.records running number node) count first
+      rows_same (records_of_tree tree (model.seen mid.file.files Records)) (records_of model old) 0 number (records_read old mid number tree commits none same running there) count first

@@ -5,14 +5,12 @@ use Rattle.oram_redo.specs.Content.{Content}
 use Rattle.oram_redo.specs.FilePair.{FileModel, LeavesOnly}
 use Rattle.oram_layout.specs.Records.{AreKept, Records}
 use Rattle.oram_layout.specs.Trees.{Trees}
-use Rattle.oram_store.specs.Answers.{Answers}
-use Rattle.oram_store.specs.Crashes.{IsCarriedOut, MayHold}
+use Rattle.oram_store.specs.Crashes.{MayHold}
 use Rattle.oram_store.specs.FirstAnswers.{AnswersFirst}
 use Rattle.oram_store.specs.Groups.{AreCarriedOut}
 use Rattle.oram_store.specs.KeptRecords.{IsSound, StoreValue, records_of, sure_records}
+use Rattle.oram_store.specs.Messages.{HasItsNumbers, IsAnswered, IsDoneIn, Message, Responds, body_of}
 use Rattle.oram_store.specs.RecordFile.{Finds, Runs}
-use Rattle.oram_store.specs.Refusals.{RespondsWith}
-use Rattle.oram_wire.specs.HostBodies.{HasNumbers}
 use Rattle.oram_wire.specs.HostMessages.{request_body}
 use Rattle.oram_wire.specs.declared.host_messages.HostAnswer.{HostAnswer}
 use Rattle.oram_wire.specs.declared.host_messages.HostAnswer.TheVariants as answer
@@ -20,7 +18,7 @@ use Rattle.oram_wire.specs.declared.host_messages.HostRequest.{HostRequest}
 
 -- a message and its answer
 pub record Exchange : Type 0 where
-  pub message : HostRequest
+  pub message : Message
   pub given : HostAnswer
 
 -- the bodies of some messages that are answered together, and the answer that each of them gets
@@ -32,14 +30,14 @@ pub record Group : Type 0 where
 abbrev pub AreAnswered : Trees → Records → List Exchange → Trees → Records → Type 0
 AreAnswered trees old [] after new = (after ≡ trees) × AreKept old new
 AreAnswered trees old (one ∷ rest) after new =
-    (mid_trees : Trees) × (mid : Records) × RespondsWith trees one.message one.given mid_trees × Answers trees old one.message one.given mid × AreAnswered mid_trees mid rest after new
+    (mid_trees : Trees) × (mid : Records) × Responds trees one.message one.given mid_trees × IsAnswered trees old one.message one.given mid × AreAnswered mid_trees mid rest after new
 
 -- a body and its answer
 abbrev pub Answered : Type 0
 Answered = List ℕ × HostAnswer
 
 abbrev pub answered_body : Exchange → Answered
-answered_body one = (request_body one.message, one.given)
+answered_body one = (body_of one.message, one.given)
 
 abbrev pub answered_bodies : Group → List Answered
 answered_bodies group = map (λ body. (body, group.given)) group.bodies
@@ -50,9 +48,9 @@ pub record AreInTurn (groups : List Group) (trees : Trees) (old : Records) (afte
   pub are : map answered_body exchanges ≡ flat_map answered_bodies groups
   pub answered : AreAnswered trees old exchanges after new
 
--- the body of one of the four requests
+-- the body of one of the four requests, or of a message about some levels of a path
 abbrev pub IsRequest : List ℕ → Type 0
-IsRequest body = (message : HostRequest) × HasNumbers message × (body ≡ request_body message)
+IsRequest body = (message : Message) × HasItsNumbers message × (body ≡ body_of message)
 
 abbrev pub AreRequests : List Group → Type 0
 AreRequests groups = All (λ group. All IsRequest group.bodies) groups
@@ -66,8 +64,8 @@ AnswersGroups {F} model (group ∷ rest) old new =
 -- The content is that of a bucket file after a group was carried out over these trees and records: all of its messages.
 abbrev pub IsGroupCarriedOut : Trees → Records → Group → Content → Type 0
 IsGroupCarriedOut trees old group c =
-    ((message : HostRequest) × (group.bodies ≡ request_body message ∷ []) × IsCarriedOut trees old message c)
-    ⊎ ((messages : List HostRequest) × (map request_body messages ≡ group.bodies) × AreCarriedOut trees old messages c)
+    ((message : Message) × (group.bodies ≡ body_of message ∷ []) × IsDoneIn trees old message c)
+    ⊎ ((messages : List Message) × (map body_of messages ≡ group.bodies) × AreCarriedOut trees old messages c)
 
 abbrev pub IsFirstCarriedOut : Trees → Records → List Group → Content → Type 0
 IsFirstCarriedOut trees old [] c = ⊥

@@ -5,12 +5,10 @@ use Rattle.oram_layout.specs.BucketFile.{IsBucketFile}
 use Rattle.oram_layout.specs.Limits.{TreeShape}
 use Rattle.oram_layout.specs.Records.{Records, records_in}
 use Rattle.oram_layout.specs.Trees.{Trees, shape_at}
-use Rattle.oram_store.specs.Answers.{Answers}
 use Rattle.oram_store.specs.KeptRecords.{Stores}
-use Rattle.oram_store.specs.Refusals.{RespondsWith}
+use Rattle.oram_store.specs.Messages.{IsAnswered, Message, Responds}
 use Rattle.oram_store.specs.declared.store.TheConstants.{DISK_IDENTITY_TREE}
 use Rattle.oram_wire.specs.declared.host_messages.HostAnswer.{HostAnswer}
-use Rattle.oram_wire.specs.declared.host_messages.HostRequest.{HostRequest}
 
 abbrev pub no_records : Records
 no_records tree node = None
@@ -23,5 +21,5 @@ pub record HoldsPath (trees : Trees) (tree : ℕ) (s : TreeShape) (leaf : ℕ) (
 
 -- Once a disk has its first tree, no request changes the disk's identity, whatever it is answered.
 abbrev pub IdentityStays : Type 0
-IdentityStays = (trees after : Trees) (message : HostRequest) (answer : HostAnswer) (old new : Records) (node : ℕ) → is_some (shape_at trees 0) ≡ true
-    → RespondsWith trees message answer after → Answers trees old message answer new → new DISK_IDENTITY_TREE node ≡ old DISK_IDENTITY_TREE node
+IdentityStays = (trees after : Trees) (message : Message) (answer : HostAnswer) (old new : Records) (node : ℕ) → is_some (shape_at trees 0) ≡ true
+    → Responds trees message answer after → IsAnswered trees old message answer new → new DISK_IDENTITY_TREE node ≡ old DISK_IDENTITY_TREE node

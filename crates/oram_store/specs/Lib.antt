@@ -11,6 +11,8 @@ pub mod Answers
 pub mod PendingCells
 pub mod KeptRecords
 pub mod Crashes
+pub mod LevelsAnswers
+pub mod Messages
 pub mod Groups
 pub mod AnswerBytes
 pub mod Rows

@@ -8,7 +8,10 @@ ghost use Rattle.oram_store.specs.Reasons.{ReportsWhy};
 ghost use Rattle.oram_store.specs.Refusals.{IsRefused, RespondsWith, ChangesTrees, refusal_by};
 ghost use Rattle.oram_store.specs.RecordFile.{Runs};
 ghost use Rattle.oram_store.specs.AnswerBytes.{StandsBehind, StandsFor};
+ghost use Rattle.oram_levels.specs.Messages.{HasNumbers as HasLevelsNumbers, IsMisfit as IsLevelsMisfit, LevelsMessage, levels_body, names_levels};
 ghost use Rattle.oram_records.specs.Messages.{HasNumbers as HasRecordsNumbers, IsMisfit as IsRecordsMisfit, names_records, records_body};
+ghost use Rattle.oram_store.specs.FirstAnswers.{AnswersRequest};
+ghost use Rattle.oram_store.specs.LevelsAnswers.{AnswersLevels};
 ghost use Rattle.oram_store.specs.RecordsAnswers.{AnswersRecords};
 ghost use Rattle.oram_wire.specs.FrameStream.{IsBody};
 ghost use Rattle.oram_wire.specs.HostMessages.{answer_body, request_body};
@@ -19,6 +22,7 @@ ghost use Rattle.oram_wire.specs.declared.host_messages.HostRequest.{HostRequest
 use crate::store::FileStore;
 use oram_bytes::Bytes;
 use oram_host::HostRefusal;
+use oram_levels::LevelsRequest;
 use oram_records::RecordsRequest;
 use oram_redo::FilePair;
 use oram_wire::{GOOD, HostAnswer, HostView, REFUSED, WireFault};
@@ -195,8 +199,9 @@ impl<F: FilePair> FileStore<F> {
         Ok(short)
     }
 
-    /// Returns the bytes of the answer to a body: of the four requests that `handle` answers, or of one for the records of nodes in a
-    /// row, which only a store in a file answers. If memory runs out before it serves the request, it serves nothing.
+    /// Returns the bytes of the answer to a body: of the four requests that `handle` answers, or of a message that only a store in a file
+    /// answers: one for the records of nodes in a row, or one about some levels of a path. If memory runs out before it serves the request,
+    /// it serves nothing.
     pub fn answer(&mut self, alloc: Global, body: &[u8]) -> Result<Vec<u8>, AllocError>
         ensures ok { IfOk result (λ v. (answer : HostAnswer) × IsAnswer answer × (v.items ≡ answer_body answer)
             × ((message : HostRequest) → HasNumbers message → body.now ≡ request_body message → RespondsWith self.old.trees message answer self.new.trees
@@ -204,11 +209,14 @@ impl<F: FilePair> FileStore<F> {
             × (IsGranted answer → self.new.file.has_stopped ≡ false)
             × (answer ≡ HostAnswer.Refused 8 → ReportsWhy F.model self.old self.new message)
             × (F.model.is_honest self.new.file.files → IsSound F.model self.old → Serves F.model message answer self.old self.new))
-            × ((request : RecordsRequest) → HasRecordsNumbers request → body.now ≡ records_body request → AnswersRecords F.model request answer self.old self.new)) }
-        // A body that is neither is refused, and so is one whose length isn't that of the request that it names.
-        ensures op { names_request body.now ≡ false → (¬ names_records body.now) → IfOk result (λ v. v.items ≡ answer_body (HostAnswer.Refused 7)) }
+            × ((request : RecordsRequest) → HasRecordsNumbers request → body.now ≡ records_body request → AnswersRecords F.model request answer self.old self.new)
+            × ((message : LevelsMessage) → HasLevelsNumbers message → body.now ≡ levels_body message → AnswersLevels F.model message answer self.old self.new)) }
+        // A body that is none of them is refused, and so is one whose length isn't that of the request that it names.
+        ensures op { names_request body.now ≡ false → (¬ names_records body.now) → names_levels body.now ≡ false
+            → IfOk result (λ v. v.items ≡ answer_body (HostAnswer.Refused 7)) }
         ensures misfit { IsMisfit body.now → IfOk result (λ v. v.items ≡ answer_body (HostAnswer.Refused 4)) }
         ensures records_misfit { IsRecordsMisfit body.now → IfOk result (λ v. v.items ≡ answer_body (HostAnswer.Refused 4)) × (self.new ≡ self.old) }
+        ensures levels_misfit { IsLevelsMisfit body.now → IfOk result (λ v. v.items ≡ answer_body (HostAnswer.Refused 4)) × (self.new ≡ self.old) }
         ensures runs { Runs F.model self.old.file self.new.file }
         // The answer fits in a frame.
         ensures fits { IfOk result (λ v. IsBody v.items) }
@@ -216,6 +224,29 @@ impl<F: FilePair> FileStore<F> {
     {
         match RecordsRequest::decode(body) {
             Ok(request) => self.answer_records(alloc, request),
+            Err(WireFault::Op) => self.answer_levels_or_message(alloc, body),
+            Err(_) => refusal(alloc, HostRefusal::BadLength),
+        }
+    }
+
+    /// Returns the bytes of the answer to a body, as `answer` does, but takes none for the records of nodes in a row.
+    fn answer_levels_or_message(
+        &mut self,
+        alloc: Global,
+        body: &[u8],
+    ) -> Result<Vec<u8>, AllocError>
+        ensures ok { IfOk result (λ v. (answer : HostAnswer) × IsAnswer answer × (v.items ≡ answer_body answer)
+            × ((message : HostRequest) → HasNumbers message → body.now ≡ request_body message → AnswersRequest F.model message answer self.old self.new)
+            × ((message : LevelsMessage) → HasLevelsNumbers message → body.now ≡ levels_body message → AnswersLevels F.model message answer self.old self.new)) }
+        ensures op { names_request body.now ≡ false → names_levels body.now ≡ false → IfOk result (λ v. v.items ≡ answer_body (HostAnswer.Refused 7)) }
+        ensures misfit { IsMisfit body.now → IfOk result (λ v. v.items ≡ answer_body (HostAnswer.Refused 4)) }
+        ensures levels_misfit { IsLevelsMisfit body.now → IfOk result (λ v. v.items ≡ answer_body (HostAnswer.Refused 4)) × (self.new ≡ self.old) }
+        ensures runs { Runs F.model self.old.file self.new.file }
+        ensures fits { IfOk result (λ v. IsBody v.items) }
+        ensures err { OnErr result (self.new ≡ self.old) }
+    {
+        match LevelsRequest::decode(body) {
+            Ok(request) => self.answer_levels(alloc, request),
             Err(WireFault::Op) => self.answer_message(alloc, body),
             Err(_) => refusal(alloc, HostRefusal::BadLength),
         }

@@ -1,7 +1,7 @@
 //! The batches that requests commit.
-ghost use Rattle.std.specs.Prelude.{◌≡◌, ◌+◌, ◌*◌, ◌^◌, ◌<◌, ◌∷◌, [], length, IfOk};
-ghost use Rattle.oram_layout.specs.Changes.{marks, path_patches, record_patch};
-ghost use Rattle.oram_layout.specs.Limits.{nodes_of};
+ghost use Rattle.std.specs.Prelude.{◌≡◌, ◌+◌, ◌*◌, ◌^◌, ◌<◌, ◌≤◌, ◌∷◌, [], length, IfOk};
+ghost use Rattle.oram_layout.specs.Changes.{level_patches, marks, record_patch};
+ghost use Rattle.oram_layout.specs.Limits.{levels_from, nodes_of};
 ghost use Rattle.oram_layout.specs.Trees.{sizes_of};
 ghost use Rattle.oram_redo.specs.Batch.{patches_of};
 ghost use Rattle.oram_store.specs.Batches.{HoldsCells};
@@ -21,14 +21,20 @@ pub(crate) fn cell_of(alloc: Global, bytes: &[u8]) -> Result<Vec<u8>, AllocError
     Ok(cell)
 }
 
-/// Returns the records of a path, each after the byte that says that it is there.
-pub(crate) fn cells_of(alloc: Global, tree: &Tree, records: &[u8]) -> Result<Vec<u8>, AllocError>
-    requires { length records.now ≡ (tree.now.shape.depth + 1) * tree.now.shape.record_len }
-    ensures len { IfOk result (λ cells. length cells.items ≡ (tree.now.shape.depth + 1) * (tree.now.shape.record_len + 1)) }
-    ensures cells { IfOk result (λ cells. HoldsCells cells.items tree.now.shape.record_len records.now (tree.now.shape.depth + 1)) }
+/// Returns the records of a path from level `first` on, each after the byte that says that it is there.
+pub(crate) fn cells_of(
+    alloc: Global,
+    tree: &Tree,
+    first: u8,
+    records: &[u8],
+) -> Result<Vec<u8>, AllocError>
+    requires first { first ≤ tree.now.shape.depth }
+    requires whole { length records.now ≡ levels_from (sizes_of tree.now.shape) first * tree.now.shape.record_len }
+    ensures len { IfOk result (λ cells. length cells.items ≡ levels_from (sizes_of tree.now.shape) first * (tree.now.shape.record_len + 1)) }
+    ensures cells { IfOk result (λ cells. HoldsCells cells.items tree.now.shape.record_len records.now (levels_from (sizes_of tree.now.shape) first)) }
 {
     let len = tree.shape.record_len as usize;
-    let levels = tree.shape.depth as usize + 1;
+    let levels = usize::from(tree.shape.levels_from(first));
     let mut cells = Vec::with_capacity(alloc, levels * (len + 1))?;
     for level in 0..levels {
         cells.push(THERE)?;
@@ -37,24 +43,26 @@ pub(crate) fn cells_of(alloc: Global, tree: &Tree, records: &[u8]) -> Result<Vec
     Ok(cells)
 }
 
-/// Returns the batch of a STORE, with one patch for each level.
+/// Returns the batch of a STORE that begins at level `first`, with one patch for each level from there on.
 pub(crate) fn path_batch<'a>(
     alloc: Global,
     tree: &Tree,
     leaf: u32,
+    first: u8,
     cells: &'a [u8],
 ) -> Result<Vec<Patch<'a>>, AllocError>
     requires leaf { leaf < 2 ^ tree.now.shape.depth }
-    requires whole { length cells.now ≡ (tree.now.shape.depth + 1) * (tree.now.shape.record_len + 1) }
-    ensures { IfOk result (λ batch. (records : _) → HoldsCells cells.now tree.now.shape.record_len records (tree.now.shape.depth + 1)
-        → patches_of batch.items ≡ path_patches tree.now leaf records 0 (tree.now.shape.depth + 1)) }
+    requires first { first ≤ tree.now.shape.depth }
+    requires whole { length cells.now ≡ levels_from (sizes_of tree.now.shape) first * (tree.now.shape.record_len + 1) }
+    ensures { IfOk result (λ batch. (records : _) → HoldsCells cells.now tree.now.shape.record_len records (levels_from (sizes_of tree.now.shape) first)
+        → patches_of batch.items ≡ level_patches tree.now leaf first records 0 (levels_from (sizes_of tree.now.shape) first)) }
 {
     let width = tree.shape.record_len as usize + 1;
     let mut batch = Vec::new(alloc);
-    for level in 0..tree.shape.depth + 1 {
-        let start = level as usize * width;
+    for index in 0..tree.shape.levels_from(first) {
+        let start = index as usize * width;
         batch.push(Patch {
-            at: tree.cell_at(tree.shape.node_at(leaf, level)),
+            at: tree.cell_at(tree.shape.node_at(leaf, first + index)),
             bytes: &cells[start..start + width],
         })?;
     }

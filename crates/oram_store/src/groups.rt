@@ -1,9 +1,7 @@
 //! STOREs and PUTs that are committed together, in one batch of the redo log.
-ghost use Rattle.std.specs.Prelude.{◌≡◌, ◌≤◌, ◌+◌, ◌*◌, ◌^◌, ◌<◌, ◌++◌, ◌∷◌, ◌↔◌, All, IfOk, IsTrue, OnOk, [], length, map, false, true};
+ghost use Rattle.std.specs.Prelude.{◌≡◌, ◌≤◌, ◌↔◌, All, IfOk, IsTrue, OnOk, length, map, false, true};
 ghost use Rattle.std.specs.List.{list_any};
-ghost use Rattle.oram_layout.specs.Changes.{path_patches, record_patch};
-ghost use Rattle.oram_layout.specs.Limits.{nodes_of};
-ghost use Rattle.oram_layout.specs.Trees.{Trees, sizes_of};
+ghost use Rattle.oram_layout.specs.Trees.{Trees};
 ghost use Rattle.oram_redo.specs.Batch.{patches_of};
 ghost use Rattle.oram_store.specs.Groups.{AnswersInTurn, FitsTree, HoldGroupCells, HoldsCellsOf, IsOfTrees, change_patches, group_patches, is_store, message_of};
 ghost use Rattle.oram_store.specs.KeptRecords.{Changes, IsSoundFile, LeavesRecords};
@@ -21,14 +19,16 @@ use std::alloc::{AllocError, Global};
 /// The most messages of a group. The longest ones, of a mebibyte each, still fit in an empty log together.
 pub(crate) const MOST_TOGETHER: usize = 32;
 
-/// A STORE, with its tree.
+/// A STORE of a path from one level on, with its tree.
 #[derive(Clone, Copy)]
 pub(crate) struct PathStore<'a> {
     /// The number of the tree.
     pub(crate) number: u8,
     pub(crate) tree: Tree,
+    /// The first level that is replaced; 0 for a whole path.
+    pub(crate) first: u8,
     pub(crate) leaf: u32,
-    /// The records of the path, root first.
+    /// The records of the path from that level on, the one nearest to the root first.
     pub(crate) records: &'a [u8],
 }
 
@@ -46,7 +46,10 @@ pub(crate) struct NodePut<'a> {
 /// A message that changes records.
 #[derive(Clone, Copy)]
 pub(crate) enum Change<'a> {
+    /// A STORE of a whole path.
     Store(PathStore<'a>),
+    /// A STORE of levels.
+    StoreLevels(PathStore<'a>),
     Put(NodePut<'a>),
 }
 
@@ -54,7 +57,7 @@ fn is_store(change: &Change<'_>) -> bool
     ensures { result ≡ is_store (message_of change.now) }
 {
     match change {
-        Change::Store(_) => true,
+        Change::Store(_) | Change::StoreLevels(_) => true,
         Change::Put(_) => false,
     }
 }
@@ -85,7 +88,9 @@ fn change_cells(alloc: Global, change: &Change<'_>) -> Result<Vec<u8>, AllocErro
     ensures { IfOk result (λ cells. HoldsCellsOf cells.items change.now) }
 {
     match change {
-        Change::Store(store) => cells_of(alloc, &store.tree, store.records),
+        Change::Store(store) | Change::StoreLevels(store) => {
+            cells_of(alloc, &store.tree, store.first, store.records)
+        }
         Change::Put(put) => cell_of(alloc, put.bytes),
     }
 }
@@ -113,7 +118,9 @@ fn change_batch<'a>(
     ensures { IfOk result (λ batch. patches_of batch.items ≡ change_patches change.now) }
 {
     match change {
-        Change::Store(store) => path_batch(alloc, &store.tree, store.leaf, cells),
+        Change::Store(store) | Change::StoreLevels(store) => {
+            path_batch(alloc, &store.tree, store.leaf, store.first, cells)
+        }
         Change::Put(put) => node_batch(alloc, &put.tree, put.node, cells),
     }
 }
@@ -165,7 +172,10 @@ fn write_missing_of_change<F: FilePair>(
     ensures calls { Calls F.model result file.old file.new }
 {
     match change {
-        Change::Store(store) => write_missing(alloc, file, &store.tree, store.leaf, store.records),
+        Change::Store(store) | Change::StoreLevels(store) => {
+            let tree = &store.tree;
+            write_missing(alloc, file, tree, store.leaf, store.first, store.records)
+        }
         Change::Put(put) => write_if_missing(alloc, file, &put.tree, put.node, put.bytes),
     }
 }

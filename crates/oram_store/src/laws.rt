@@ -10,6 +10,7 @@ ghost use Rattle.oram_store.specs.GroupRuns.{AnswersGroups, AreRequests, Group, 
 ghost use Rattle.oram_store.specs.Groups.{AreCarriedOut};
 ghost use Rattle.oram_store.specs.KeptRecords.{Holds, IsSound, StoreValue, records_of, sure_records};
 ghost use Rattle.oram_store.specs.Laws.{HoldsPath, IdentityStays, no_records};
+ghost use Rattle.oram_store.specs.Messages.{OfHost};
 ghost use Rattle.oram_store.specs.NewFiles.{NewFilesStand};
 ghost use Rattle.oram_store.specs.OpenOutcomes.{IsNotOpened};
 ghost use Rattle.oram_store.specs.Openings.{LosesNothing};
@@ -167,7 +168,7 @@ pub fn first_group<F: FilePair + Drop>(
     ensures run { IfOk result (λ answered. IfSome answered (λ store. F.model.is_honest store.file.files
         → (before : StoreValue F) × RunsInTurn F.model (both_done first.now second.now) before store)) }
     ensures found { IfOk result (λ answered. IfSome answered (λ store. F.model.is_honest store.file.files → (c : Contents) → F.model.may_leave store.file.files c
-        → Finds (F.model.seen store.file.files) (AreCarriedOut store.trees no_records (first.now ∷ second.now ∷ [])) c)) }
+        → Finds (F.model.seen store.file.files) (AreCarriedOut store.trees no_records (OfHost first.now ∷ OfHost second.now ∷ [])) c)) }
 {
     let Some(mut store) = first_tree(alloc, files, identity, tree, shape)? else {
         return Ok(None);
@@ -215,7 +216,7 @@ fn are_done_together<F: FilePair>(
         → RunsInTurn F.model (both_done first.now second.now) store.old store.new) }
     ensures found { IfOk result (λ done. done ≡ true → F.model.is_honest store.new.file.files → IsSound F.model store.old → AreKept no_records (records_of F.model store.old)
         → (c : Contents) → F.model.may_leave store.new.file.files c
-        → Finds (F.model.seen store.new.file.files) (AreCarriedOut store.new.trees no_records (first.now ∷ second.now ∷ [])) c) }
+        → Finds (F.model.seen store.new.file.files) (AreCarriedOut store.new.trees no_records (OfHost first.now ∷ OfHost second.now ∷ [])) c) }
     ensures runs { Runs F.model store.old.file store.new.file }
 {
     let bodies = [first.encode(alloc)?, second.encode(alloc)?];

@@ -1,7 +1,8 @@
 //! A bucket server that keeps its records in a file.
 //!
 //! It gives the same answers, code by code, as `oram_host::Server`, except that it keeps the identity of a disk from being
-//! changed ([`DISK_IDENTITY_TREE`]), and that it also gives the records of nodes in a row (`oram_records`). `oram_layout` defines the layout of the file, and a
+//! changed ([`DISK_IDENTITY_TREE`]), that it also gives the records of nodes in a row (`oram_records`), and that it gives and replaces
+//! the records of some levels of a path (`oram_levels`). `oram_layout` defines the layout of the file, and a
 //! redo log beside it (`oram_redo`) takes each change before the file does. `oram_pair` makes and opens the two. So a crash at any moment leaves the records
 //! as they were before a request or as they are after it. A STORE is durable before it is answered; the records of a
 //! formatting become durable in groups.
@@ -16,6 +17,7 @@ mod files;
 mod group_answers;
 mod groups;
 mod laws;
+mod level_answers;
 mod record_file;
 mod rows;
 mod sinks;

@@ -10,8 +10,9 @@ ghost use Rattle.oram_layout.specs.Trees.{cell_at, sizes_of, tree_at};
 ghost use Rattle.oram_store.specs.Answers.{answer_by};
 ghost use Rattle.oram_store.specs.Close.{Closes};
 ghost use Rattle.oram_store.specs.Crashes.{CommitsPuts, Serves};
-ghost use Rattle.oram_store.specs.Groups.{FitsPath, FitsTree, IsOfTrees, ServesGroup, message_of};
+ghost use Rattle.oram_store.specs.Groups.{FitsTree, IsOfTrees, ServesGroup, message_of};
 ghost use Rattle.oram_store.specs.KeptRecords.{IsSound};
+ghost use Rattle.oram_store.specs.Messages.{OfHost};
 ghost use Rattle.oram_store.specs.PendingCells.{AreCells};
 ghost use Rattle.oram_store.specs.Reasons.{IsReasonFor, ReportsWhy};
 ghost use Rattle.oram_store.specs.Refusals.{IsRefused, ChangesTrees, by_changeable, is_fixed, refusal_by};
@@ -21,6 +22,7 @@ ghost use Rattle.oram_store.specs.declared.groups.Change.{Change};
 ghost use Rattle.oram_wire.specs.declared.host_messages.HostAnswer.{HostAnswer};
 ghost use Rattle.oram_wire.specs.declared.host_messages.HostRequest.{HostRequest};
 
+mod levels;
 mod puts;
 mod records;
 
@@ -321,25 +323,13 @@ impl<F: FilePair> FileStore<F> {
         leaf: u32,
         records: &'a [u8],
     ) -> Result<PathStore<'a>, HostRefusal>
-        ensures message { IfOk result (λ store. message_of (Change.Store store) ≡ HostRequest.Store number leaf records.now) }
-        ensures fits { IfOk result (λ store. FitsPath store × IsOfTrees self.now.trees (Change.Store store)) }
+        ensures message { IfOk result (λ store. message_of (Change.Store store) ≡ OfHost (HostRequest.Store number leaf records.now)) }
+        ensures fits { IfOk result (λ store. FitsTree (Change.Store store) × IsOfTrees self.now.trees (Change.Store store)) }
         ensures allowed { OnOk result (refusal_by self.now.trees (HostRequest.Store number leaf records.now) ≡ None) }
         ensures refused { IfErr result (λ why. refusal_by self.now.trees (HostRequest.Store number leaf records.now) ≡ Some why) }
         ensures code { IfErr result (λ why. code_of why ≢ 6) }
     {
-        let tree = self.changeable_tree(number)?;
-        if leaf >= tree.shape.leaves() {
-            return Err(HostRefusal::BadLeaf);
-        }
-        if records.len() != tree.shape.path_len() {
-            return Err(HostRefusal::BadLength);
-        }
-        Ok(PathStore {
-            number,
-            tree,
-            leaf,
-            records,
-        })
+        self.accepted_levels(number, 0, leaf, records)
     }
 
     /// Carries out a STORE: a group of one.

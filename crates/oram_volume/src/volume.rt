@@ -31,7 +31,8 @@ const SESSION: u32 = 0;
 /// The link has to be made for the core's device, the keeper has to keep this process alone, and the tape has to be the
 /// device's own, with as many trees. The disk stops if the host is out of reach, if the process can't be kept, or if no access
 /// is left; if the host doesn't answer as it has to, the disk fails for good. The core has noted each entry of its table that differs
-/// from the table that the keeper kept last; [`Core::note_any_change`] sees to that.
+/// from the table that the keeper kept last; [`Core::note_any_change`] sees to that. The link below tells of each of its records that
+/// differs from those that the keeper kept last.
 #[derive(Drop)]
 pub struct Volume<S: Sealer, B: BatchLink, K: Keeper, T: Tape> {
     pub core: Core<S>,
@@ -48,7 +49,7 @@ impl<S: Sealer, B: BatchLink, K: Keeper, T: Tape> Model for Volume<S, B, K, T> {
 
     ghost view = { λ v. record { core = v.core; link = v.link; keeper = v.keeper; tape = v.tape } };
 
-    ghost invariant = { λ v. IsNotedSince (K.kept_table v.keeper) v.core };
+    ghost invariant = { λ v. IsNotedSince (K.kept_table v.keeper) v.core × B.tells v.link.inner (K.kept_records v.keeper) };
 }
 
 /// Returns the fault of a disk for the fault of a round.

@@ -58,11 +58,13 @@ impl MemoryKeeper {
 }
 
 impl Keeper for MemoryKeeper {
-    ghost use Rattle.std.specs.Prelude.{◌≡◌};
+    ghost use Rattle.std.specs.Prelude.{◌≡◌, []};
 
     ghost reads_back = { λ k bytes. bytes ≡ k.newest.items };
 
     ghost kept_table = { λ k. k.table.items };
+
+    ghost kept_records = { λ k. [] };
 
     fn keep(&mut self, text: &KeptParts<'_>) -> Result<(), KeepError> {
         match (joined(self.alloc, text), text.table.to_vec(self.alloc)) {
@@ -84,6 +86,7 @@ fn joined(alloc: Global, text: &KeptParts<'_>) -> Result<Vec<u8>, AllocError> {
         bytes.extend_from_slice(&entry.to_be_bytes())?;
     }
     bytes.extend_from_slice(text.after)?;
+    bytes.extend_from_slice(text.records.bytes)?;
     Ok(bytes)
 }
 

@@ -9,7 +9,7 @@ use oram_geometry::Device;
 use oram_host::Server;
 use oram_keeper::{PairKeeper, make_kept, open_kept};
 use oram_redo::{Syncs, SystemPair};
-use oram_rounds::{KeptParts, OneByOne, RoundLink, keep, record_len};
+use oram_rounds::{KeptParts, LinkRecords, OneByOne, RoundLink, keep, record_len};
 use oram_session::Direct;
 use std::time::Instant;
 use std::{fs, io};
@@ -32,6 +32,7 @@ pub(crate) fn keeper_at(
         table: &[],
         changes: TableChanges::Any,
         after: &[],
+        records: LinkRecords::none(),
     };
     if make_kept(rt, rt.alloc(), path, &TITLE, &nothing).is_err() {
         return Err(failed());

@@ -1,10 +1,11 @@
-//! Rows of a run: commands, events and cores.
+//! Rows of a run: commands, events and cores; and rows of formattings that send nothing.
 //!
 //! `device BLOCKS BLOCK_BYTES SLOTS TOP LIFETIME` begins with a new device. Every other row begins with the layer that
 //! it calls.
 
 mod commands;
 mod cores;
+mod formats;
 mod runs;
 mod said;
 
@@ -43,6 +44,7 @@ impl Table for Calls {
         }
         match (&self.device, call) {
             (_, "run") => runs::answer(alloc, words, page),
+            (Some(device), "format") => formats::answer(alloc, device, words, page),
             (Some(device), "core") => self.cores.answer(alloc, device, words, page),
             _ => Err(RowFault::NoRow),
         }

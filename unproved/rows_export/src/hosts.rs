@@ -4,7 +4,7 @@
 use oram_host::Server;
 use oram_pipeline::PipelinedLink;
 use oram_records::RecordsRequest;
-use oram_rounds::BatchLink;
+use oram_rounds::{BatchLink, LinkRecords};
 use oram_session::LinkFault;
 use oram_wire::HostRequest;
 use rows::{RowFault, RowWords, lacks_room};
@@ -147,19 +147,25 @@ impl RecordsHost {
 }
 
 impl BatchLink for RecordsHost {
-    ghost use Rattle.std.specs.Prelude.{◌≡◌, []};
+    ghost use Rattle.std.specs.Prelude.{◌≡◌, [], ⊤};
     ghost use Rattle.std.proofs.Common.{inl};
     ghost use Rattle.oram_rounds.specs.Batches.{IsBatch};
 
     ghost batches = { λ l bodies o exchanges m. IsBatch bodies o exchanges };
 
-    ghost notes = { λ l. [] };
+    ghost notes = { λ l. record { text = []; records = [] } };
+
+    ghost tells = { λ l old. ⊤ };
 
     ghost learns = { λ l check m. m ≡ l };
 
     ghost are_batches = { λ l m bodies o exchanges h. h };
 
     ghost learning_sends_nothing = { λ l m check same. inl same };
+
+    ghost batches_are_told = { λ l m bodies o exchanges old some h told. tt };
+
+    ghost learning_counts_anew = { λ l m check same. tt };
 
     fn call_all(
         &mut self,
@@ -186,6 +192,10 @@ impl BatchLink for RecordsHost {
 
     fn note(&self, alloc: Global) -> Result<Vec<u8>, AllocError> {
         Ok(Vec::new(alloc))
+    }
+
+    fn records(&self) -> LinkRecords<'_> {
+        LinkRecords::none()
     }
 
     fn learn_kept(&mut self, _check: u64) {}

@@ -12,7 +12,7 @@ use oram_geometry::Device;
 use oram_host::Server;
 use oram_pipeline::PipelinedLink;
 use oram_records::RecordsRequest;
-use oram_rounds::BatchLink;
+use oram_rounds::{BatchLink, LinkRecords};
 use oram_session::{ChaChaTape, Direct, LinkFault, format_device, resume, submit};
 use rows::{Page, RowFault, RowWords, device_in};
 use std::alloc::{AllocError, Global};
@@ -219,19 +219,25 @@ pub(crate) struct EmptyHost {
 }
 
 impl BatchLink for EmptyHost {
-    ghost use Rattle.std.specs.Prelude.{◌≡◌, []};
+    ghost use Rattle.std.specs.Prelude.{◌≡◌, [], ⊤};
     ghost use Rattle.std.proofs.Common.{inl};
     ghost use Rattle.oram_rounds.specs.Batches.{IsBatch};
 
     ghost batches = { λ l bodies o exchanges m. IsBatch bodies o exchanges };
 
-    ghost notes = { λ l. [] };
+    ghost notes = { λ l. record { text = []; records = [] } };
+
+    ghost tells = { λ l old. ⊤ };
 
     ghost learns = { λ l check m. m ≡ l };
 
     ghost are_batches = { λ l m bodies o exchanges h. h };
 
     ghost learning_sends_nothing = { λ l m check same. inl same };
+
+    ghost batches_are_told = { λ l m bodies o exchanges old some h told. tt };
+
+    ghost learning_counts_anew = { λ l m check same. tt };
 
     fn call_all(
         &mut self,
@@ -258,6 +264,10 @@ impl BatchLink for EmptyHost {
 
     fn note(&self, alloc: Global) -> Result<Vec<u8>, AllocError> {
         Ok(Vec::new(alloc))
+    }
+
+    fn records(&self) -> LinkRecords<'_> {
+        LinkRecords::none()
     }
 
     fn learn_kept(&mut self, _check: u64) {}

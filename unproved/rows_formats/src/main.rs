@@ -8,6 +8,7 @@ mod devices;
 mod fault_text;
 mod files;
 mod images;
+mod levels;
 mod lists;
 mod messages;
 mod sealers;
@@ -52,6 +53,7 @@ impl Table for Calls {
             "bucket" => self.buckets.answer(alloc, name, words, page),
             "seal" => sealers::answer(alloc, name, words, page),
             "host" => messages::answer(alloc, name, words, page),
+            "levels" => levels::answer(alloc, name, words, page),
             "session" => sessions::answer(alloc, name, words, page),
             "frame" => self.streams.answer(alloc, name, words, page),
             "server" => self.servers.answer(alloc, name, words, page),

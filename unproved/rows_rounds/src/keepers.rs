@@ -110,11 +110,13 @@ impl MemoryKeeper {
 }
 
 impl Keeper for MemoryKeeper {
-    ghost use Rattle.std.specs.Prelude.{◌≡◌};
+    ghost use Rattle.std.specs.Prelude.{◌≡◌, []};
 
     ghost reads_back = { λ k bytes. bytes ≡ k.newest.items };
 
     ghost kept_table = { λ k. k.table.items };
+
+    ghost kept_records = { λ k. [] };
 
     fn keep(&mut self, text: &KeptParts<'_>) -> Result<(), KeepError> {
         let call = self.calls;

@@ -2,7 +2,7 @@
 
 use oram_bucket::{ChaChaSeal, PlainSeal};
 use oram_core::Core;
-use oram_rounds::{KeptCore, KeptCoreFault, decode_kept, encode_kept};
+use oram_rounds::{KeptCore, KeptCoreFault, LinkRecords, RecordChanges, decode_kept, encode_kept};
 use oram_state::{StateFault, decode_fields, encode_around_table};
 use rows::{Page, RowFault, joined};
 use std::alloc::Global;
@@ -24,7 +24,7 @@ impl Tally {
 
     /// Reads a text, and counts what came of it.
     fn count(&mut self, alloc: Global, file: &[u8]) -> Result<(), RowFault> {
-        match decode_kept(alloc, PlainSeal, file) {
+        match decode_kept(alloc, PlainSeal, file, &[]) {
             Ok(_) => self.taken = self.taken.saturating_add(1),
             Err(KeptCoreFault::Torn) => self.torn = self.torn.saturating_add(1),
             Err(KeptCoreFault::Core(_)) => self.core = self.core.saturating_add(1),
@@ -52,19 +52,34 @@ pub(crate) struct WholeText {
     pub(crate) check: u64,
 }
 
-/// Returns the text of these STOREs, this note and this core.
+/// Returns the text of these STOREs, this note and this core, up to these records.
+pub(crate) fn text_before(
+    alloc: Global,
+    stores: &[Vec<u8>],
+    note: &[u8],
+    records: &[u8],
+    core: &Core<PlainSeal>,
+) -> Result<WholeText, RowFault> {
+    let text = encode_kept(alloc, stores, note, records, core)?;
+    let records = LinkRecords {
+        bytes: records,
+        changes: RecordChanges::Any,
+    };
+    let parts = text.with_table(core.table(), core.changes(), records);
+    Ok(WholeText {
+        bytes: joined(alloc, parts.before, parts.table, parts.after)?,
+        check: text.check,
+    })
+}
+
+/// Returns the text of these STOREs, this note and this core, of a link without records.
 pub(crate) fn text_of(
     alloc: Global,
     stores: &[Vec<u8>],
     note: &[u8],
     core: &Core<PlainSeal>,
 ) -> Result<WholeText, RowFault> {
-    let text = encode_kept(alloc, stores, note, core)?;
-    let parts = text.with_table(core.table(), core.changes());
-    Ok(WholeText {
-        bytes: joined(alloc, parts.before, parts.table, parts.after)?,
-        check: text.check,
-    })
+    text_before(alloc, stores, note, &[], core)
 }
 
 /// Returns the fields of a core.
@@ -73,10 +88,12 @@ pub(crate) fn fields_of(alloc: Global, core: &Core<PlainSeal>) -> Result<Vec<u8>
     Ok(joined(alloc, &around.before, core.table(), &around.after)?)
 }
 
-/// Reads a text, and writes how many STOREs it has, its note, its check, and whether that is the one that its writer gave.
+/// Reads a text with these records behind it, and writes how many STOREs it has, its note, its check, and whether that is the one that its
+/// writer gave.
 pub(crate) fn tell_read_file(
     alloc: Global,
     text: &WholeText,
+    records: &[u8],
     page: &mut Page,
 ) -> Result<(), RowFault> {
     let KeptCore {
@@ -84,7 +101,7 @@ pub(crate) fn tell_read_file(
         note,
         check,
         ..
-    } = match decode_kept(alloc, PlainSeal, &text.bytes) {
+    } = match decode_kept(alloc, PlainSeal, &text.bytes, records) {
         Ok(kept) => kept,
         Err(KeptCoreFault::OutOfMemory) => return Err(RowFault::OutOfMemory),
         Err(_) => return Err(RowFault::NoRow),
@@ -96,6 +113,21 @@ pub(crate) fn tell_read_file(
     page.word("check");
     page.bytes(&check.to_be_bytes());
     page.flag(check == text.check);
+    Ok(())
+}
+
+/// Reads a text that has records behind it as one with these.
+pub(crate) fn tell_other_records(
+    alloc: Global,
+    text: &WholeText,
+    records: &[u8],
+    page: &mut Page,
+) -> Result<(), RowFault> {
+    match decode_kept(alloc, PlainSeal, &text.bytes, records) {
+        Ok(_) => page.word("taken"),
+        Err(KeptCoreFault::OutOfMemory) => return Err(RowFault::OutOfMemory),
+        Err(fault) => page.fault(fault),
+    }
     Ok(())
 }
 
@@ -133,7 +165,7 @@ pub(crate) fn tell_other_sealer(
     file: &[u8],
     page: &mut Page,
 ) -> Result<(), RowFault> {
-    match decode_kept(alloc, ChaChaSeal { key: [0; 32] }, file) {
+    match decode_kept(alloc, ChaChaSeal { key: [0; 32] }, file, &[]) {
         Ok(_) => page.word("taken"),
         Err(KeptCoreFault::OutOfMemory) => return Err(RowFault::OutOfMemory),
         Err(fault) => page.fault(fault),

@@ -43,7 +43,7 @@ pub(crate) enum Found {
 
 /// Returns what was kept in a file.
 fn kept_in(alloc: Global, file: &[u8]) -> Result<KeptCore<PlainSeal>, RowFault> {
-    match decode_kept(alloc, PlainSeal, file) {
+    match decode_kept(alloc, PlainSeal, file, &[]) {
         Ok(kept) => Ok(kept),
         Err(KeptCoreFault::OutOfMemory) => Err(RowFault::OutOfMemory),
         Err(_) => Err(RowFault::NoRow),

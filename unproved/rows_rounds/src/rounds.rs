@@ -4,7 +4,8 @@ use crate::devices::{new_device, standing};
 use crate::hosts::{HostPlace, Sent, Way};
 use crate::keepers::{MemoryKeeper, Room};
 use crate::kept_files::{
-    fields_of, tell_cut_fields, tell_cut_files, tell_other_sealer, tell_read_file, text_of,
+    fields_of, tell_cut_fields, tell_cut_files, tell_other_records, tell_other_sealer,
+    tell_read_file, text_before, text_of,
 };
 use crate::lives::{Life, link_for};
 use crate::plain_arrays::{many_commands, right_replies};
@@ -59,6 +60,7 @@ impl<'a> Rounds<'a> {
             "order" => self.order(page),
             "takes" => self.takes(alloc, words, page),
             "noted" => self.noted(alloc, words, page),
+            "recorded" => self.recorded(alloc, words, page),
             _ => self.file_row(alloc, call, page),
         }
     }
@@ -262,7 +264,24 @@ impl<'a> Rounds<'a> {
         let note = words.bytes(alloc);
         let text = text_of(alloc, life.link.waiting(), &note, &life.core)?;
         page.bytes(&text.bytes);
-        tell_read_file(alloc, &text, page)
+        tell_read_file(alloc, &text, &[], page)
+    }
+
+    /// `recorded NOTE RECORDS`: writes the text of the process with this note, up to these records, and what is read back of it: with these
+    /// records, and with one byte less of them.
+    fn recorded(
+        &mut self,
+        alloc: Global,
+        words: &mut RowWords,
+        page: &mut Page,
+    ) -> Result<(), RowFault> {
+        let life = self.life()?;
+        let note = words.bytes(alloc);
+        let records = words.bytes(alloc);
+        let text = text_before(alloc, life.link.waiting(), &note, &records, &life.core)?;
+        page.bytes(&text.bytes);
+        tell_read_file(alloc, &text, &records, page)?;
+        tell_other_records(alloc, &text, records.get(1..).unwrap_or(&[7]), page)
     }
 
     /// `file`: writes the text of the process as it is now. `fields`: writes the fields of its core alone. `cut_files` and

@@ -110,7 +110,7 @@ fn arrive(
     Ok(())
 }
 
-/// `store short BODIES`: writes how many messages a store without room answers at once, with which bytes, and why.
+/// `store short BODIES`: writes how many messages a store answers at once, with which bytes, and why it had no room, if it had none.
 fn arrive_full(
     alloc: Global,
     store: &mut FileStore<MemoryPair>,

@@ -7,6 +7,7 @@ ghost use Rattle.oram_store.specs.Answers.{answer_by};
 ghost use Rattle.oram_store.specs.Crashes.{CommitsPuts, Serves};
 ghost use Rattle.oram_store.specs.Groups.{FitsNode, IsOfTrees, message_of};
 ghost use Rattle.oram_store.specs.KeptRecords.{IsSound};
+ghost use Rattle.oram_store.specs.Messages.{OfHost};
 ghost use Rattle.oram_store.specs.RecordFile.{Calls, IsReason, Runs};
 ghost use Rattle.oram_store.specs.Refusals.{IsRefused, refusal_by};
 ghost use Rattle.oram_store.specs.declared.groups.Change.{Change};
@@ -29,7 +30,7 @@ impl<F: FilePair> FileStore<F> {
         node: u32,
         bytes: &'a [u8],
     ) -> Result<NodePut<'a>, HostRefusal>
-        ensures message { IfOk result (λ put. message_of (Change.Put put) ≡ HostRequest.Put number node bytes.now) }
+        ensures message { IfOk result (λ put. message_of (Change.Put put) ≡ OfHost (HostRequest.Put number node bytes.now)) }
         ensures fits { IfOk result (λ put. FitsNode put × IsOfTrees self.now.trees (Change.Put put)) }
         ensures allowed { OnOk result (refusal_by self.now.trees (HostRequest.Put number node bytes.now) ≡ None) }
         ensures refused { IfErr result (λ why. refusal_by self.now.trees (HostRequest.Put number node bytes.now) ≡ Some why) }

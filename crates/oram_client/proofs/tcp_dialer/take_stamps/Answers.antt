@@ -1,4 +1,6 @@
-use Rattle.std.proofs.Common.{◌≡◌, ℕ, List, Result, Ok, Err, MatchResult, subst}
+use Rattle.std.proofs.Common.{◌≡◌, ℕ, List, ◌++◌, Option, Result, Ok, Err, MatchResult, ap, ◌∙◌, subst}
+use Rattle.std.specs.Global.{Vec}
+use Rattle.std.specs.Option.{option_to_list}
 use Rattle.std.specs.Prelude.{IfErr, OnOk}
 use Rattle.oram_wire.specs.HostMessages.{done_answer}
 use Rattle.oram_client.specs.Stamped.{ArePutFor}
@@ -15,16 +17,11 @@ both (Err trouble) begun done b d same_b same_d ok err = subst (λ (x : List ℕ
 pub returns : goal.returns
 returns c =
     let begun = c.remove-begun.result in
-    let done = c.remove-done.result in
-    let parts = apart c.args.answers.now.items c.remove-done.new.self.items c.remove-begun.new.self.items c.args.count done begun c.requires
-    c.remove-done.ensures.items c.remove-done.ensures.value c.remove-begun.ensures.items c.remove-begun.ensures.value in
+    let done = c.in-Some.done in
     record {
       begun = begun.items;
       done = done.items;
-      first = parts.first;
-      last = parts.last;
-      all = parts.all;
-      count_is = parts.count_is;
-      left_is = parts.left_is;
+      all = apart c.args.answers.now.items c.remove-begun.new.self.items c.pop.new.self.items begun done c.requires c.remove-begun.ensures.items c.remove-begun.ensures.value
+          (c.pop.ensures.items ∙ ap (λ (o : Option (Vec ℕ)). c.pop.new.self.items ++ option_to_list o) c.in-Some.is);
       puts = both c.are_put.result begun.items done.items c.deref.result.now c.deref-2.result.now c.deref.ensures.value c.deref-2.ensures.value c.are_put.ensures.ok c.are_put.ensures.err;
     }

@@ -4,11 +4,14 @@ use Rattle.oram_redo.specs.Content.{Content}
 use Rattle.oram_redo.specs.Log.{Patch, put_all}
 use Rattle.oram_redo.specs.declared.file_pair.FileKind.TheVariants.{Records}
 use Rattle.oram_redo.proofs.Moments.{same_content}
-use Rattle.oram_kept.specs.Layout.{Holds}
+use Rattle.oram_kept.specs.Layout.{Holds, records_at}
 use Rattle.oram_kept.specs.Pages.{batch_for, parts_of, patches_of as pages_of}
 use Rattle.oram_kept.specs.Text.{Parts}
-use Rattle.oram_kept.proofs.FirstText.{front_stays, no_table}
+use Rattle.oram_kept.specs.declared.text.ChangedNumbers.TheVariants as numbers
+use Rattle.oram_kept.specs.declared.text.ChangedRecords.TheVariants.{Any}
+use Rattle.oram_kept.proofs.FirstText.{front_stays}
 use Rattle.oram_kept.proofs.Held.{held, lent_batch, on_ok}
+use Rattle.oram_kept.proofs.Renewed.{are_within, no_pages}
 use Rattle.oram_kept.proofs.kept_text.write_first.Goals as goal
 
 pub returns-clause-holds : goal.returns-clause-holds
@@ -20,8 +23,8 @@ returns-clause-holds g c =
     ap patches_of c.deref.ensures.value ∙ c.in_ok-batch.ensures ∙ lent_batch (pages_of change.pages.items) change.head.items c.lent.ensures.parts c.lent.ensures.pieces.0 c.lent.ensures.pieces.1 in
     let holds : Holds q (put_all (patches_of c.deref.result.now) seen) =
     subst (λ (ps : List Patch). Holds q (put_all ps seen)) (sym batch)
-    (held [] q c.args.text.now.title.now c.args.text.now.before.now (pages_of change.pages.items) change.head.items seen refl c.in_ok-change.ensures.room c.in_ok-change.ensures.head
-    (λ d has. c.in_ok-change.ensures.pages [] d tt has) (no_table seen)) in
+    (held numbers.Any Any [] [] q c.args.text.now.title.now c.args.text.now.before.now (pages_of change.pages.items) change.head.items seen refl c.in_ok-change.ensures.room c.in_ok-change.ensures.head
+    c.in_ok-change.ensures.pages tt tt tt (no_pages 8192 seen) (no_pages (records_at []) seen)) in
     on_ok c.write_all.result c.write_all.ensures.records (λ same. subst (λ (d : Content). Holds q d) (sym (same_content _ _ same)) holds)
 
 pub returns-clause-front : goal.returns-clause-front
@@ -33,4 +36,5 @@ returns-clause-front g c =
     ap patches_of c.deref.ensures.value ∙ c.in_ok-batch.ensures ∙ lent_batch (pages_of change.pages.items) change.head.items c.lent.ensures.parts c.lent.ensures.pieces.0 c.lent.ensures.pieces.1 in
     on_ok c.write_all.result c.write_all.ensures.records
     (λ same i below. same i ∙ ap (λ (ps : List Patch). put_all ps seen i) batch
-    ∙ front_stays q c.args.text.now.title.now c.args.text.now.before.now (pages_of change.pages.items) change.head.items seen c.in_ok-change.ensures.within i below)
+    ∙ front_stays q c.args.text.now.title.now c.args.text.now.before.now (pages_of change.pages.items) change.head.items seen
+    (are_within numbers.Any Any q (pages_of change.pages.items) c.in_ok-change.ensures.pages) i below)

@@ -1,6 +1,5 @@
-use Rattle.std.proofs.Common.{◌≡◌, ◌⊎◌, List, ℕ, [], ◌∷◌, false, true, refl, sym, ap, subst, inl, inr, ◌∙◌}
+use Rattle.std.proofs.Common.{List, ℕ, [], ◌∷◌, false, true, refl, sym, ap, subst, inl, inr, ◌∙◌}
 use Rattle.std.proofs.lemmas.Result.{err_from_is_err_and}
-use Rattle.oram_semantics.specs.declared.events.Reply.{Reply}
 use Rattle.oram_core.specs.Core.{CoreValue, IsNotedSince, scheme_of}
 use Rattle.oram_core.specs.PlainSteps.{done}
 use Rattle.oram_core.proofs.NotedTables.{none_changed}
@@ -10,10 +9,8 @@ use Rattle.oram_rounds.specs.Process.Act.{GoesAhead, Keeps}
 use Rattle.oram_rounds.specs.Rounds.{WentAhead}
 use Rattle.oram_rounds.proofs.Noted.{keeps_not, keeps_noted, talks_beside}
 use Rattle.oram_rounds.proofs.Talk.{talks_keep_nothing}
+use Rattle.oram_rounds.proofs.Told.{round_told}
 use Rattle.oram_rounds.proofs.rounds.perform.Goals as goal
-
-pub keep-requires : goal.keep-requires
-keep-requires g c = c.requires.noted
 
 pub carry_out_all-requires : goal.carry_out_all-requires
 carry_out_all-requires g c =
@@ -86,6 +83,16 @@ returns-in-Err-Stalled-clause-noted g c =
     let forgotten = c.in_ok-keep.ensures.forgotten in
     c.carry_out_all.ensures.noted _ (none_changed c.args.core.now c.keep.new.core (g.K.Keeper.kept_table c.keep.new.keeper) forgotten.0 forgotten.1)
 
+pub returns-in-Ok-clause-told : goal.returns-in-Ok-clause-told
+returns-in-Ok-clause-told g c =
+    round_told g.B.BatchLink.batches g.B.BatchLink.notes g.B.BatchLink.tells g.met.B.BatchLink.batches_are_told (g.K.Keeper.kept_records c.keep.new.keeper) _
+    c.keep.new.link c.go_ahead.new.self c.carry_out_all.new.link _ c.go_ahead.ensures.0 _ _ _ c.go_ahead.ensures.1 c.in-Ok.ensures.ok c.in_ok-keep.ensures.told
+
+pub returns-in-Err-Stalled-clause-told : goal.returns-in-Err-Stalled-clause-told
+returns-in-Err-Stalled-clause-told g c =
+    round_told g.B.BatchLink.batches g.B.BatchLink.notes g.B.BatchLink.tells g.met.B.BatchLink.batches_are_told (g.K.Keeper.kept_records c.keep.new.keeper) _
+    c.keep.new.link c.go_ahead.new.self c.carry_out_all.new.link _ c.go_ahead.ensures.0 _ _ _ c.go_ahead.ensures.1 c.in-Err-Stalled.ensures.err.1 c.in_ok-keep.ensures.told
+
 pub returns-in-Ok-clause-ok : goal.returns-in-Ok-clause-ok
 returns-in-Ok-clause-ok g c =
     let v = scheme_of g.S.Sealer.cipher c.args.core.now in
@@ -148,6 +155,8 @@ returns-in-Err g c =
     let now = process c.args.core.now.state c.keep.new.link c.keep.new.keeper in
     record {
       noted = c.carry_out_all.ensures.noted _ (none_changed c.args.core.now c.keep.new.core (g.K.Keeper.kept_table c.keep.new.keeper) forgotten.0 forgotten.1);
+      told = round_told g.B.BatchLink.batches g.B.BatchLink.notes g.B.BatchLink.tells g.met.B.BatchLink.batches_are_told (g.K.Keeper.kept_records c.keep.new.keeper) _
+          c.keep.new.link c.go_ahead.new.self c.carry_out_all.new.link _ c.go_ahead.ensures.0 _ _ _ c.go_ahead.ensures.1 last.1 c.in_ok-keep.ensures.told;
       kept = (
         c.in-Err.ensures.kept.0 ∙ ap (λ (u : CoreValue g.row.S.Denot). u.device) same,
         c.in-Err.ensures.kept.1 ∙ ap (λ (u : CoreValue g.row.S.Denot). u.sealer) same,

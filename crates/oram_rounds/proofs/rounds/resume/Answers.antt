@@ -49,7 +49,7 @@ returns-clause-not_kept g c = λ e.
     kept_not batches g.B.BatchLink.notes g.B.BatchLink.learns g.K.Keeper.reads_back v u c.args.keeper.now _ _ _ same resumes.2 (c.perform.ensures.not_kept e).2
 
 pub perform-requires-clause-noted : goal.perform-requires-clause-noted
-perform-requires-clause-noted g c = c.reopen.ensures.noted _ c.requires
+perform-requires-clause-noted g c = c.reopen.ensures.noted _ c.requires.noted
 
 pub returns-in_err-reaction-clause-noted : goal.returns-in_err-reaction-clause-noted
-returns-in_err-reaction-clause-noted g c = c.reopen.ensures.noted _ c.requires
+returns-in_err-reaction-clause-noted g c = c.reopen.ensures.noted _ c.requires.noted

@@ -1,6 +1,8 @@
 use Rattle.std.proofs.Common.{◌≡◌, ◌+◌, ◌++◌, ◌∷◌, List, ℕ, length, [], ap, sym, subst, ◌∙◌, length-append, append_assoc, arith}
 use Rattle.oram_host.proofs.Paths.{step_is}
 use Rattle.oram_host.specs.Path.{record_at}
+use Rattle.oram_layout.specs.Limits.{levels_from}
+use Rattle.oram_layout.specs.Trees.{sizes_of}
 use Rattle.oram_layout.proofs.Changes.{length-record_at}
 use Rattle.oram_store.specs.Batches.{HoldsCells}
 use Rattle.oram_redo.proofs.Outcomes.{if_ok_none}
@@ -15,7 +17,7 @@ loop-level-preserved c =
     let len : ℕ = c.args.tree.now.shape.record_len in
     let level : ℕ = c.loop-level.level in
     let record_there : List ℕ = record_at len c.args.records.now level in
-    let long = length-record_at len c.args.records.now level (c.args.tree.now.shape.depth + 1) c.requires c.loop-level-test.true in
+    let long = length-record_at len c.args.records.now level (levels_from (sizes_of c.args.tree.now.shape) c.args.first) c.requires.whole (omega arith) in
     let is : c.extend_from_slice.new.self.items ≡ c.loop-level.cells.items ++ 1 ∷ record_there =
     c.in_ok-extend_from_slice.ensures.items ∙ ap (λ (xs : List ℕ). xs ++ record_there) c.in_ok-push.ensures.items ∙ append_assoc c.loop-level.cells.items (1 ∷ []) record_there in
     record {

@@ -1,5 +1,5 @@
-use Rattle.std.proofs.Common.{◌≡◌, [], ◌∷◌, inl, lit<, ℕ, length, refl, ◌∙◌, arith, length-append}
-use Rattle.oram_redo.specs.Content.{Content, Has, put}
+use Rattle.std.proofs.Common.{◌≡◌, [], ◌∷◌, inl, lit<, length, refl, ◌∙◌, arith, length-append}
+use Rattle.oram_redo.specs.Content.{Content, put}
 use Rattle.oram_redo.specs.declared.file_pair.FileKind.TheVariants.{Log, Records}
 use Rattle.oram_pair.specs.Fronts.{front_bytes}
 use Rattle.oram_layout.specs.Header.{letters}

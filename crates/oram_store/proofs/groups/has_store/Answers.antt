@@ -4,8 +4,8 @@ use Rattle.std.specs.List.{list_any}
 use Rattle.std.proofs.lemmas.List.{map-append, take_more}
 use Rattle.std.proofs.lemmas.List.Folds.{list_any-append}
 use Rattle.oram_store.specs.Groups.{is_store, message_of}
+use Rattle.oram_store.specs.Messages.{Message}
 use Rattle.oram_store.specs.declared.groups.Change.{Change}
-use Rattle.oram_wire.specs.declared.host_messages.HostRequest.{HostRequest}
 use Rattle.oram_store.proofs.GroupBytes.{store_found}
 use Rattle.oram_store.proofs.groups.has_store.Goals as goal
 
@@ -14,7 +14,7 @@ loop-change-preserved c =
     let changes : List Change = c.args.changes.now in
     let i : ℕ = c.loop-change.change-index in
     let change : Change = c.change-item.result in
-    let front : List HostRequest = map message_of (take i changes) in
+    let front : List Message = map message_of (take i changes) in
     ap (λ (some : List Change). list_any is_store (map message_of some)) (take_more changes i change c.loop-change-test.true ∙ ap (λ (ch : Change). take i changes ++ ch ∷ []) (sym c.change-item.is))
     ∙ ap (list_any is_store) (map-append message_of (take i changes) (change ∷ []))
     ∙ list_any-append is_store front (message_of change ∷ [])

@@ -12,6 +12,6 @@ returns-in-Err-take_stamps g c =
     subst (λ (r : Result (Unit {0}) Trouble). MatchResult r (λ put. (t.begun ≡ done_answer) × (t.done ≡ done_answer)) (λ trouble. ArePutFor t.begun t.done trouble)) c.in-Err-take_stamps.is t.puts in
     rw c.in-Ok.is (
       texts c.take_stamps.new.answers.items,
-      record { begun = t.begun; done = t.done; first = t.first; last = t.last; all = t.all; count_is = t.count_is; left_is = t.left_is; puts = unput },
+      record { begun = t.begun; done = t.done; all = t.all; puts = unput },
       refl,
     )

@@ -1,4 +1,4 @@
-use Rattle.std.proofs.Common.{◌≡◌, ◌∙◌, ap, drop, sym}
+use Rattle.std.proofs.Common.{◌∙◌, ap, drop, sym}
 use Rattle.oram_keeper.proofs.Found.{one_table}
 use Rattle.oram_keeper.proofs.found_process.FoundProcess.has_table.Goals as goal
 

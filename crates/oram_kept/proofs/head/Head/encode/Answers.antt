@@ -8,7 +8,7 @@ use Rattle.oram_kept.proofs.head.Head.encode.Goals as goal
 pub returns : goal.returns
 returns c =
     let head = c.args.self.now in
-    let numbers : List ℕ = head.before ∷ head.table ∷ head.after ∷ head.check ∷ [] in
+    let numbers : List ℕ = head.before ∷ head.table ∷ head.after ∷ head.records ∷ head.check ∷ [] in
     let written : c.loop-number.head.items ≡ said_bytes head =
     c.loop-number.invariant ∙ ap (flat_map eight_bytes) (take_all c.loop-number.number-index numbers (omega arith)) in
     let sum : c.check_of-sum.result ≡ check_bytes (said_bytes head) = c.check_of-sum.ensures ∙ ap check_bytes (c.deref.ensures.value ∙ written) in

@@ -14,7 +14,7 @@ returns-in-Ok-clause-knows g c knows =
     let p : Parts = parts_of c.args.text.now in
     let old : KeeperValue g.row.F.Denot = record { kept = c.self.inside.kept; texts = c.self.inside.history.texts } in
     let known : Knows model old = subst (λ (k : KeeperValue g.row.F.Denot). Knows model k) (sym c.self.view_is) knows in
-    knows_next model p old _ known (c.note.ensures ∙ ap (λ (ps : List Parts). p ∷ ps) c.forget.ensures) c.in-Ok.ensures.ok (λ stopped. false≢true (c.in-Ok.ensures.stays stopped).0) old.kept.has_stopped refl
+    knows_next model p old _ known (c.note_text.ensures ∙ ap (λ (ps : List Parts). p ∷ ps) c.forget.ensures) c.in-Ok.ensures.ok (λ stopped. false≢true (c.in-Ok.ensures.stays stopped).0) old.kept.has_stopped refl
 
 pub returns-in-Err-clause-knows : goal.returns-in-Err-clause-knows
 returns-in-Err-clause-knows g c knows =
@@ -22,7 +22,7 @@ returns-in-Err-clause-knows g c knows =
     let p : Parts = parts_of c.args.text.now in
     let old : KeeperValue g.row.F.Denot = record { kept = c.self.inside.kept; texts = c.self.inside.history.texts } in
     let known : Knows model old = subst (λ (k : KeeperValue g.row.F.Denot). Knows model k) (sym c.self.view_is) knows in
-    knows_more model p old _ known c.note-in-Err.ensures c.in-Err.ensures.stops c.in-Err.ensures.either (λ stopped. (c.in-Err.ensures.stays stopped).1) old.kept.has_stopped refl
+    knows_more model p old _ known c.note_text-in-Err.ensures c.in-Err.ensures.stops c.in-Err.ensures.either (λ stopped. (c.in-Err.ensures.stays stopped).1) old.kept.has_stopped refl
 
 pub returns-in-Ok-clause-any_moment : goal.returns-in-Ok-clause-any_moment
 returns-in-Ok-clause-any_moment g c knows =

@@ -63,15 +63,15 @@ returns-clause-kept g c honest =
     let reads = c.in_ok-text.ensures.reads in
     let text = c.in_ok-text.text in
     let Opened : Type 0 = KeptValue g.row.F.Denot × Text in
-    let p : Parts = parts_around text.table.items text.around in
-    let kept : KeptValue g.row.F.Denot = record { files = c.restart.new.files; redo = c.restart.new.self; table = text.table.items; has_stopped = false } in
+    let p : Parts = parts_around text.table.items text.records.items text.around in
+    let kept : KeptValue g.row.F.Denot = record { files = c.restart.new.files; redo = c.restart.new.self; table = text.table.items; records = text.records.items; has_stopped = false } in
     let sure : model.is_honest c.restart.new.files = subst (λ (o : Opened). model.is_honest o.0.files) c.over.ensures honest in
     let before = c.restart.ensures.after.honest sure in
     let consistent = reads.consistent [] (c.in_ok-redo.ensures.consistent (reads.after.honest before)) in
     let holds : Holds p (model.seen c.read_text.new.files Records) =
     subst (λ (d : Content). Holds p d) (sym (same_content (model.seen c.read_text.new.files Records) (model.seen c.recover.new.files Records) (reads.nothing_written.seen_same Records))) (c.in_ok-text.ensures.found before) in
-    subst (λ (o : Opened). Keeps model (parts_around o.0.table o.1.around) o.0) (sym c.over.ensures)
-    (keeps_emptied model p c.read_text.new.files kept (c.in_ok-restart.ensures.consistent [] consistent) c.restart.ensures.records holds refl (c.restart.ensures.bounds ∙ c.in_ok-redo.ensures.bounds))
+    subst (λ (o : Opened). Keeps model (parts_around o.0.table o.0.records o.1.around) o.0) (sym c.over.ensures)
+    (keeps_emptied model p c.read_text.new.files kept (c.in_ok-restart.ensures.consistent [] consistent) c.restart.ensures.records holds refl refl (c.restart.ensures.bounds ∙ c.in_ok-redo.ensures.bounds))
 
 pub returns-clause-any_moment : goal.returns-clause-any_moment
 returns-clause-any_moment g c honest =

@@ -6,8 +6,8 @@ use Rattle.std.proofs.lemmas.List.{get_or-map, length-map, take_more}
 use Rattle.oram_host.specs.Refusals.{code_of}
 use Rattle.oram_host.specs.declared.refusals.HostRefusal.{HostRefusal}
 use Rattle.oram_store.specs.Groups.{IsOfTrees, ServesGroup, is_store, message_of}
+use Rattle.oram_store.specs.Messages.{body_of}
 use Rattle.oram_store.specs.declared.groups.Change.{Change}
-use Rattle.oram_wire.specs.HostMessages.{request_body}
 use Rattle.oram_wire.specs.ListOfBodies.{bodies_in}
 use Rattle.oram_wire.specs.declared.host_messages.HostAnswer.TheVariants.{Done, Refused}
 use Rattle.oram_store.proofs.Fronts.{front_alone}
@@ -34,9 +34,11 @@ returns-then-not-go_together-clause-ok g c =
         record {
           request = λ message numbers is. let t = call.ok.3 message numbers is in record { responds = t.0; committed = t.1; goes_on = t.2; full = t.3; serves = t.4 };
           records = call.ok.4;
-          op = λ h other. sym call.ok.2 ∙ call.op h other;
+          levels = call.ok.5;
+          op = λ h other others. sym call.ok.2 ∙ call.op h other others;
           misfit = λ h. sym call.ok.2 ∙ call.misfit h;
           records_misfit = λ h. let refused = call.records_misfit h in (sym call.ok.2 ∙ refused.0, refused.1);
+          levels_misfit = λ h. let refused = call.levels_misfit h in (sym call.ok.2 ∙ refused.0, refused.1);
         },
       ),
     )
@@ -61,7 +63,7 @@ returns-clause-ok g c =
     let changes : List Change = c.in_ok-changes.changes.items in
     let bodies : List (List ℕ) = bodies_in c.args.bodies.now in
     let long : length changes ≡ c.len.result = omega (arith, c.len.ensures, c.in_ok-changes.changes.ok.0) in
-    let are : map request_body (map message_of changes) ≡ take c.len.result bodies = c.in_ok-changes.ensures.bodies ∙ ap (λ (n : ℕ). take n bodies) long in
+    let are : map body_of (map message_of changes) ≡ take c.len.result bodies = c.in_ok-changes.ensures.bodies ∙ ap (λ (n : ℕ). take n bodies) long in
     let has_store : list_any is_store (map message_of changes) ≡ true =
     subst (λ (ss : List Change). list_any is_store (map message_of ss) ≡ true) c.deref.ensures.value (c.go_together.ensures.0 c.if-not-go_together.false).1 in
     let of : All (IsOfTrees c.args.self.now.trees) c.deref-2.result.now = subst (λ (ss : List Change). All (IsOfTrees c.args.self.now.trees) ss) (sym c.deref-2.ensures.value) c.in_ok-changes.ensures.of in

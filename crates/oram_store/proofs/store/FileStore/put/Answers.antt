@@ -1,4 +1,4 @@
-use Rattle.std.proofs.Common.{Result, Some, inr, sym, ap, subst, ◌∙◌}
+use Rattle.std.proofs.Common.{◌≡◌, Result, Some, inr, sym, ap, subst, ◌∙◌}
 use Rattle.std.specs.Prelude.{IsSomeAnd, MatchResult}
 use Rattle.std.proofs.lemmas.Result.{err_from_is_err_and}
 use Rattle.oram_host.specs.Refusals.{code_of}
@@ -8,11 +8,15 @@ use Rattle.oram_wire.specs.declared.host_messages.HostRequest.{HostRequest}
 use Rattle.oram_wire.specs.declared.host_messages.HostRequest.TheVariants as request
 use Rattle.oram_store.specs.Crashes.{Serves}
 use Rattle.oram_store.specs.KeptRecords.{StoreValue}
+use Rattle.oram_store.specs.Messages.{OfHost}
 use Rattle.oram_store.specs.RecordFile.{IsReason, Runs}
 use Rattle.oram_store.specs.Refusals.{refusal_by}
 use Rattle.oram_store.proofs.Allowed.{not_refused}
 use Rattle.oram_store.proofs.Served.{serves_refused, serves_untouched}
 use Rattle.oram_store.proofs.store.FileStore.put.Goals as goal
+
+of_host : (one two : HostRequest) → OfHost one ≡ OfHost two → one ≡ two
+of_host one two is = cc
 
 pub returns-in_err-put-clause-serves : goal.returns-in_err-put-clause-serves
 returns-in_err-put-clause-serves g c honest s =
@@ -30,12 +34,14 @@ put_record-requires-clause-whole g c = c.in_ok-put.ensures.fits.0.whole
 
 pub returns-in-Ok-clause-serves : goal.returns-in-Ok-clause-serves
 returns-in-Ok-clause-serves g c honest s =
-    subst (λ (m : HostRequest). Serves g.F.FilePair.model m answer.Done c.args.self.now c.put_record.new.self) c.in_ok-put.ensures.message
+    subst (λ (m : HostRequest). Serves g.F.FilePair.model m answer.Done c.args.self.now c.put_record.new.self)
+    (of_host (request.Put c.in_ok-put.put.number c.in_ok-put.put.node c.in_ok-put.put.bytes.now) (request.Put c.args.number c.args.node c.args.bytes.now) c.in_ok-put.ensures.message)
     (c.in-Ok.ensures.serves c.in_ok-put.put.number c.in_ok-put.ensures.fits.1 honest s)
 
 pub returns-in-Err-clause-serves : goal.returns-in-Err-clause-serves
 returns-in-Err-clause-serves g c honest s =
-    subst (λ (m : HostRequest). Serves g.F.FilePair.model m (answer.Refused (code_of c.refuse.result)) c.args.self.now c.refuse.new.self) c.in_ok-put.ensures.message
+    subst (λ (m : HostRequest). Serves g.F.FilePair.model m (answer.Refused (code_of c.refuse.result)) c.args.self.now c.refuse.new.self)
+    (of_host (request.Put c.in_ok-put.put.number c.in_ok-put.put.node c.in_ok-put.put.bytes.now) (request.Put c.args.number c.args.node c.args.bytes.now) c.in_ok-put.ensures.message)
     (serves_refused g.F.FilePair.model (request.Put c.in_ok-put.put.number c.in_ok-put.put.node c.in_ok-put.put.bytes.now) c.args.self.now c.put_record.new.self c.refuse.new.self c.refuse.result (Some c.in-Err.fault)
     c.refuse.ensures.why c.refuse.ensures.kept (λ was. c.in-Err.ensures.serves c.in_ok-put.put.number c.in_ok-put.ensures.fits.1 was s) honest)
 

@@ -6,9 +6,9 @@ use Rattle.oram_host.specs.Refusals.{code_of}
 use Rattle.oram_host.specs.declared.refusals.HostRefusal.{HostRefusal}
 use Rattle.oram_store.specs.Crashes.{Serves}
 use Rattle.oram_store.specs.Groups.{IsOfTrees, ServesGroup, message_of}
+use Rattle.oram_store.specs.Messages.{Message}
 use Rattle.oram_store.specs.declared.groups.Change.TheVariants as change
 use Rattle.oram_wire.specs.declared.host_messages.HostAnswer.TheVariants as answer
-use Rattle.oram_wire.specs.declared.host_messages.HostRequest.{HostRequest}
 use Rattle.oram_wire.specs.declared.host_messages.HostRequest.TheVariants as request
 use Rattle.oram_store.proofs.Served.{serves_untouched}
 use Rattle.oram_store.proofs.Together.{group_of_one, match_leads}
@@ -34,6 +34,6 @@ returns-clause-serves g c honest s =
     (λ why. ServesGroup g.F.FilePair.model (message_of (change.Store store) ∷ []) (answer.Refused (code_of why)) old new) (λ why. Serves g.F.FilePair.model message (answer.Refused (code_of why)) old new)
     (c.change_together.ensures.serves of honest s)
     (λ x served. group_of_one g.F.FilePair.model c.args.number c.args.leaf c.args.records.now answer.Done old new
-    (subst (λ (m : HostRequest). ServesGroup g.F.FilePair.model (m ∷ []) answer.Done old new) c.in_ok-store.ensures.message served))
+    (subst (λ (m : Message). ServesGroup g.F.FilePair.model (m ∷ []) answer.Done old new) c.in_ok-store.ensures.message served))
     (λ why served. group_of_one g.F.FilePair.model c.args.number c.args.leaf c.args.records.now (answer.Refused (code_of why)) old new
-    (subst (λ (m : HostRequest). ServesGroup g.F.FilePair.model (m ∷ []) (answer.Refused (code_of why)) old new) c.in_ok-store.ensures.message served))
+    (subst (λ (m : Message). ServesGroup g.F.FilePair.model (m ∷ []) (answer.Refused (code_of why)) old new) c.in_ok-store.ensures.message served))

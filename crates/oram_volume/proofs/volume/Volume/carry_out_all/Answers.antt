@@ -268,7 +268,7 @@ returns-in-Ok-3-clause-asks g c =
     c.perform-performed.new.core c.perform-performed.new.link c.perform-performed.new.keeper c.perform-performed.ensures.kept (Keeps true ∷ k.0) does w.0 w.1 c.in_ok-begun.field-0.notes.items c.in_ok-begun.ensures.ok
 
 pub perform-performed-requires-clause-noted : goal.perform-performed-requires-clause-noted
-perform-performed-requires-clause-noted g c = c.submit_all.ensures.noted _ c.self.invariant
+perform-performed-requires-clause-noted g c = c.submit_all.ensures.noted _ c.self.invariant.0
 
 pub invariant_of-self : goal.invariant_of-self
-invariant_of-self g c = c.submit_all.ensures.noted _ c.self.invariant
+invariant_of-self g c = (c.submit_all.ensures.noted _ c.self.invariant.0, c.self.invariant.1)

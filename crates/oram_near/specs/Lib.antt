@@ -1,0 +1,12 @@
+pub mod NearLevels
+pub mod Near
+pub mod PathRequests
+pub mod EmptyRecords
+pub mod FormattedRecords
+pub mod Completion
+pub mod NearCalls
+pub mod NotedRecords
+pub mod BatchExchanges
+pub mod LevelsHost
+pub mod Law
+pub mod Examples
