@@ -6,6 +6,7 @@ use crate::hosts::{Host, HostLink, HostPlace, Way};
 use oram_geometry::Device;
 use oram_near::{NearChanges, NearLink, NearRecords, near_levels};
 use oram_rounds::BatchLink;
+use oram_session::LinkFault;
 use rows::{Page, RowFault, RowWords};
 use std::alloc::Global;
 
@@ -125,6 +126,7 @@ impl<'a> Links<'a> {
                 page.number(link.near().levels());
                 self.link = Some(link);
             }
+            Err(LinkFault::OutOfMemory) => return Err(RowFault::OutOfMemory),
             Err(fault) => page.fault(fault),
         }
         Ok(())
@@ -153,6 +155,7 @@ impl<'a> Links<'a> {
                     page.bytes(answer);
                 }
             }
+            Err(LinkFault::OutOfMemory) => return Err(RowFault::OutOfMemory),
             Err(fault) => page.fault(fault),
         }
         page.part();
