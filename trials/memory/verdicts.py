@@ -16,6 +16,8 @@ GO_ON = {
         rb"|order => \d+"
         rb"|stores => kept \d+ held \d+"
         rb"|storm .* replies (?P<count>\d+) right (?P=count)"
+        # The host lies about one message. If there was no memory for its answer, the FETCH is sent once more, and answered honestly.
+        rb"|round read 1 => 01\*16 kept 1 fetches 2 stores \d+"
     ),
     "rows_store": re.compile(rb"life .*"),
 }
