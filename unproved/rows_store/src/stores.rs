@@ -117,10 +117,18 @@ fn arrive_full(
     messages: &[Vec<u8>],
     page: &mut Page,
 ) -> Result<(), RowFault> {
+    // A row has messages, so they are missing only if memory ran out.
+    if messages.is_empty() {
+        return Err(RowFault::OutOfMemory);
+    }
     let (count, answer) = store.answer_group(alloc, messages)?;
     page.number(count);
     page.bytes(&answer);
-    write_failure(store, page);
+    match store.failure() {
+        Some(StoreFault::NoRoom) => page.show(&StoreFault::NoRoom),
+        Some(fault) => page.show(&fault_of(fault)?),
+        None => page.word("none"),
+    }
     Ok(())
 }
 
