@@ -2,12 +2,12 @@
 ghost use Rattle.std.specs.Prelude.{◌≡◌, ◌+◌, ◌-◌, ◌*◌, ◌^◌, ◌<◌, ◌≤◌, ◌++◌, [], length, OnOk, OnErr};
 ghost use Rattle.oram_geometry.specs.Sizes.{trees_of, depth_of, record_len_of};
 ghost use Rattle.oram_bucket.specs.Bucket.{spelling};
-ghost use Rattle.oram_empty.specs.EmptyRecords.{IsExtended, IsLonger, empty_path};
-ghost use Rattle.oram_empty.specs.KeptDigests.{AreOfFormatting, made_path, upper_record};
+ghost use Rattle.oram_empty.specs.EmptyRecords.{IsExtended, IsLonger, empty_path, empty_record};
+ghost use Rattle.oram_empty.specs.KeptDigests.{AreOfFormatting, made_path, made_record, upper_record};
 
 use crate::digests::{EmptyDigests, LOW_LEVELS};
 use crate::nonces::{begins_at, node_count};
-use crate::records::{append_record, append_subtree_path};
+use crate::records::{append_record, append_root_record, append_subtree_path};
 use oram_bucket::{Block, Sealer, encode_bucket};
 use std::alloc::{AllocError, Global};
 
@@ -114,6 +114,88 @@ impl<'a> EmptyDigests<'a> {
             Ok(()) => Ok(()),
             Err(fault) => {
                 path.truncate(before);
+                Err(fault)
+            }
+        }
+    }
+
+    /// Appends the record of the node at `level` of a leaf's path, which is no upper node. `plain` is the empty bucket. If memory runs out,
+    /// `out` may have some more bytes behind those that it had.
+    fn append_low<S: Sealer>(
+        &self,
+        alloc: Global,
+        sealer: &S,
+        plain: &[u8],
+        tree: u8,
+        leaf: u32,
+        level: u8,
+        out: &mut Vec<u8>,
+    ) -> Result<(), AllocError>
+        requires plain { plain.now ≡ spelling self.now.device [] }
+        requires tree { tree < trees_of self.now.device }
+        requires leaf { leaf < 2 ^ depth_of self.now.device tree }
+        requires level { level ≤ depth_of self.now.device tree }
+        ensures ok { OnOk result (out.new.items ≡ out.old.items
+            ++ empty_record (S.cipher sealer.now) self.now.device tree leaf level) }
+        ensures err { OnErr result (IsExtended out.old.items out.new.items) }
+    {
+        let device = self.device();
+        let height = device.depth(tree) - level;
+        let nonce = begins_at(device, tree, leaf, level);
+        let mut scratch = Vec::new(alloc);
+        append_root_record(alloc, sealer, plain, height, nonce, &mut scratch, out)
+    }
+
+    /// Appends the record of the node at `level` of a leaf's path. If memory runs out, `out` may have some more bytes behind those that it
+    /// had.
+    fn append_made<S: Sealer>(
+        &self,
+        alloc: Global,
+        sealer: &S,
+        tree: u8,
+        leaf: u32,
+        level: u8,
+        out: &mut Vec<u8>,
+    ) -> Result<(), AllocError>
+        requires tree { tree < trees_of self.now.device }
+        requires leaf { leaf < 2 ^ depth_of self.now.device tree }
+        requires level { level ≤ depth_of self.now.device tree }
+        ensures ok { OnOk result (out.new.items ≡ out.old.items ++ made_record (S.cipher sealer.now) self.now tree leaf level) }
+        ensures err { OnErr result (IsExtended out.old.items out.new.items) }
+    {
+        let no_blocks: [Block; 0] = [];
+        let plain = encode_bucket(alloc, self.device(), tree, &no_blocks)?;
+        if level < self.device().depth(tree).saturating_sub(LOW_LEVELS) {
+            return self.append_upper(alloc, sealer, &plain, tree, leaf, level, out);
+        }
+        self.append_low(alloc, sealer, &plain, tree, leaf, level, out)
+    }
+
+    /// Appends the record that a client makes for the node at `level` of a leaf's path of a tree. It is that of the formatting if the digests
+    /// are; `sealer` is that of the formatting.
+    ///
+    /// The record of an upper node gets the digests that are kept. For a node below it makes each record of the node's subtree once, which has
+    /// 15 nodes at most. If memory runs out, `out` is as it was.
+    pub fn append_record<S: Sealer>(
+        &self,
+        alloc: Global,
+        sealer: &S,
+        tree: u8,
+        leaf: u32,
+        level: u8,
+        out: &mut Vec<u8>,
+    ) -> Result<(), AllocError>
+        requires tree { tree < trees_of self.now.device }
+        requires leaf { leaf < 2 ^ depth_of self.now.device tree }
+        requires level { level ≤ depth_of self.now.device tree }
+        ensures made { OnOk result (out.new.items ≡ out.old.items ++ made_record (S.cipher sealer.now) self.now tree leaf level) }
+        ensures err { OnErr result (out.new.items ≡ out.old.items) }
+    {
+        let before = out.len();
+        match self.append_made(alloc, sealer, tree, leaf, level, out) {
+            Ok(()) => Ok(()),
+            Err(fault) => {
+                out.truncate(before);
                 Err(fault)
             }
         }

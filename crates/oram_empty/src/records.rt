@@ -100,6 +100,35 @@ fn subtree_digest<S: Sealer>(
     record_digest(alloc, sealer, plain, nonce, &both(&left, &right), scratch)
 }
 
+/// Appends the record at the top of a subtree of this height, whose nonces begin at `nonce`. Makes each record of the subtree once, and
+/// hashes each but this one once, in `scratch`, whose bytes don't count. If memory runs out, `out` may have some more bytes behind those
+/// that it had.
+pub(crate) fn append_root_record<S: Sealer>(
+    alloc: Global,
+    sealer: &S,
+    plain: &[u8],
+    height: u8,
+    nonce: u64,
+    scratch: &mut Vec<u8>,
+    out: &mut Vec<u8>,
+) -> Result<(), AllocError>
+    requires height { height ≤ 24 }
+    requires nonces { nonce + node_count height ≤ 2 ^ 64 }
+    ensures ok { let seal = λ (n : ℕ). (S.cipher sealer.now).sealing n plain.now in
+        OnOk result (out.new.items ≡ out.old.items ++ root_record seal height nonce) }
+    ensures err { OnErr result (IsExtended out.old.items out.new.items) }
+{
+    if height == 0 {
+        return append_record(alloc, sealer, plain, nonce, &NO_DIGESTS, out);
+    }
+    let lower = height - 1;
+    let below = node_count(lower);
+    let left = subtree_digest(alloc, sealer, plain, lower, nonce, scratch)?;
+    let right = subtree_digest(alloc, sealer, plain, lower, nonce + below, scratch)?;
+    let digests = both(&left, &right);
+    append_record(alloc, sealer, plain, nonce + 2 * below, &digests, out)
+}
+
 /// Returns the nonces at which the subtrees of two children begin: first that of the child on the leaf's path, and then the other's.
 fn child_nonces(goes_left: bool, left: u64, right: u64) -> (u64, u64)
     ensures on { result.0 ≡ (if goes_left then left else right) }

@@ -39,6 +39,22 @@ pub trait EmptyRecords {
         requires first { first ≤ depth_of (device self.now) tree }
         ensures { OnOk result (path.new.items ≡ path.old.items ++ records_from (record_at self.now rest.now tree leaf) first (depth_of (device self.now) tree + 1 - first)) };
 
+    /// Appends the record at a level of a leaf's path. Fails only if memory runs out.
+    fn append_record(
+        &self,
+        alloc: Global,
+        rest: &[u8],
+        tree: u8,
+        leaf: u32,
+        level: u8,
+        out: &mut Vec<u8>,
+    ) -> Result<(), AllocError>
+        requires rest { length rest.now ≡ rest_len self.now }
+        requires tree { tree < trees_of (device self.now) }
+        requires leaf { leaf < 2 ^ depth_of (device self.now) tree }
+        requires level { level ≤ depth_of (device self.now) tree }
+        ensures { OnOk result (out.new.items ≡ out.old.items ++ record_at self.now rest.now tree leaf level) };
+
     // With any rest, each node has one record, whichever leaf's path it is on, and each record has the same length.
     ghost are_empty_records: { (maker : Self) (rest : List ℕ) → length rest ≡ rest_len maker → AreEmptyRecords (device maker) (record_len maker) (record_at maker rest) };
 }

@@ -63,4 +63,19 @@ impl<S: Sealer> EmptyRecords for FormattedRecords<S> {
         };
         digests.append_path(alloc, &self.sealer, tree, leaf, first, path)
     }
+
+    fn append_record(
+        &self,
+        alloc: Global,
+        rest: &[u8],
+        tree: u8,
+        leaf: u32,
+        level: u8,
+        out: &mut Vec<u8>,
+    ) -> Result<(), AllocError> {
+        let Some(digests) = EmptyDigests::from_bytes(&self.device, rest) else {
+            unreachable!()
+        };
+        digests.append_record(alloc, &self.sealer, tree, leaf, level, out)
+    }
 }

@@ -31,5 +31,5 @@ pub use law::{
 };
 pub use levels::near_levels;
 pub use near_changes::NearChanges;
-pub use near_link::NearLink;
+pub use near_link::{NearLink, NearParts};
 pub use near_records::NearRecords;

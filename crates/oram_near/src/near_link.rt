@@ -41,6 +41,15 @@ pub struct NearLink<B, E: EmptyRecords> {
     unsure: Vec<Vec<u8>>,
 }
 
+/// What a link for whole paths consists of: the link below, what makes the records of the formatting, the device and the near records.
+#[derive(Drop)]
+pub struct NearParts<B, E> {
+    pub inner: B,
+    pub empty: E,
+    pub device: Device,
+    pub near: NearRecords,
+}
+
 impl<B, E: EmptyRecords> Model for NearLink<B, E> {
     ghost use Rattle.std.specs.Prelude.{◌≡◌, ◌≤◌, length, map};
     ghost use Rattle.std.specs.List.{AllByRecursion};
@@ -131,6 +140,31 @@ impl<B, E: EmptyRecords> NearLink<B, E> {
         ensures { result.now ≡ self.now.inner }
     {
         &self.inner
+    }
+
+    /// Takes the link apart.
+    pub fn into_parts(self) -> NearParts<B, E>
+        ensures inner { result.inner ≡ self.inner }
+        ensures empty { result.empty ≡ self.empty.maker }
+        ensures device { result.device ≡ self.device }
+        ensures near { result.near ≡ self.near }
+        ensures fits { FitsTogether (of_maker E.device) (of_maker E.record_len) self }
+        ensures rest { self.empty.rest ≡ rest_of self.near }
+        ensures rest_len { length self.empty.rest ≡ E.rest_len self.empty.maker }
+    {
+        let NearLink {
+            inner,
+            empty,
+            device,
+            near,
+            ..
+        } = self;
+        NearParts {
+            inner,
+            empty,
+            device,
+            near,
+        }
     }
 
     /// Returns the near records.

@@ -34,11 +34,31 @@ impl EmptyRecords for LevelBytes {
         first: u8,
         path: &mut Vec<u8>,
     ) -> Result<(), AllocError> {
-        let base = rest.first().copied().unwrap_or(0xe0);
         for level in first..self.device.depth(tree) + 1 {
-            for _ in 0..self.record_len {
-                path.extend_from_slice(&[base + level])?;
-            }
+            self.append_level(rest, level, path)?;
+        }
+        Ok(())
+    }
+
+    fn append_record(
+        &self,
+        _alloc: Global,
+        rest: &[u8],
+        _tree: u8,
+        _leaf: u32,
+        level: u8,
+        out: &mut Vec<u8>,
+    ) -> Result<(), AllocError> {
+        self.append_level(rest, level, out)
+    }
+}
+
+impl LevelBytes {
+    /// Appends the record at a level of any path.
+    fn append_level(&self, rest: &[u8], level: u8, out: &mut Vec<u8>) -> Result<(), AllocError> {
+        let byte = rest.first().copied().unwrap_or(0xe0) + level;
+        for _ in 0..self.record_len {
+            out.push(byte)?;
         }
         Ok(())
     }

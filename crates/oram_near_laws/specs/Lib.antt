@@ -1,0 +1,3 @@
+pub mod BesideLevels
+pub mod NextProcess
+pub mod Example

@@ -1,0 +1,9 @@
+pub mod Numbers
+pub mod Places
+pub mod RowTexts
+pub mod WholeRows
+pub mod CompletedAll
+pub mod Completed
+pub mod Example
+pub mod Links
+pub mod WorkedRows
