@@ -1,10 +1,9 @@
-pub mod Answered
 pub mod Carried
 pub mod Received
 pub mod Frames
 pub mod OneHost
 pub mod Streamed
-pub mod Formatted
+pub mod Introduced
 pub mod Greeted
 pub mod Tries
 pub mod TakenIn

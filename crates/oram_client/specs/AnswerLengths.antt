@@ -39,6 +39,13 @@ longest_to_fetch disk tree =
     else if tree == STAMP_TREE then stamps_answer_len
     else refusal_len
 
+-- The length of the longest answer to a FETCH of levels of this tree: one byte, one that counts the levels, and the record of each node of the path.
+-- No answer is longer than the body of a frame.
+abbrev pub longest_to_levels : DiskSizes → ℕ → ℕ
+longest_to_levels disk tree =
+    if nat_lt tree (trees_of disk.device) then min (1 + path_answer_len disk.device disk.overhead tree) LONGEST_BODY
+    else refusal_len
+
 -- The length of the longest answer to a RECORDS for this many nodes of this tree. No answer is longer than the body of a frame.
 abbrev pub longest_to_records : DiskSizes → ℕ → ℕ → ℕ
 longest_to_records disk tree count =
@@ -54,12 +61,13 @@ longest_to_fields disk (now ∷ (tree ∷ numbers)) =
     if (now == 0) && (length numbers == 8) then longest_to_records disk tree (from_be_bytes w32 (drop 4 numbers))
     else refusal_len
 
--- The length of the longest answer that an honest host of a disk gives to a message. The first byte of a FETCH is 1, and that of a RECORDS is
--- 5. Any other message is answered as done or refused.
+-- The length of the longest answer that an honest host of a disk gives to a message. The first byte of a FETCH is 1, that of a RECORDS is 5, and
+-- that of a FETCH of levels is 6. Any other message is answered as done or refused.
 abbrev pub longest_answer : DiskSizes → List ℕ → ℕ
 longest_answer disk [] = refusal_len
 longest_answer disk (op ∷ []) = refusal_len
 longest_answer disk (op ∷ (tree ∷ fields)) =
     if op == 1 then longest_to_fetch disk tree
     else if op == 5 then longest_to_fields disk (tree ∷ fields)
+    else if op == 6 then longest_to_levels disk tree
     else refusal_len

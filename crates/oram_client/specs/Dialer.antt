@@ -1,5 +1,5 @@
 -- What can be wrong with a host, and a connection over which the host of a disk has answered.
-use Rattle.std.specs.Prelude.{◌≡◌, ◌≢◌, ℕ, Bool, true, false, List, [], ◌∷◌, Option, Ok, Some, None, MatchResult, ◌⊎◌}
+use Rattle.std.specs.Prelude.{◌≡◌, ◌≢◌, ℕ, Bool, true, false, List, [], ◌∷◌, Option, Ok, MatchResult, ◌⊎◌}
 use Rattle.oram_wire.specs.HostMessages.{fetch_body, no_room_answer, payload_answer}
 use Rattle.oram_wire.specs.declared.host_messages.TheConstants.{GOOD, REFUSED}
 use Rattle.oram_cli.specs.declared.sockets.SocketFault.{SocketFault}

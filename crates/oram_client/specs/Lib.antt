@@ -7,14 +7,11 @@ pub mod TreesApart
 pub mod BatchExchanges
 pub mod OneHost
 pub mod Dialer
-pub mod Ahead
 pub mod AnswerLengths
-pub mod Faults
-pub mod Identity
-pub mod Formatting
 pub mod NamedFiles
 pub mod Attempts
 pub mod StampMessages
+pub mod Introduction
 pub mod Stamped
 pub mod StampedBatches
 pub mod StampedHost

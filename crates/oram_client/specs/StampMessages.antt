@@ -1,5 +1,5 @@
 -- The messages that put a disk's stamps at its host.
-use Rattle.std.specs.Prelude.{◌≡◌, ℕ, List, [], ◌∷◌}
+use Rattle.std.specs.Prelude.{ℕ, List, [], ◌∷◌}
 use Rattle.oram_wire.specs.HostMessages.{put_body, shape_body}
 use Rattle.oram_stamps.specs.Known.{first_stamp}
 use Rattle.oram_stamps.specs.Stamps.{record_text}

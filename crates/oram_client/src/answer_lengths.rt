@@ -1,7 +1,7 @@
 //! How long the answers of a disk's host are.
 ghost use Rattle.std.specs.Prelude.{◌≡◌, ◌<◌, ◌≤◌};
 ghost use Rattle.oram_geometry.specs.Sizes.{trees_of};
-ghost use Rattle.oram_client.specs.AnswerLengths.{longest_answer, longest_to_fetch, longest_to_records, path_answer_len, rows_answer_len};
+ghost use Rattle.oram_client.specs.AnswerLengths.{longest_answer, longest_to_fetch, longest_to_levels, longest_to_records, path_answer_len, rows_answer_len};
 
 use crate::identity::{IDENTITY_TREE, STAMP_TREE};
 use oram_bucket::Sealer;
@@ -22,6 +22,9 @@ pub(crate) const REFUSAL: usize = 2;
 
 /// The first byte of a FETCH.
 const FETCH: u8 = 1;
+
+/// The first byte of a FETCH of levels.
+const FETCH_LEVELS: u8 = 6;
 
 /// Returns the length of an answer with a path of a tree.
 pub(crate) fn path_answer_len(device: &Device, overhead: usize, tree: u8) -> usize
@@ -91,6 +94,18 @@ impl AnswerLengths {
         }
     }
 
+    /// Returns the length of the longest answer to a FETCH of levels of a tree: that with all levels of a path, and a byte that counts them.
+    fn longest_to_levels(&self, tree: u8) -> usize
+        ensures value { result ≡ longest_to_levels self.now tree }
+        ensures fits { result ≤ LONGEST_BODY }
+    {
+        if tree < self.device.trees() {
+            (1 + path_answer_len(&self.device, self.overhead, tree)).min(LONGEST_BODY)
+        } else {
+            REFUSAL
+        }
+    }
+
     /// Returns the length of an answer with the rows of `count` nodes, if all have a record.
     fn rows_answer_len(&self, count: u32) -> usize
         ensures { result ≡ rows_answer_len self.now count }
@@ -117,6 +132,7 @@ impl AnswerLengths {
     {
         match message {
             [FETCH, tree, ..] => self.longest_to_fetch(*tree),
+            [FETCH_LEVELS, tree, ..] => self.longest_to_levels(*tree),
             _ => match RecordsRequest::decode(message) {
                 Ok(request) => self.longest_to_records(request.tree, request.count),
                 Err(_) => REFUSAL,

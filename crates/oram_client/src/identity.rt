@@ -1,19 +1,20 @@
 //! What a host keeps of a disk beside the device's trees, in two trees that no device has: the disk's identity, and its stamps.
-ghost use Rattle.std.specs.Prelude.{◌≡◌, ◌↔◌, [], ◌∷◌, IfErr, IfOk, IsTrue, OnOk};
-ghost use Rattle.oram_wire.specs.HostMessages.{fetch_body, payload_answer, put_body, shape_body};
-ghost use Rattle.oram_client.specs.Ahead.{AreTaken, AreUntaken, HasAnswer};
-ghost use Rattle.oram_client.specs.StampMessages.{stamp_messages, stamp_node, stamp_put, stamps_shape_body};
-ghost use Rattle.oram_client.specs.Identity.{AreUntakenInTurn, AreUntakenThree, IsUnnamed, IsUnowned, IsUnrecognized, IsUnstamped, identity_messages, own_messages};
+ghost use Rattle.std.specs.Prelude.{◌≡◌, ◌<◌, ◌≤◌, IfOk};
+ghost use Rattle.oram_geometry.specs.Sizes.{trees_of};
+ghost use Rattle.oram_wire.specs.HostMessages.{fetch_body, put_body, shape_body};
+ghost use Rattle.oram_stamps.specs.Known.{first_stamp};
+ghost use Rattle.oram_stamps.specs.Stamps.{shown_text};
+ghost use Rattle.oram_rounds.specs.Batches.{texts};
+ghost use Rattle.oram_client.specs.StampMessages.{stamp_node, stamp_put, stamps_shape_body};
+ghost use Rattle.oram_client.specs.Introduction as spec;
 
-use crate::ahead::{Ahead, Progress};
-use crate::answer_lengths::IDENTITY_ANSWER;
-use crate::faults::FormattingFault;
 use crate::keys::Identity;
 use oram_bytes::Bytes;
+use oram_geometry::Device;
 use oram_stamps::{FIRST_STAMP, Place, RECORD_LEN, Stamp, StampKey, encode_record};
-use oram_wire::{GOOD, HostRequest, Sink, SinkFault};
+use oram_wire::{HostRequest, fetch_header};
 use std::alloc::{AllocError, Global};
-use std::io::{Read, Write};
+use std::marker::Model;
 
 /// The tree that holds a disk's identity. No device has that many trees.
 pub const IDENTITY_TREE: u8 = 255;
@@ -47,45 +48,6 @@ fn record_message(alloc: Global, identity: &Identity) -> Result<Vec<u8>, AllocEr
         bytes: Bytes::copy(alloc, &identity.0)?,
     };
     put.encode(alloc)
-}
-
-/// Puts one message, and waits until the host is done with all messages that it was sent.
-fn put_alone<R: Read, W: Write, P: Progress>(
-    ahead: &mut Ahead<R, W, P>,
-    body: &[u8],
-) -> Result<(), SinkFault>
-    ensures ok { OnOk result (AreTaken R.remaining W.contents ahead.old (body.now ∷ []) ahead.new) }
-    ensures err { IfErr result (λ fault. AreUntaken R.remaining W.contents ahead.old (body.now ∷ []) fault ahead.new) }
-{
-    ahead.put(body)?;
-    ahead.await_answers()
-}
-
-/// Puts two messages, the second one only once the host is done with the first.
-fn put_in_turn<R: Read, W: Write, P: Progress>(
-    ahead: &mut Ahead<R, W, P>,
-    first: &[u8],
-    second: &[u8],
-) -> Result<(), SinkFault>
-    ensures ok { OnOk result (AreTaken R.remaining W.contents ahead.old (first.now ∷ second.now ∷ []) ahead.new) }
-    ensures err { IfErr result (λ fault. AreUntakenInTurn R.remaining W.contents ahead.old first.now second.now fault ahead.new) }
-{
-    put_alone(ahead, first)?;
-    put_alone(ahead, second)
-}
-
-/// Puts three messages, each one only once the host is done with the ones before.
-fn put_three_in_turn<R: Read, W: Write, P: Progress>(
-    ahead: &mut Ahead<R, W, P>,
-    first: &[u8],
-    second: &[u8],
-    third: &[u8],
-) -> Result<(), SinkFault>
-    ensures ok { OnOk result (AreTaken R.remaining W.contents ahead.old (first.now ∷ second.now ∷ third.now ∷ []) ahead.new) }
-    ensures err { IfErr result (λ fault. AreUntakenThree R.remaining W.contents ahead.old first.now second.now third.now fault ahead.new) }
-{
-    put_in_turn(ahead, first, second)?;
-    put_alone(ahead, third)
 }
 
 /// Returns the node that holds the stamp of a place.
@@ -127,81 +89,102 @@ fn stamps_shape(alloc: Global) -> Result<Vec<u8>, AllocError>
     shape.encode(alloc)
 }
 
-/// Puts a disk's first stamp at both of the host's places.
-fn put_stamps<R: Read, W: Write, P: Progress>(
-    alloc: Global,
-    key: &StampKey,
-    ahead: &mut Ahead<R, W, P>,
-) -> Result<(), FormattingFault>
-    ensures ok { OnOk result (AreTaken R.remaining W.contents ahead.old (stamp_messages key.now.0) ahead.new) }
-    ensures err { IfErr result (λ fault. IsUnstamped R.remaining W.contents key.now.0 ahead.old fault ahead.new) }
+/// A tree that a host keeps of a disk beside those of the device.
+#[derive(Debug, Drop)]
+pub(crate) struct OwnTree {
+    /// The message that makes the tree.
+    pub(crate) shape: Vec<u8>,
+    /// The message that asks for its records.
+    pub(crate) question: Vec<u8>,
+    /// Its records, one behind the other.
+    pub(crate) kept: Vec<u8>,
+    /// The messages that put them there.
+    pub(crate) puts: Vec<Vec<u8>>,
+}
+
+impl Model for OwnTree {
+    ghost use Rattle.oram_rounds.specs.Batches.{texts};
+    ghost use Rattle.oram_client.specs.Introduction.{OwnTree};
+
+    ghost Value = { OwnTree };
+
+    ghost view = { λ t. record { shape = t.shape.items; question = t.question.items; kept = t.kept.items; puts = texts t.puts.items } };
+}
+
+/// Returns the message that asks for a disk's identity.
+pub(crate) fn identity_question(alloc: Global) -> Result<Vec<u8>, AllocError>
+    ensures { IfOk result (λ v. v.items ≡ fetch_body IDENTITY_TREE 0) }
 {
-    let shape = stamps_shape(alloc)?;
+    fetch_header(IDENTITY_TREE, 0).to_vec(alloc)
+}
+
+/// Returns the tree that has this identity.
+pub(crate) fn identity_tree(alloc: Global, identity: &Identity) -> Result<OwnTree, AllocError>
+    ensures { IfOk result (λ tree. tree ≡ spec.identity_tree identity.now.0) }
+{
+    let put = record_message(alloc, identity)?;
+    Ok(OwnTree {
+        shape: shape_message(alloc)?,
+        question: identity_question(alloc)?,
+        kept: identity.0.to_vec(alloc)?,
+        puts: vec![in alloc; put]?,
+    })
+}
+
+/// Returns a new disk's stamps as the host shows them.
+fn first_stamps(alloc: Global, key: &StampKey) -> Result<Vec<u8>, AllocError>
+    ensures { IfOk result (λ v. v.items ≡ shown_text key.now.0 (record { begun = first_stamp; done = first_stamp })) }
+{
+    let mut shown = encode_record(alloc, key, Place::Begun, &FIRST_STAMP)?;
+    shown.extend_from_slice(&encode_record(alloc, key, Place::Done, &FIRST_STAMP)?)?;
+    Ok(shown)
+}
+
+/// Returns the tree that has a new disk's stamps: the first one at both places.
+pub(crate) fn stamps_tree(alloc: Global, key: &StampKey) -> Result<OwnTree, AllocError>
+    ensures { IfOk result (λ tree. tree ≡ spec.stamps_tree key.now.0) }
+{
     let begun = stamp_message(alloc, key, Place::Begun, &FIRST_STAMP)?;
     let done = stamp_message(alloc, key, Place::Done, &FIRST_STAMP)?;
-    match put_three_in_turn(ahead, &shape, &begun, &done) {
-        Ok(()) => Ok(()),
-        Err(fault) => Err(ahead.formatting_fault(fault)),
-    }
+    Ok(OwnTree {
+        shape: stamps_shape(alloc)?,
+        question: fetch_header(STAMP_TREE, 0).to_vec(alloc)?,
+        kept: first_stamps(alloc, key)?,
+        puts: vec![in alloc; begun, done]?,
+    })
 }
 
-/// Puts a disk's identity at the host. The host is first asked to make the identity's tree, which it refuses if it keeps a
-/// disk already. Nothing else is sent before it has made that tree.
-fn put_identity<R: Read, W: Write, P: Progress>(
+/// Returns the message that gives a tree of a device its shape.
+fn tree_shape(
     alloc: Global,
-    identity: &Identity,
-    ahead: &mut Ahead<R, W, P>,
-) -> Result<(), FormattingFault>
-    ensures ok { OnOk result (AreTaken R.remaining W.contents ahead.old (identity_messages identity.now.0) ahead.new) }
-    ensures err { IfErr result (λ fault. IsUnnamed R.remaining W.contents identity.now.0 ahead.old fault ahead.new) }
+    device: &Device,
+    overhead: usize,
+    tree: u8,
+) -> Result<Vec<u8>, AllocError>
+    requires overhead { overhead ≤ 64 }
+    requires tree { tree < trees_of device.now }
+    ensures { IfOk result (λ v. v.items ≡ spec.tree_shape device.now overhead tree) }
 {
-    let shape = shape_message(alloc)?;
-    let record = record_message(alloc, identity)?;
-    match put_in_turn(ahead, &shape, &record) {
-        Ok(()) => Ok(()),
-        Err(fault) => Err(ahead.formatting_fault(fault)),
-    }
-}
-
-/// Puts what a host keeps of a disk beside the device's trees: first the disk's identity, and then its first stamps.
-pub(crate) fn put_own<R: Read, W: Write, P: Progress>(
-    alloc: Global,
-    identity: &Identity,
-    key: &StampKey,
-    ahead: &mut Ahead<R, W, P>,
-) -> Result<(), FormattingFault>
-    ensures ok { OnOk result (AreTaken R.remaining W.contents ahead.old (own_messages identity.now.0 key.now.0) ahead.new) }
-    ensures err { IfErr result (λ fault. IsUnowned R.remaining W.contents identity.now.0 key.now.0 ahead.old fault ahead.new) }
-{
-    put_identity(alloc, identity, ahead)?;
-    put_stamps(alloc, key, ahead)
-}
-
-/// Returns whether an answer gives back the bytes `kept`.
-fn gives(answer: &[u8], kept: &[u8]) -> bool
-    ensures { IsTrue result ↔ (answer.now ≡ payload_answer kept.now) }
-{
-    match answer.split_first() {
-        Some((&GOOD, rest)) => rest == kept,
-        _ => false,
-    }
-}
-
-/// Fetches the disk's identity, and fails if the host doesn't give back `identity`.
-pub(crate) fn check_identity<R: Read, W: Write, P>(
-    identity: &Identity,
-    ahead: &mut Ahead<R, W, P>,
-) -> Result<(), FormattingFault>
-    ensures ok { OnOk result (HasAnswer R.remaining W.contents ahead.old (fetch_body IDENTITY_TREE 0) (payload_answer identity.now.0) ahead.new) }
-    ensures err { IfErr result (λ fault. IsUnrecognized R.remaining W.contents identity.now.0 ahead.old fault ahead.new) }
-{
-    let answer = match ahead.fetch(IDENTITY_TREE, IDENTITY_ANSWER) {
-        Ok(answer) => answer,
-        Err(fault) => return Err(ahead.formatting_fault(fault)),
+    let shape = HostRequest::Shape {
+        tree,
+        depth: device.depth(tree),
+        record_len: device.record_len(overhead) as u32,
     };
-    if gives(&answer, &identity.0) {
-        Ok(())
-    } else {
-        Err(FormattingFault::NotStored)
+    shape.encode(alloc)
+}
+
+/// Returns the messages that give the trees of a device their shapes.
+pub(crate) fn shape_messages(
+    alloc: Global,
+    device: &Device,
+    overhead: usize,
+) -> Result<Vec<Vec<u8>>, AllocError>
+    requires { overhead ≤ 64 }
+    ensures { IfOk result (λ messages. texts messages.items ≡ spec.shapes device.now overhead) }
+{
+    let mut messages = Vec::with_capacity(alloc, usize::from(device.trees()))?;
+    for tree in 0..device.trees() {
+        messages.push(tree_shape(alloc, device, overhead, tree)?)?;
     }
+    Ok(messages)
 }

@@ -5,37 +5,34 @@
 //! A [`ReconnectLink`] carries batches of messages, and tries until the host answers all of them or the reconnect timeout
 //! has passed. A [`TcpDialer`] opens its connections, and only to a host that keeps the disk, and whose stamps fit what the
 //! client knows of them.
-//! [`format_ahead`] formats a disk over an [`Ahead`], a connection that sends messages ahead of their answers.
+//! [`introduce`] tells a new disk's host what it needs to know of the disk.
 #![tactic(auto)]
 
-mod ahead;
 mod answer_lengths;
 mod awaited;
 mod dialer;
-mod disk_format;
 mod disk_head;
 mod disk_keys;
 mod faults;
 mod identity;
+mod introduction;
 mod keys;
 mod law;
 mod named_files;
 mod reconnect_link;
-mod refusals;
 mod stream_batches;
 mod tcp_dialer;
 mod timed_link;
 mod trouble_reporter;
 
-pub use ahead::{Ahead, Progress};
 pub use answer_lengths::AnswerLengths;
 pub use awaited::{Awaited, Sending};
 pub use dialer::{Dial, HostWatch, Limits, Trouble};
-pub use disk_format::format_ahead;
 pub use disk_head::{Head, SealerKind, TITLE_LEN, head_in, title_of};
 pub use disk_keys::{Keys, WrongKey, keys_for};
-pub use faults::FormattingFault;
+pub use faults::IntroductionFault;
 pub use identity::{IDENTITY_LEN, IDENTITY_TREE, STAMP_TREE};
+pub use introduction::introduce;
 pub use keys::{
     DiskKey, Identity, KeyCheck, Salt, SealerKey, TapeKey, disk_identity, key_check, sealer_key,
     stamp_key, tape_key,

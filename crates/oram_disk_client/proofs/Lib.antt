@@ -1,2 +1,5 @@
-pub mod Changed
+pub mod FormattedWith
+pub mod NearLevels
+pub mod PathBodies
 pub mod SameBytes
+pub mod Told

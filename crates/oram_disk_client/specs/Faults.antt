@@ -73,7 +73,3 @@ abbrev pub IsNoProcessFor : List ℕ → List ℕ → List ℕ → Fault → Typ
 IsNoProcessFor process records name fault =
     ((¬ IsWholeWith process records) × IsAbout kind.DamagedState name fault)
     ⊎ ((IsWholeWith process records × IsAbout kind.NotADisk name fault) ⊎ (fault ≡ OutOfMemory))
-
--- the name of the settings, and what a value in them was when the disk was formatted
-abbrev pub was_text : List ℕ → List ℕ → List ℕ
-was_text name value = (name ++ codes " was ") ++ value

@@ -1,12 +1,14 @@
 //! The files of a disk at its client.
 
-ghost use Rattle.std.specs.Prelude.{◌≡◌, ◌≢◌, ◌↔◌, ◌⊎◌, ◌++◌, [], codes, string_bytes, ℕ, List, None, Some, IfErr, IfOk, IsTrue, OnOk};
+ghost use Rattle.std.specs.Prelude.{◌≡◌, ◌≢◌, ◌≤◌, ◌↔◌, ◌⊎◌, ◌++◌, [], codes, string_bytes, ℕ, List, None, Some, IfErr, IfOk, IsTrue, MatchOption, OnOk, length};
 ghost use Rattle.oram_client.specs.DiskHead.{IsHead, behind_letters};
 ghost use Rattle.oram_client.specs.declared.disk_head.Head.{Head};
 ghost use Rattle.oram_client.specs.Keys as derived;
 ghost use Rattle.oram_core.specs.Core.{scheme_of};
-ghost use Rattle.oram_disk_client.specs.Faults.{HasOlderLetters, IsAbout, IsKindFor, IsNoProcessFor, IsOfKind, IsPairFault, pair_fault_of, was_text};
+ghost use Rattle.oram_disk_client.specs.Faults.{HasOlderLetters, IsAbout, IsKindFor, IsNoProcessFor, IsOfKind, IsPairFault, pair_fault_of};
+ghost use Rattle.oram_disk_client.specs.FormattedWith.{HasNearLevels, HasNoNearLevels, IsChanged, IsUnfit, was_text};
 ghost use Rattle.oram_disk_client.specs.Sealers as spec;
+ghost use Rattle.oram_geometry.specs.Sizes.{depth_of};
 ghost use Rattle.oram_geometry.specs.declared.Sizes.{Sizes};
 ghost use Rattle.oram_keeper.specs.Process.{found_text};
 ghost use Rattle.oram_rounds.specs.Batches.{texts};
@@ -18,7 +20,9 @@ ghost use Rattle.oram_settings.specs.Differences as formatted;
 use oram_bucket::Sealer;
 use oram_cli::{FileReason, InputFault, LockFault, StateLock, call_fault, linked_name, lock_state};
 use oram_client::{DiskKey, Head, Keys, SealerKind, TITLE_LEN, WrongKey, head_in, keys_for};
+use oram_core::Core;
 use oram_disk_host::{Fault, FaultKind, settings_text};
+use oram_empty::digests_len;
 use oram_geometry::Device;
 use oram_keeper::{FoundProcess, KeepFailure, KeeperFault, OpenFault, ReadProcess, read_kept};
 use oram_kept::OpenError;
@@ -26,8 +30,8 @@ use oram_pair::PairFault;
 use oram_redo::RedoError;
 use oram_rounds::{KeptCore, KeptCoreFault, decode_kept};
 use oram_settings::{
-    DiskSettings, FixedKey, Sealing, device_of, disk_complaint, first_difference,
-    numbers_complaint, place_beside, read_disk_settings, relative_to, value_text,
+    DiskSettings, FixedKey, Sealing, device_of, disk_complaint, first_difference, near_len,
+    near_levels, numbers_complaint, place_beside, read_disk_settings, relative_to, value_text,
 };
 use std::alloc::{AllocError, Global};
 use std::fs;
@@ -300,55 +304,97 @@ fn was_something(alloc: Global, name: &str) -> Result<String, AllocError>
     Ok(text)
 }
 
-/// Returns the name of the settings, and what a key in them was when the disk was formatted.
+/// Returns the number of near levels of a disk whose state has so many bytes of records: they are the near records, and the digests behind
+/// them. Returns `None` if no number of levels gives so many.
+fn levels_in<S: Sealer>(core: &Core<S>, records: usize) -> Option<u8>
+    ensures { MatchOption result (HasNoNearLevels core.now.device (S.cipher core.now.sealer).overhead records)
+        (λ levels. HasNearLevels core.now.device (S.cipher core.now.sealer).overhead records levels) }
+{
+    let device = core.device();
+    let near = records.checked_sub(digests_len(device))? as u64;
+    let levels = near_levels(device, core.overhead(), near);
+    if near_len(device, core.overhead(), levels) != near {
+        return None;
+    }
+    Some(levels)
+}
+
+/// Returns the number of near levels that a disk was formatted with, from the number of bytes of records in its state. Fails with
+/// [`FaultKind::DamagedState`] for the file `state` if no number of levels gives so many.
+pub(crate) fn formatted_levels<S: Sealer>(
+    alloc: Global,
+    core: &Core<S>,
+    records: usize,
+    state: &str,
+) -> Result<u8, Fault>
+    ensures ok { IfOk result (λ levels. HasNearLevels core.now.device (S.cipher core.now.sealer).overhead records levels) }
+    ensures err { IfErr result (λ fault. HasNoNearLevels core.now.device (S.cipher core.now.sealer).overhead records × IsAbout FaultKind.DamagedState state.now fault) }
+{
+    match levels_in(core, records) {
+        Some(levels) => Ok(levels),
+        None => Err(named(alloc, FaultKind::DamagedState, state)),
+    }
+}
+
+/// Returns the name of the settings, and what a key in them was when the disk was formatted. It has `levels` near levels since.
 fn was(
     alloc: Global,
     name: &str,
     key: FixedKey,
     device: &Device,
     sealing: Sealing,
+    levels: u8,
 ) -> Result<String, AllocError>
-    ensures { IfOk result (λ text. string_bytes text ≡ was_text name.now (formatted.value_text device.now sealing key)) }
+    requires { levels ≤ depth_of device.now 0 }
+    ensures { IfOk result (λ text. string_bytes text ≡ was_text name.now (formatted.value_text device.now sealing levels key)) }
 {
-    let value = value_text(alloc, key, device, sealing)?;
+    let value = value_text(alloc, key, device, sealing, levels)?;
     let mut text = was_something(alloc, name)?;
     text.push_str(value.as_str())?;
     Ok(text)
 }
 
 /// Returns the fault that a key of the settings in the file `name` isn't what it was when the disk was formatted.
-fn changed(alloc: Global, name: &str, key: FixedKey, device: &Device, sealing: Sealing) -> Fault
-    ensures { IsAbout (FaultKind.Changed key) (was_text name.now (formatted.value_text device.now sealing key)) result }
+fn changed(
+    alloc: Global,
+    name: &str,
+    key: FixedKey,
+    device: &Device,
+    sealing: Sealing,
+    levels: u8,
+) -> Fault
+    requires { levels ≤ depth_of device.now 0 }
+    ensures { IsAbout (FaultKind.Changed key) (was_text name.now (formatted.value_text device.now sealing levels key)) result }
 {
-    match was(alloc, name, key, device, sealing) {
+    match was(alloc, name, key, device, sealing, levels) {
         Ok(text) => Fault::About(FaultKind::Changed(key), text),
         Err(_) => Fault::OutOfMemory,
     }
 }
 
-/// Fails if the settings in the file `name` aren't those that the disk was formatted with.
+/// Fails if the settings in the file `name` aren't those that the disk was formatted with. It has `levels` near levels since.
 fn check_settings(
     alloc: Global,
     settings: &DiskSettings,
     device: &Device,
     sealing: Sealing,
+    levels: u8,
     name: &str,
 ) -> Result<(), Fault>
-    ensures ok { OnOk result (IsFirstDifference (AgreeAt settings.now device.now sealing) fixed_keys None) }
+    requires { levels ≤ depth_of device.now 0 }
+    ensures ok { OnOk result (IsFirstDifference (AgreeAt settings.now device.now sealing levels) fixed_keys None) }
     // The fault names the first key at which they differ, and what it was.
-    ensures changed { IfErr result (λ fault. (key : FixedKey)
-        × IsAbout (FaultKind.Changed key) (was_text name.now (formatted.value_text device.now sealing key)) fault
-        × IsFirstDifference (AgreeAt settings.now device.now sealing) fixed_keys (Some key)) }
+    ensures changed { IfErr result (IsChanged settings.now name.now device.now sealing levels) }
 {
-    match first_difference(settings, device, sealing) {
+    match first_difference(settings, device, sealing, levels) {
         None => Ok(()),
-        Some(key) => Err(changed(alloc, name, key, device, sealing)),
+        Some(key) => Err(changed(alloc, name, key, device, sealing, levels)),
     }
 }
 
 /// Decodes the process that is kept of a disk, which `sealer` seals. Fails with [`FaultKind::DamagedState`] or
-/// [`FaultKind::NotADisk`] if it is no such process, and with [`FaultKind::Changed`] if the settings in the file `name` aren't
-/// those that the disk was formatted with.
+/// [`FaultKind::NotADisk`] if it is no such process, with [`FaultKind::DamagedState`] if its records have a length that no number of near
+/// levels gives, and with [`FaultKind::Changed`] if the settings in the file `name` aren't those that the disk was formatted with.
 pub fn process_for<S: Sealer>(
     alloc: Global,
     settings: &DiskSettings,
@@ -361,28 +407,37 @@ pub fn process_for<S: Sealer>(
         (record { text = process.note.items; records = kept.now.process.records.items }) process.core.state) }
     ensures check { IfOk result (λ process. process.check ≡ check_of (scheme_of S.cipher process.core) (texts process.stores.items)
         (record { text = process.note.items; records = kept.now.process.records.items }) process.core.state) }
-    ensures agrees { IfOk result (λ process. IsFirstDifference (AgreeAt settings.now process.core.device (spec.sealing_of kept.now.head.sealer)) fixed_keys None) }
-    // Only the settings of a process can have changed. The fault names the first key at which they differ, and what it was.
+    // The settings are those that the disk was formatted with.
+    ensures agrees { IfOk result (λ process. (levels : ℕ)
+        × HasNearLevels process.core.device (S.cipher sealer).overhead (length kept.now.process.records.items) levels
+        × IsFirstDifference (AgreeAt settings.now process.core.device (spec.sealing_of kept.now.head.sealer) levels) fixed_keys None) }
+    // Only a process can have records of a wrong length, or other settings than those that its disk was formatted with.
     ensures fault { IfErr result (λ fault. IsNoProcessFor kept.now.process.text.items kept.now.process.records.items (string_bytes settings.now.state) fault
-        ⊎ ((process : KeptCore S) × (key : FixedKey)
-        × IsAbout (FaultKind.Changed key) (was_text name.now (formatted.value_text process.core.device (spec.sealing_of kept.now.head.sealer) key)) fault
+        ⊎ ((process : KeptCore S)
         × IsFileWith (scheme_of S.cipher process.core) (found_text kept.now.process) (texts process.stores.items)
         (record { text = process.note.items; records = kept.now.process.records.items }) process.core.state
-        × IsFirstDifference (AgreeAt settings.now process.core.device (spec.sealing_of kept.now.head.sealer)) fixed_keys (Some key))) }
-    // It returns all of a process that was kept, unless memory runs out or the settings differ.
+        × IsUnfit settings.now name.now process.core.device (spec.sealing_of kept.now.head.sealer) (S.cipher sealer).overhead (length kept.now.process.records.items) fault)) }
+    // It returns all of a process that was kept, unless memory runs out, its records have a wrong length or the settings differ.
     ensures same { (d : Sizes) (stores : List (List ℕ)) (core : State) → (it : IsFileOf (S.cipher sealer).overhead d (found_text kept.now.process) stores core)
         → it.note.records ≡ kept.now.process.records.items
         → IfOk result (λ process. (texts process.stores.items ≡ stores) × (process.core.device ≡ d) × (process.core.state ≡ core) × (process.note.items ≡ it.note.text)) }
-    ensures changed { (d : Sizes) (stores : List (List ℕ)) (core : State) → (it : IsFileOf (S.cipher sealer).overhead d (found_text kept.now.process) stores core)
-        → it.note.records ≡ kept.now.process.records.items → IfErr result (λ fault. (fault ≡ Fault.OutOfMemory) ⊎ ((key : FixedKey)
-        × IsAbout (FaultKind.Changed key) (was_text name.now (formatted.value_text d (spec.sealing_of kept.now.head.sealer) key)) fault
-        × IsFirstDifference (AgreeAt settings.now d (spec.sealing_of kept.now.head.sealer)) fixed_keys (Some key))) }
+    ensures unfit { (d : Sizes) (stores : List (List ℕ)) (core : State) → (it : IsFileOf (S.cipher sealer).overhead d (found_text kept.now.process) stores core)
+        → it.note.records ≡ kept.now.process.records.items → IfErr result (λ fault. (fault ≡ Fault.OutOfMemory)
+        ⊎ IsUnfit settings.now name.now d (spec.sealing_of kept.now.head.sealer) (S.cipher sealer).overhead (length kept.now.process.records.items) fault) }
 {
     let found = &kept.process;
     let state = settings.state.as_str();
     let process = process_in(alloc, sealer, &found.text, &found.records, state)?;
     let sealing = sealing_of(kept.head.sealer);
-    check_settings(alloc, settings, process.core.device(), sealing, name)?;
+    let levels = formatted_levels(alloc, &process.core, found.records.len(), state)?;
+    check_settings(
+        alloc,
+        settings,
+        process.core.device(),
+        sealing,
+        levels,
+        name,
+    )?;
     Ok(process)
 }
 

@@ -2,19 +2,20 @@
 //! all of it, and lets a failed one be tried again.
 //!
 //! [`make_folder`], [`format_disk`], [`print_status`], [`check_host`], [`export_image`] and [`retry`] are the commands. The functions beside them read the files
-//! of a disk, for these commands and for the one that serves: [`disk_in`] its settings, [`state_bytes`], [`kept_in`] and
-//! [`process_for`] its state, and [`kept_failure`] why it failed. [`host_fault`] says why a program ends whose
-//! link to its host has given up.
+//! of a disk, for these commands and for the one that serves: [`disk_in`] its settings, [`kept_disk`] and [`process_for`] its state, and
+//! [`kept_failure`] why it failed. [`host_fault`] says why a program ends whose link to its host has given up.
 #![tactic(auto)]
 
 mod disk_files;
 mod failures;
 mod findings_text;
 mod format_command;
+mod hashing;
 mod host_asked;
 mod host_faults;
 mod host_link;
 mod image_file;
+mod introducing;
 mod new_disk;
 mod progress_printer;
 mod read_command;

@@ -2,15 +2,18 @@
 
 ghost use Rattle.std.specs.Fs.{asks_create_new, asks_write};
 ghost use Rattle.std.specs.Prelude.{◌≡◌, ◌≤◌, ◌<◌, ◌+◌, ◌*◌, ℕ, true, IfSome};
-ghost use Rattle.oram_settings.specs.Settings.{IsDeviceOf, default_table};
+ghost use Rattle.oram_settings.specs.Footprint.{overhead_of};
+ghost use Rattle.oram_settings.specs.NearRecords.{IsNearLevels, near_len};
+ghost use Rattle.oram_settings.specs.Settings.{IsDeviceOf, default_near, default_table};
 ghost use Rattle.oram_settings.specs.Sizes.{IsSize};
 
 use oram_cli::{FileFault, call_fault, file_fault, folder_of, sync_folder};
 use oram_disk_host::{FIRST_SETTINGS, Fault, FaultKind};
 use oram_geometry::Device;
 use oram_settings::{
-    DEFAULT_BLOCK, DEFAULT_LEAF_LOAD, DEFAULT_SLOTS, Sealing, default_table, device_of, disk_text,
-    made_text, read_size, size_mistake, stored_bytes,
+    DEFAULT_BLOCK, DEFAULT_LEAF_LOAD, DEFAULT_SLOTS, Sealing, default_near, default_table,
+    device_of, disk_text, made_text, near_len, near_levels, overhead_of, read_size, size_mistake,
+    stored_bytes,
 };
 use std::alloc::AllocError;
 use std::fs::{DirBuilder, OpenFile, OpenOptions};
@@ -94,11 +97,12 @@ fn whole_size(size: u64) -> Option<u64>
     Some(most / DEFAULT_BLOCK * DEFAULT_BLOCK)
 }
 
-/// A new disk: its size in bytes, the bytes that it takes at its host, and the text of its settings.
+/// A new disk: its size in bytes, the bytes that it takes at its host, those of its near records, and the text of its settings.
 #[derive(Drop)]
 struct FirstDisk {
     size: u64,
     stored: u64,
+    near: u64,
     text: String,
 }
 
@@ -125,6 +129,16 @@ fn sized(word: &str) -> Option<(u64, Device)>
     Some((whole, device))
 }
 
+/// Returns how many bytes the near records of a new disk of this size have.
+fn first_near_len(device: &Device, size: u64) -> u64
+    ensures { (levels : ℕ) × IsNearLevels device.now (overhead_of Sealing.ChaCha) (default_near size) levels
+        × (result ≡ near_len device.now (overhead_of Sealing.ChaCha) levels) }
+{
+    let overhead = overhead_of(Sealing::ChaCha);
+    let levels = near_levels(device, overhead, default_near(size));
+    near_len(device, overhead, levels)
+}
+
 /// Makes a new disk with a random key. It has the size that `word` says, rounded up to whole blocks. Fails with
 /// [`FaultKind::CommandLine`] if no disk is made with that size, and with [`Fault::Random`] if the system gives no random bytes.
 fn first_disk<R: RandomSource + AllocGlobal>(rt: &R, word: &str) -> Result<FirstDisk, Fault> {
@@ -139,6 +153,7 @@ fn first_disk<R: RandomSource + AllocGlobal>(rt: &R, word: &str) -> Result<First
     Ok(FirstDisk {
         size,
         stored: stored_bytes(&device, Sealing::ChaCha),
+        near: first_near_len(&device, size),
         text: disk_text(rt.alloc(), size, &key)?,
     })
 }
@@ -157,7 +172,7 @@ fn print_made<R: Eprint + AllocGlobal>(
     folder: &str,
     disk: &FirstDisk,
 ) -> Result<(), AllocError> {
-    let text = made_text(rt.alloc(), folder, disk.size, disk.stored)?;
+    let text = made_text(rt.alloc(), folder, disk.size, disk.stored, disk.near)?;
     let _passed_over = rt.eprint(text.as_str());
     Ok(())
 }

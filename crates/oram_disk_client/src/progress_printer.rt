@@ -1,6 +1,5 @@
 //! Prints how far work has come that takes long.
 
-use oram_client::Progress;
 use oram_settings::{LongWork, Meter, percent, progress_text};
 use std::io;
 use std::io::IsTerminal;
@@ -66,11 +65,5 @@ impl<'a, R: Clock + Eprint + AllocGlobal> ProgressPrinter<'a, R> {
         if self.meter.is_due(percent(done, of)) {
             let _passed_over = self.print(done, of);
         }
-    }
-}
-
-impl<'a, R: Clock + Eprint + AllocGlobal> Progress for ProgressPrinter<'a, R> {
-    fn answered(&mut self, messages: u64, of: u64) {
-        self.report(messages, of);
     }
 }

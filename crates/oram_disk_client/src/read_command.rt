@@ -2,16 +2,23 @@
 //!
 //! The disk is read as its state has it: the STOREs that the state still has are sent once more, and the commands that wait there aren't
 //! carried out, but what they write is in the image. So nothing is accessed, nothing is kept, and a disk that has failed can be read too.
+//!
+//! The client keeps the near records itself, and the host has only those of the others that were stored since the disk was formatted. So the
+//! host's answers are completed (`oram_rows`): the near records are those of the state, with those of its STOREs in their places.
 
-ghost use Rattle.std.specs.Prelude.{◌≡◌};
+ghost use Rattle.std.specs.Prelude.{◌≡◌, IfOk};
+ghost use Rattle.oram_disk_client.specs.Reading.{IsWholeLink};
+ghost use Rattle.oram_rounds.specs.Batches.{texts};
 
-use crate::disk_files::{disk_in, keys_in, process_for, read_disk as read_kept_disk};
+use crate::disk_files::{
+    disk_in, formatted_levels, keys_in, process_for, read_disk as read_kept_disk,
+};
 use crate::findings_text::{Counts, exported_text, findings_text, saved_text};
-use crate::host_asked::ask_host;
+use crate::host_asked::{PathLink, ask_host};
 use crate::host_link::link_to;
 use crate::image_file::{ImageFile, check_free, place_of};
 use crate::progress_printer::ProgressPrinter;
-use crate::reading_ends::{ExportEnd, export_end, lost_fault, read_fault};
+use crate::reading_ends::{ExportEnd, export_end, lost_fault, read_fault, store_fault};
 use crate::serving::{DiskSealer, LockedDisk, sealer_in};
 use oram_bucket::Sealer;
 use oram_cli::call_fault;
@@ -22,7 +29,9 @@ use oram_export::{
     BlockSink, ReadFault, ReadingWatch, SinkStop, TreeFindings, check_disk as check_records,
     export_disk as export_blocks, send_stores,
 };
-use oram_rounds::KeptCore;
+use oram_near::{FormattedRecords, NearLink, NearRecords};
+use oram_rounds::{BatchLink, KeptCore, record_len};
+use oram_rows::RowsLink;
 use oram_settings::{DiskSettings, LongWork};
 use std::alloc::Global;
 use std::rt::Clock;
@@ -79,19 +88,44 @@ fn reading_printer(rt: &HostRuntime, work: LongWork, of: u64) -> ReadingPrinter<
     }
 }
 
-/// Asks the host whether it keeps this disk, compares its stamps with what is known of them, and has it carry out the STOREs that the
-/// disk's state has.
-fn settle_host<D: Dial, W: HostWatch>(
+/// The link over which a whole disk is read: it gives a record for each node, whether the host has it or not.
+type WholeLink<S, D, W> = RowsLink<ReconnectLink<D, W>, FormattedRecords<S>>;
+
+/// Has the host carry out the STOREs that a disk's state has, and puts their near records in place. Returns the link over which the disk is
+/// read then.
+fn whole_link<S: Sealer, D: Dial + Drop, W: HostWatch + Drop>(
     alloc: Global,
-    link: &mut ReconnectLink<D, W>,
+    mut link: PathLink<S, D, W>,
     settings: &DiskSettings,
     stores: &[Vec<u8>],
-) -> Result<(), Fault> {
-    ask_host(alloc, link, settings)?;
-    match send_stores(alloc, link, stores) {
-        Ok(()) => Ok(()),
-        Err(fault) => Err(read_fault(alloc, fault, link.trouble(), settings)),
+) -> Result<WholeLink<S, D, W>, Fault>
+    ensures { IfOk result (λ whole. IsWholeLink ⟦<NearLink<ReconnectLink<D, W>, FormattedRecords<S>> as BatchLink>⟧.batches link (texts stores.now) whole) }
+{
+    match send_stores(alloc, &mut link, stores) {
+        Ok(()) => Ok(RowsLink::over(link)),
+        Err(fault) => Err(store_fault(alloc, fault, link.inner().trouble(), settings)),
     }
+}
+
+/// Asks the host whether it keeps this disk, compares its stamps with what is known of them, and has it carry out the STOREs that the
+/// disk's state has. Returns the link over which the disk is read then. `records` are those of the state.
+fn settle_host<S: Sealer, D: Dial + Drop, W: HostWatch + Drop>(
+    alloc: Global,
+    mut link: ReconnectLink<D, W>,
+    settings: &DiskSettings,
+    kept: &KeptCore<S>,
+    sealer: S,
+    records: Vec<u8>,
+) -> Result<WholeLink<S, D, W>, Fault>
+    requires { S.cipher sealer ≡ S.cipher kept.now.core.sealer }
+{
+    ask_host(alloc, &mut link, settings)?;
+    let (core, device) = (&kept.core, kept.core.device());
+    let levels = formatted_levels(alloc, core, records.len(), settings.state.as_str())?;
+    let near = NearRecords::new(alloc, device, record_len(core), levels, records)?;
+    let empty = FormattedRecords::new(device.copy(), sealer);
+    let link = NearLink::new(alloc, link, empty, device.copy(), near);
+    whole_link(alloc, link, settings, &kept.stores)
 }
 
 /// What is to be done with a whole disk.
@@ -123,7 +157,7 @@ struct WholeDisk<'a, S: Sealer> {
 fn read_blocks<S: Sealer, D: Dial, W: HostWatch, K: BlockSink>(
     rt: &HostRuntime,
     disk: &WholeDisk<'_, S>,
-    link: &mut ReconnectLink<D, W>,
+    link: &mut WholeLink<S, D, W>,
     sink: &mut K,
     work: LongWork,
 ) -> Result<TreeFindings, ReadFault>
@@ -137,7 +171,7 @@ fn read_blocks<S: Sealer, D: Dial, W: HostWatch, K: BlockSink>(
 fn print_saved<S: Sealer, D: Dial, W: HostWatch>(
     rt: &HostRuntime,
     disk: &WholeDisk<'_, S>,
-    link: &mut ReconnectLink<D, W>,
+    link: &mut WholeLink<S, D, W>,
 ) -> Result<(), Fault>
     requires { S.cipher disk.now.sealer.now ≡ S.cipher disk.now.core.now.sealer }
 {
@@ -145,7 +179,7 @@ fn print_saved<S: Sealer, D: Dial, W: HostWatch>(
     let mut counter = BlockCounter { blocks: 0 };
     match read_blocks(rt, disk, link, &mut counter, LongWork::Checking) {
         Ok(_) => print(rt, saved_text(alloc, counter.blocks)?.as_str()),
-        Err(fault) => Err(read_fault(alloc, fault, link.trouble(), disk.settings)),
+        Err(fault) => Err(read_fault(alloc, fault, link.inner().trouble(), disk.settings)),
     }
 }
 
@@ -153,14 +187,14 @@ fn print_saved<S: Sealer, D: Dial, W: HostWatch>(
 fn read_records<S: Sealer, D: Dial, W: HostWatch>(
     rt: &HostRuntime,
     disk: &WholeDisk<'_, S>,
-    link: &mut ReconnectLink<D, W>,
+    link: &mut WholeLink<S, D, W>,
 ) -> Result<Vec<TreeFindings>, Fault> {
     let alloc = rt.alloc();
     let of = records_in(disk.core, disk.core.device().trees());
     let mut watch = reading_printer(rt, LongWork::Checking, of);
     match check_records(alloc, disk.core, link, &mut watch) {
         Ok(trees) => Ok(trees),
-        Err(fault) => Err(read_fault(alloc, fault, link.trouble(), disk.settings)),
+        Err(fault) => Err(read_fault(alloc, fault, link.inner().trouble(), disk.settings)),
     }
 }
 
@@ -169,7 +203,7 @@ fn read_records<S: Sealer, D: Dial, W: HostWatch>(
 fn check<S: Sealer, D: Dial, W: HostWatch>(
     rt: &HostRuntime,
     disk: &WholeDisk<'_, S>,
-    link: &mut ReconnectLink<D, W>,
+    link: &mut WholeLink<S, D, W>,
     is_salvage: bool,
 ) -> Result<(), Fault>
     requires { S.cipher disk.now.sealer.now ≡ S.cipher disk.now.core.now.sealer }
@@ -191,7 +225,7 @@ fn check<S: Sealer, D: Dial, W: HostWatch>(
 fn fill_image<S: Sealer, D: Dial, W: HostWatch>(
     rt: &HostRuntime,
     disk: &WholeDisk<'_, S>,
-    link: &mut ReconnectLink<D, W>,
+    link: &mut WholeLink<S, D, W>,
     file: &mut ImageFile<'_>,
 ) -> Result<Counts, Fault>
     requires { S.cipher disk.now.sealer.now ≡ S.cipher disk.now.core.now.sealer }
@@ -200,7 +234,7 @@ fn fill_image<S: Sealer, D: Dial, W: HostWatch>(
         Ok(tree) => Ok(Counts::of(&tree)),
         Err(fault) => match file.take_fault() {
             Some(fault) => Err(fault.into()),
-            None => Err(read_fault(rt.alloc(), fault, link.trouble(), disk.settings)),
+            None => Err(read_fault(rt.alloc(), fault, link.inner().trouble(), disk.settings)),
         },
     }
 }
@@ -239,7 +273,7 @@ fn end_image(
 fn export<S: Sealer, D: Dial, W: HostWatch>(
     rt: &HostRuntime,
     disk: &WholeDisk<'_, S>,
-    link: &mut ReconnectLink<D, W>,
+    link: &mut WholeLink<S, D, W>,
     image: String,
     is_salvage: bool,
 ) -> Result<(), Fault>
@@ -260,7 +294,7 @@ fn export<S: Sealer, D: Dial, W: HostWatch>(
 fn read_over<S: Sealer, D: Dial, W: HostWatch>(
     rt: &HostRuntime,
     disk: &WholeDisk<'_, S>,
-    link: &mut ReconnectLink<D, W>,
+    link: &mut WholeLink<S, D, W>,
     reading: Reading,
 ) -> Result<(), Fault>
     requires { S.cipher disk.now.sealer.now ≡ S.cipher disk.now.core.now.sealer }
@@ -271,22 +305,23 @@ fn read_over<S: Sealer, D: Dial, W: HostWatch>(
     }
 }
 
-/// Reads a disk that was kept, whose buckets `sealer` has sealed.
-fn read_kept<S: Sealer>(
+/// Reads a disk that was kept with these records, whose buckets `sealer` has sealed.
+fn read_kept<S: Sealer + Copy>(
     rt: &HostRuntime,
     settings: &DiskSettings,
     keys: &Keys,
     kept: &KeptCore<S>,
-    sealer: &S,
+    records: Vec<u8>,
+    sealer: S,
     reading: Reading,
 ) -> Result<(), Fault>
-    requires { S.cipher sealer.now ≡ S.cipher kept.now.core.sealer }
+    requires { S.cipher sealer ≡ S.cipher kept.now.core.sealer }
 {
-    let mut link = link_to(rt, settings, keys, kept, MEANWHILE)?;
-    settle_host(rt.alloc(), &mut link, settings, &kept.stores)?;
+    let link = link_to(rt, settings, keys, kept, MEANWHILE)?;
+    let mut link = settle_host(rt.alloc(), link, settings, kept, sealer, records)?;
     let disk = WholeDisk {
         core: &kept.core,
-        sealer,
+        sealer: &sealer,
         settings,
     };
     read_over(rt, &disk, &mut link, reading)
@@ -307,11 +342,13 @@ fn read_disk(
     match sealer_in(&kept.head, &keys) {
         DiskSealer::Plain(sealer) => {
             let process = process_for(alloc, settings, name, &kept, sealer)?;
-            read_kept(rt, settings, &keys, &process, &sealer, reading)
+            let records = kept.process.records;
+            read_kept(rt, settings, &keys, &process, records, sealer, reading)
         }
         DiskSealer::ChaCha20(sealer) => {
             let process = process_for(alloc, settings, name, &kept, sealer)?;
-            read_kept(rt, settings, &keys, &process, &sealer, reading)
+            let records = kept.process.records;
+            read_kept(rt, settings, &keys, &process, records, sealer, reading)
         }
     }
 }

@@ -2,7 +2,7 @@
 
 ghost use Rattle.std.specs.Prelude.{◌≡◌, string_bytes};
 ghost use Rattle.oram_disk_client.specs.Faults.{IsAbout, IsOfKind};
-ghost use Rattle.oram_disk_client.specs.Reading.{IsReadFault, end_of};
+ghost use Rattle.oram_disk_client.specs.Reading.{IsReadFault, IsStoreFault, are_foreign, end_of};
 
 use crate::disk_files::named;
 use crate::findings_text::{Counts, lost_text};
@@ -10,6 +10,7 @@ use crate::host_faults::host_fault;
 use oram_client::Trouble;
 use oram_disk_host::{Fault, FaultKind};
 use oram_export::ReadFault;
+use oram_session::LinkFault;
 use oram_settings::DiskSettings;
 use std::alloc::Global;
 
@@ -59,6 +60,7 @@ pub(crate) fn read_fault(
     ensures { IsReadFault fault trouble settings.now result }
 {
     match fault {
+        ReadFault::Link(LinkFault::OutOfMemory) => Fault::OutOfMemory,
         ReadFault::Link(_) => host_fault(alloc, trouble, settings),
         ReadFault::Failed => failed_disk(alloc, settings),
         ReadFault::BadAnswer | ReadFault::Refused(_) | ReadFault::BrokenBucket => {
@@ -66,6 +68,33 @@ pub(crate) fn read_fault(
         }
         ReadFault::SinkStopped | ReadFault::OutOfMemory => Fault::OutOfMemory,
     }
+}
+
+/// Returns whether the STOREs of a state aren't those of its disk, if sending them before a reading had this fault: their link refuses them, but
+/// it hasn't given up.
+fn are_foreign(fault: ReadFault, trouble: Option<Trouble>) -> bool
+    ensures { result ≡ are_foreign fault trouble }
+{
+    match (fault, trouble) {
+        (ReadFault::Link(LinkFault::Closed), None) => true,
+        _ => false,
+    }
+}
+
+/// Returns the program's fault for the STOREs of a state that weren't carried out before a reading. `trouble` says why the link to the host
+/// gave up, if it did.
+pub(crate) fn store_fault(
+    alloc: Global,
+    fault: ReadFault,
+    trouble: Option<Trouble>,
+    settings: &DiskSettings,
+) -> Fault
+    ensures { IsStoreFault fault trouble settings.now result }
+{
+    if are_foreign(fault, trouble) {
+        return named(alloc, FaultKind::NotADisk, settings.state.as_str());
+    }
+    read_fault(alloc, fault, trouble, settings)
 }
 
 /// Returns a fault of this kind about the records that a host has lost.

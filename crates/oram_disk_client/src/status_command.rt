@@ -1,12 +1,26 @@
 //! Reports the status of a disk, and lets a failed one be tried again.
 
-use crate::disk_files::{disk_in, is_there, keys_in, named, process_for, read_disk, take_lock};
+ghost use Rattle.std.specs.Prelude.{◌≡◌, ℕ, IfOk, length};
+ghost use Rattle.oram_core.specs.Core.{scheme_of};
+ghost use Rattle.oram_disk_client.specs.FormattedWith.{HasNearLevels};
+ghost use Rattle.oram_keeper.specs.Process.{found_text};
+ghost use Rattle.oram_rounds.specs.Batches.{texts};
+ghost use Rattle.oram_rounds.specs.Files.{IsFileWith};
+ghost use Rattle.oram_settings.specs.NearRecords.{near_len};
+ghost use Rattle.oram_settings.specs.Status.{stands_as};
+
+use crate::disk_files::{
+    KeptDisk, disk_in, formatted_levels, is_there, keys_in, named, process_for, read_disk,
+    take_lock,
+};
 use crate::failures::{forget_failure, kept_failure};
 use crate::serving::{DiskSealer, sealer_in};
+use oram_bucket::Sealer;
 use oram_cli::{call_fault, is_locked};
 use oram_client::SystemFiles;
 use oram_disk_host::{Fault, FaultKind};
-use oram_settings::{Status, failure_text, report, report_json, status_of};
+use oram_rounds::KeptCore;
+use oram_settings::{DiskSettings, Status, failure_text, report, report_json, status_of};
 use std::alloc::{AllocError, Global};
 use std::str;
 
@@ -86,6 +100,27 @@ fn print_report(
     Ok(())
 }
 
+/// Returns the status of a disk, from what is kept of it, which `sealer` seals. Its settings are in the file `name`.
+fn status_with<S: Sealer>(
+    alloc: Global,
+    settings: &DiskSettings,
+    name: &str,
+    kept: &KeptDisk,
+    sealer: S,
+) -> Result<Status, Fault>
+    // It is the status of the process that is kept, with as many near levels as the disk was formatted with.
+    ensures { IfOk result (λ status. (process : KeptCore S) × (levels : ℕ)
+        × IsFileWith (scheme_of S.cipher process.core) (found_text kept.now.process) (texts process.stores.items)
+        (record { text = process.note.items; records = kept.now.process.records.items }) process.core.state
+        × HasNearLevels process.core.device (S.cipher process.core.sealer).overhead (length kept.now.process.records.items) levels
+        × (status ≡ stands_as process.core.device (near_len process.core.device (S.cipher process.core.sealer).overhead levels) process.core.state)) }
+{
+    let process = process_for(alloc, settings, name, kept, sealer)?;
+    let records = kept.process.records.len();
+    let levels = formatted_levels(alloc, &process.core, records, settings.state.as_str())?;
+    Ok(status_of(&process.core, levels))
+}
+
 /// Prints the report of the disk whose settings are in the file `name`, from its kept state, and whether a process uses it now:
 /// in lines for people, or in one line of JSON. It doesn't ask the host. Fails with the same faults as a process that serves the disk, if the settings or the key aren't
 /// those of the disk or if the disk has failed.
@@ -96,14 +131,14 @@ pub fn print_status(rt: &HostRuntime, name: String, is_json: bool) -> Result<(),
     let kept = read_disk(rt, state)?;
     let keys = keys_in(alloc, &settings, &kept.head, name.as_str())?;
     let status = match sealer_in(&kept.head, &keys) {
-        DiskSealer::Plain(sealer) => {
-            let process = process_for(alloc, &settings, name.as_str(), &kept, sealer)?;
-            status_of(&process.core)
-        }
-        DiskSealer::ChaCha20(sealer) => {
-            let process = process_for(alloc, &settings, name.as_str(), &kept, sealer)?;
-            status_of(&process.core)
-        }
+        DiskSealer::Plain(sealer) => status_with(alloc, &settings, name.as_str(), &kept, sealer)?,
+        DiskSealer::ChaCha20(sealer) => status_with(
+            alloc,
+            &settings,
+            name.as_str(),
+            &kept,
+            sealer,
+        )?,
     };
     print_report(rt, state, &status, is_json)
 }

@@ -17,6 +17,7 @@ changed fixed.Slots = codes "oramdisk: slots in "
 changed fixed.LeafLoad = codes "oramdisk: leaf_load in "
 changed fixed.Table = codes "oramdisk: table in "
 changed fixed.Sealer = codes "oramdisk: sealer in "
+changed fixed.Near = codes "oramdisk: near in "
 
 -- the text before the name
 abbrev pub front : FaultKind → List ℕ
@@ -101,7 +102,7 @@ rest (Host why) = host_rest why
 rest OlderHost = codes " shows an older file of this disk than it has shown before, and nothing was stored there: have it serve its newest file; nothing is lost here\n"
 rest NoStamps = codes " doesn't show what this disk has stored there, and nothing more was stored: have it serve the disk's own file, unchanged; nothing is lost here\n"
 rest StateNotKept = codes ": see that its folder may be written and has room, and start again\n"
-rest StateNotMade = codes ": see that its folder may be written and has room, name a new file at the host, and format again\n"
+rest StateNotMade = codes ": see that its folder may be written and has room, and format again\n"
 rest UsedUp = codes " has made all its accesses: say oramdisk export, and copy the image to a new disk\n"
 rest InUse = codes " is in use by another process: end that one first\n"
 rest Failed = codes " has failed, and oramdisk status says why: see that its own host is reached, with its own file, and then say oramdisk retry; oramdisk check says what is lost at the host, and oramdisk export --salvage saves the rest\n"

@@ -76,7 +76,7 @@ pub enum FaultKind {
     /// The state can't be kept in a file. After the file's name comes the step that failed, and why.
     StateNotKept,
     /// The state of a new disk can't be kept in a file. After the file's name comes the step that failed, and why. The disk's
-    /// host has its buckets already.
+    /// host has heard nothing of it.
     StateNotMade,
     /// The disk whose state is in the file of this name has made all its accesses.
     UsedUp,
@@ -106,6 +106,7 @@ fn changed(key: FixedKey) -> &'static str
         FixedKey::LeafLoad => "oramdisk: leaf_load in ",
         FixedKey::Table => "oramdisk: table in ",
         FixedKey::Sealer => "oramdisk: sealer in ",
+        FixedKey::Near => "oramdisk: near in ",
     }
 }
 
@@ -238,7 +239,7 @@ impl FaultKind {
             FaultKind::StateNotKept =>
                 ": see that its folder may be written and has room, and start again\n",
             FaultKind::StateNotMade =>
-                ": see that its folder may be written and has room, name a new file at the host, and format again\n",
+                ": see that its folder may be written and has room, and format again\n",
             FaultKind::UsedUp =>
                 " has made all its accesses: say oramdisk export, and copy the image to a new disk\n",
             FaultKind::InUse => " is in use by another process: end that one first\n",

@@ -1,4 +1,5 @@
 mod Arguments
+mod NearRecords
 mod Tables
 pub mod Program
 pub mod Requested

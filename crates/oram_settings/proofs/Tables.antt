@@ -5,7 +5,7 @@ use Rattle.toml.specs.Data.{Data, Members, get_member, integer}
 use Rattle.oram_cli.specs.Tables.{Finds, HasNumber, HasText, IsAddress, IsName}
 use Rattle.oram_cli.specs.declared.input.InputFault.{InputFault}
 use Rattle.oram_cli.specs.declared.input.InputFault.TheVariants.{Bad}
-use Rattle.oram_settings.specs.Settings.{DiskValue, HasSealing, IsDisk, IsPlace, IsSocket, OrDefault, default_leaf_load, default_table, sealing_name}
+use Rattle.oram_settings.specs.Settings.{DiskValue, HasSealing, IsDisk, IsPlace, IsSocket, OrDefault, default_leaf_load, default_near, default_table, sealing_name}
 use Rattle.oram_settings.specs.declared.disk_file.Sealing.{Sealing}
 use Rattle.oram_settings.specs.declared.disk_file.Sealing.TheVariants.{Plain, ChaCha}
 
@@ -43,6 +43,14 @@ no_table t e size block default of_size of_block is none bad s h =
     let same_block : block ≡ s.block = one_number t (codes "block") 4096 block s.block of_block h.block in
     let same : default_table s.size s.block ≡ default = sym (is ∙ ap (λ (n : ℕ). n / block) same_size ∙ ap (λ (n : ℕ). s.size / n) same_block) in
     none bad s.table (subst (λ (n : ℕ). OrDefault t (codes "table") n (HasNumber t (codes "table")) s.table) same h.table)
+
+-- the bytes of the near records, whose default goes by the size
+pub no_near : (t : Members) (e : InputFault) (size default : ℕ) → HasNumber t (codes "size") size → default ≡ default_near size
+    → (e ≡ Bad → (x : ℕ) → OrDefault t (codes "near") default (HasNumber t (codes "near")) x → ⊥) → e ≡ Bad → (s : DiskValue) → IsDisk t s → ⊥
+no_near t e size default of_size is none bad s h =
+    let same_size : size ≡ s.size = cc (sym of_size ∙ h.size) in
+    let same : default_near s.size ≡ default = sym (is ∙ ap default_near same_size) in
+    none bad s.near (subst (λ (n : ℕ). OrDefault t (codes "near") n (HasNumber t (codes "near")) s.near) same h.near)
 
 -- there is only one text at a key
 one_text : (t : Members) (key x y : List ℕ) → HasText t key x → HasText t key y → x ≡ y

@@ -7,4 +7,5 @@ pub mod Sizes
 pub mod Differences
 pub mod Amounts
 pub mod Footprint
+pub mod NearRecords
 pub mod Announcements

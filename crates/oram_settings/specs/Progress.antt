@@ -5,16 +5,11 @@ use Rattle.oram_settings.specs.declared.progress.LongWork.{LongWork}
 use Rattle.oram_settings.specs.declared.progress.LongWork.TheVariants.{Checking, Exporting, Formatting}
 use Rattle.oram_settings.specs.declared.progress.Meter.{Meter}
 
--- what the work is called, and what it is counted in
+-- what the work is called
 abbrev pub name : LongWork → List ℕ
 name Formatting = codes "formatting"
 name Checking = codes "checking"
 name Exporting = codes "exporting"
-
-abbrev pub unit : LongWork → List ℕ
-unit Formatting = codes "messages"
-unit Checking = codes "records"
-unit Exporting = codes "records"
 
 -- how much is done, in percent
 abbrev pub percent : ℕ → ℕ → ℕ
@@ -26,12 +21,12 @@ seconds_left done of milliseconds = min (milliseconds * (of - done) / max done 1
 
 -- the text without the time that is left
 abbrev pub so_far : LongWork → ℕ → ℕ → List ℕ
-so_far work done of = concat (name work ∷ codes ": " ∷ decimal (percent done of) ∷ codes " % (" ∷ decimal done ∷ codes " of " ∷ decimal of ∷ codes " " ∷ unit work ∷ codes ")" ∷ [])
+so_far work done of = concat (name work ∷ codes ": " ∷ decimal (percent done of) ∷ codes " % (" ∷ decimal done ∷ codes " of " ∷ decimal of ∷ codes " records)" ∷ [])
 
 -- the text with the time that is left
 abbrev pub with_time_left : LongWork → ℕ → ℕ → ℕ → List ℕ
 with_time_left work done of milliseconds =
-    concat (name work ∷ codes ": " ∷ decimal (percent done of) ∷ codes " % (" ∷ decimal done ∷ codes " of " ∷ decimal of ∷ codes " " ∷ unit work ∷ codes "), "
+    concat (name work ∷ codes ": " ∷ decimal (percent done of) ∷ codes " % (" ∷ decimal done ∷ codes " of " ∷ decimal of ∷ codes " records), "
     ∷ decimal (seconds_left done of milliseconds) ∷ codes " s left" ∷ [])
 
 -- the text, with the time that is left once a second has passed

@@ -17,12 +17,14 @@ stashed_below s (suc n) = min (stashed_below s n + length (slice_index_or s.tree
 abbrev pub stashed : Sizes → State → ℕ
 stashed d s = stashed_below s (trees_of d)
 
-abbrev pub stands_as : Sizes → State → Status
-stands_as d s = record {
+-- the status of a device whose near records have so many bytes
+abbrev pub stands_as : Sizes → ℕ → State → Status
+stands_as d near s = record {
   blocks = d.blocks;
   block_bytes = d.block_bytes;
   trees = trees_of d;
   stash = stashed d s;
+  near = near;
   accesses = s.next;
   lifetime = d.lifetime;
   waiting = length s.queue;
@@ -41,12 +43,13 @@ failing (Some (HostRefused code)) = codes "it has failed: the host refused a mes
 abbrev pub size_of : Status → ℕ
 size_of s = min (s.blocks * s.block_bytes) (2 ^ 64 - 1)
 
--- the lines that describe the status of a disk: its size, its trees, the blocks of their stashes, the accesses made and left, the commands that
+-- the lines that describe the status of a disk: its size, its trees, the blocks of their stashes, the bytes of its near records, the accesses made and left, the commands that
 -- wait, and a failure
 abbrev pub report : Status → List ℕ
 report s = concat (codes "size: " ∷ decimal (size_of s) ∷ codes " bytes, " ∷ counted s.blocks (codes "block") ∷ codes " of " ∷ decimal s.block_bytes
     ∷ codes "\ntrees: " ∷ decimal s.trees
     ∷ codes "\nstash: " ∷ counted s.stash (codes "block")
+    ∷ codes "\nnear: " ∷ counted s.near (codes "byte")
     ∷ codes "\naccesses: " ∷ decimal s.accesses ∷ codes " made, " ∷ decimal (s.lifetime - s.accesses)
     ∷ codes " left\nwaiting: " ∷ decimal s.waiting
     ∷ codes "\nstate: " ∷ failing s.failure ∷ codes "\n" ∷ [])

@@ -15,31 +15,50 @@ fn next_text(alloc: Global, folder: &str) -> Result<String, AllocError>
     )
 }
 
-/// Returns what `new` prints once it has made the folder of a disk: what is in the folder, the commands that come next,
-/// and where clients connect. `size` is the disk's size, and `stored` is what formatting it sends to the host; both are
-/// in bytes.
-pub fn made_text(alloc: Global, folder: &str, size: u64, stored: u64) -> Result<String, AllocError>
-    ensures { IfOk result (λ text. string_bytes text ≡ spec.made_text folder.now size stored) }
+/// Returns how many bytes the host stores of a disk at most, and how many its near records have.
+fn room_text(alloc: Global, stored: u64, near: u64) -> Result<String, AllocError>
+    ensures { IfOk result (λ text. string_bytes text ≡ spec.room_text stored near) }
 {
-    let size = size_text(alloc, size)?;
-    let size = size.as_str();
     let stored = amount_text(alloc, stored)?;
     let stored = stored.as_str();
-    let next = next_text(alloc, folder)?;
-    let next = next.as_str();
+    let near = amount_text(alloc, near)?;
+    let near = near.as_str();
     format!(in alloc;
-        "oramdisk: made {folder} for a disk of {size}: disk.toml with its key, which stays here, and host.toml for the rented machine\noramdisk: formatting will send about {stored} to the host, which stores all of it\n{next}\n"
+        "its host will store up to about {stored} of it\noramdisk: the client keeps records of {near} itself"
     )
 }
 
-/// Returns what is printed before a formatting begins: how much it sends to the host at this address.
-pub fn begun_text(alloc: Global, stored: u64, host: &str) -> Result<String, AllocError>
-    ensures { IfOk result (λ text. string_bytes text ≡ spec.begun_text stored host.now) }
+/// Returns what `new` prints once it has made the folder of a disk: what is in the folder, the commands that come next,
+/// and where clients connect. `size` is the disk's size, `stored` is the most that its host will store of it, and `near` is what its near
+/// records have; all are in bytes.
+pub fn made_text(
+    alloc: Global,
+    folder: &str,
+    size: u64,
+    stored: u64,
+    near: u64,
+) -> Result<String, AllocError>
+    ensures { IfOk result (λ text. string_bytes text ≡ spec.made_text folder.now size stored near) }
+{
+    let size = size_text(alloc, size)?;
+    let size = size.as_str();
+    let room = room_text(alloc, stored, near)?;
+    let room = room.as_str();
+    let next = next_text(alloc, folder)?;
+    let next = next.as_str();
+    format!(in alloc;
+        "oramdisk: made {folder} for a disk of {size}: disk.toml with its key, which stays here, and host.toml for the rented machine\noramdisk: {room}\n{next}\n"
+    )
+}
+
+/// Returns what is printed before a formatting begins: how many bytes of records it hashes.
+pub fn begun_text(alloc: Global, stored: u64) -> Result<String, AllocError>
+    ensures { IfOk result (λ text. string_bytes text ≡ spec.begun_text stored) }
 {
     let stored = amount_text(alloc, stored)?;
     let stored = stored.as_str();
     format!(in alloc;
-        "oramdisk: formatting: about {stored} go to the host at {host}, which stores all of it\n"
+        "oramdisk: formatting: about {stored} of empty records are hashed here, and none of them is sent\n"
     )
 }
 

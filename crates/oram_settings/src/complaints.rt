@@ -52,7 +52,7 @@ struct Setting {
 }
 
 /// The settings of a disk.
-const DISK: [Setting; 12] = [
+const DISK: [Setting; 13] = [
     Setting {
         key: "size",
         kind: Kind::Bytes,
@@ -81,6 +81,11 @@ const DISK: [Setting; 12] = [
     Setting {
         key: "sealer",
         kind: Kind::Sealer,
+        is_required: false,
+    },
+    Setting {
+        key: "near",
+        kind: Kind::Bytes,
         is_required: false,
     },
     Setting {
@@ -197,28 +202,40 @@ fn value_in(line: &str) -> Option<&str> {
     Some(value.trim().trim_matches('"'))
 }
 
-/// Returns what a line sets `size` to as people write sizes, such as `64MiB`, and how many bytes that is.
+/// Returns what a line sets its key to as people write sizes, such as `64MiB`, and how many bytes that is.
 fn size_in(line: &str) -> Option<(&str, u64)> {
-    if !sets(line, "size") {
-        return None;
-    }
     let value = value_in(line)?;
     Some((value, read_size(value)?))
 }
 
-/// Returns the complaint about the line with this number, which sets `size` to an amount with a unit; `None` if it doesn't.
+/// Returns the key of a disk whose value is a number of bytes, if the line sets such a key.
+fn bytes_key(line: &str) -> Option<&'static str> {
+    for setting in &DISK {
+        if setting.kind == Kind::Bytes && sets(line, setting.key) {
+            return Some(setting.key);
+        }
+    }
+    None
+}
+
+/// Returns the complaint about the line with this number, which sets a number of bytes to an amount with a unit; `None` if it
+/// doesn't.
 fn size_complaint(
     alloc: Global,
     name: &str,
     text: &str,
     number: usize,
 ) -> Result<Option<String>, AllocError> {
-    let line = text.lines().nth(number.saturating_sub(1));
-    let Some((value, size)) = line.and_then(size_in) else {
+    let Some(line) = text.lines().nth(number.saturating_sub(1)) else {
+        return Ok(None);
+    };
+    let (Some(key), Some((value, size))) = (bytes_key(line), size_in(line)) else {
         return Ok(None);
     };
     let kind = Kind::Bytes;
-    Ok(Some(format!(in alloc; "{name}, line {number}: size has to be {kind}: {size} for {value}")?))
+    Ok(Some(format!(in alloc;
+        "{name}, line {number}: {key} has to be {kind}: {size} for {value}"
+    )?))
 }
 
 /// Returns how many letters of a word are wrong if it was meant for a key. What a key was called before has none.
@@ -314,8 +331,9 @@ fn wrong_at(
     }
     let place = place_of(alloc, name, text, key)?;
     let place = place.as_str();
-    match text.lines().find_map(size_in) {
-        Some((value, size)) if key == "size" => Ok(Some(format!(in alloc;
+    let line = text.lines().find(|line| sets(line, key));
+    match line.and_then(size_in) {
+        Some((value, size)) if kind == Kind::Bytes => Ok(Some(format!(in alloc;
             "{place}: {key} has to be {kind}: {size} for {value}"
         )?)),
         _ => Ok(Some(format!(in alloc; "{place}: {key} has to be {kind}")?)),

@@ -4,7 +4,7 @@ ghost use Rattle.std.specs.Prelude.{◌≡◌, ◌≢◌, ◌↔◌, IsTrue, Non
 ghost use Rattle.toml.specs.Data.{as_bool, get_member};
 ghost use Rattle.toml.specs.View.{table_view};
 ghost use Rattle.oram_cli.specs.Tables.{Finds, HasNumber, HasText, IsCount, IsName};
-ghost use Rattle.oram_settings.specs.Settings.{HasFlag, HasSealing, IsDeviceOf, IsDisk, IsDocumentOf, IsPlace, IsSocket, OrDefault, default_leaf_load, default_table, first_text, sealing_name, settings_value};
+ghost use Rattle.oram_settings.specs.Settings.{HasFlag, HasSealing, IsDeviceOf, IsDisk, IsDocumentOf, IsPlace, IsSocket, OrDefault, default_leaf_load, default_near, default_table, first_text, sealing_name, settings_value};
 
 use hex::encode;
 use oram_cli::{
@@ -26,6 +26,9 @@ pub const DEFAULT_SLOTS: u64 = 4;
 
 /// The default for the leaf load where a bucket has enough slots for it.
 pub const DEFAULT_LEAF_LOAD: u64 = 5;
+
+/// The greatest default for `near`, in bytes: 64 MiB.
+const MOST_NEAR: u64 = 1 << 26;
 
 /// The default reconnect timeout in seconds.
 const DEFAULT_RECONNECT_TIMEOUT: u64 = 600;
@@ -53,6 +56,8 @@ pub struct DiskSettings {
     /// The most entries that the client's own table may have, which a device calls `top`.
     pub table: u64,
     pub sealer: Sealing,
+    /// How many bytes the near records may have, which the client keeps itself.
+    pub near: u64,
     /// The key from which the disk's other keys are derived.
     pub key: [u8; 32],
     /// Where the host is reached: an address, or `unix:` and the name of a socket, relative to the folder of the settings.
@@ -219,6 +224,13 @@ pub fn default_table(size: u64, block: u64) -> u64
     size.checked_div(block).unwrap_or(0)
 }
 
+/// Returns the default for `near`: 1/32 of the disk's size, and at most [`MOST_NEAR`].
+pub fn default_near(size: u64) -> u64
+    ensures { result ≡ default_near size }
+{
+    (size / 32).min(MOST_NEAR)
+}
+
 fn disk_in(alloc: Global, document: &Table) -> Result<DiskSettings, InputFault>
     ensures { Finds settings_value (IsDisk (table_view document.now)) result }
 {
@@ -231,6 +243,7 @@ fn disk_in(alloc: Global, document: &Table) -> Result<DiskSettings, InputFault>
             "leaf_load",
             "table",
             "sealer",
+            "near",
             "key",
             "host",
             "listen",
@@ -247,6 +260,7 @@ fn disk_in(alloc: Global, document: &Table) -> Result<DiskSettings, InputFault>
     let leaf_load = leaf_load_or(document, slots)?;
     let table = number_or(document, "table", default_table(size, block))?;
     let sealer = sealing_or(document, "sealer", Sealing::ChaCha)?;
+    let near = number_or(document, "near", default_near(size))?;
     let key = key_at(document, "key")?;
     let host = place_at(document, "host")?;
     let listen = place_or(document, "listen", "unix:disk.sock")?;
@@ -260,6 +274,7 @@ fn disk_in(alloc: Global, document: &Table) -> Result<DiskSettings, InputFault>
         leaf_load,
         table,
         sealer,
+        near,
         key,
         host: String::from_str(alloc, host)?,
         listen: String::from_str(alloc, listen)?,
@@ -301,7 +316,8 @@ pub fn disk_text(alloc: Global, size: u64, key: &[u8; 32]) -> Result<String, All
     let key = encode(alloc, key)?;
     let key = key.as_str();
     let table = default_table(size, DEFAULT_BLOCK);
+    let near = default_near(size);
     format!(in alloc;
-        "# The disk's size in bytes. It is fixed once the disk is formatted.\nsize = {size}\n\n# Whoever has this key can read the disk. Without it nobody can.\nkey = \"{key}\"\n\n# Where the host is reached: your end of the tunnel, a socket in this folder, for you alone; or \"127.0.0.1:PORT\", for all users of\n# this machine.\nhost = \"unix:buckets.sock\"\n\n# Each line below shows what holds without it. To set another value, take away the \"# \" that the line begins with.\n\n# These five are fixed once the disk is formatted.\n# block = 4096               # the bytes of a block\n# slots = 4                  # how many blocks a bucket has room for\n# leaf_load = 5              # for how many blocks there is a leaf, which takes two buckets at the host; with fewer than 4 slots it is 1\n# table = {table}             # the most entries of the table that the client keeps; with one for each block the disk has one tree\n# sealer = \"chacha\"          # how buckets are sealed; \"plain\" hides nothing, and is only for trying things out\n\n# These may be changed at any time.\n# listen = \"unix:disk.sock\"  # where the disk is served: a socket in this folder, for you alone; or \"127.0.0.1:PORT\", for all users of this machine\n# state = \"disk.state\"       # the file of the disk's state, in this folder\n# sync = true                # each state is synced before it counts\n# reconnect_timeout = 600    # for how many seconds the client waits for a host that doesn't answer\n"
+        "# The disk's size in bytes. It is fixed once the disk is formatted.\nsize = {size}\n\n# Whoever has this key can read the disk. Without it nobody can.\nkey = \"{key}\"\n\n# Where the host is reached: your end of the tunnel, a socket in this folder, for you alone; or \"127.0.0.1:PORT\", for all users of\n# this machine.\nhost = \"unix:buckets.sock\"\n\n# Each line below shows what holds without it. To set another value, take away the \"# \" that the line begins with.\n\n# These six are fixed once the disk is formatted.\n# block = 4096               # the bytes of a block\n# slots = 4                  # how many blocks a bucket has room for\n# leaf_load = 5              # for how many blocks there is a leaf, which takes two buckets at the host; with fewer than 4 slots it is 1\n# table = {table}             # the most entries of the table that the client keeps; with one for each block the disk has one tree\n# sealer = \"chacha\"          # how buckets are sealed; \"plain\" hides nothing, and is only for trying things out\n# near = {near}            # the most bytes of the tree's top levels that the client itself keeps\n\n# These may be changed at any time.\n# listen = \"unix:disk.sock\"  # where the disk is served: a socket in this folder, for you alone; or \"127.0.0.1:PORT\", for all users of this machine\n# state = \"disk.state\"       # the file of the disk's state, in this folder\n# sync = true                # each state is synced before it counts\n# reconnect_timeout = 600    # for how many seconds the client waits for a host that doesn't answer\n"
     )
 }

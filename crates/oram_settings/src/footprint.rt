@@ -8,7 +8,7 @@ use oram_bucket::{ChaChaSeal, PlainSeal, Sealer};
 use oram_geometry::Device;
 
 /// Returns by how many bytes a bucket gets longer when it is sealed.
-fn overhead_of(sealing: Sealing) -> usize
+pub fn overhead_of(sealing: Sealing) -> usize
     ensures { result ≡ spec.overhead_of sealing }
 {
     match sealing {

@@ -30,6 +30,7 @@ disk.toml has to set size, key and host. It may set more; the defaults are:
   leaf_load = 5              for how many blocks there is a leaf, which takes two buckets at the host; with fewer than 4 slots it is 1
   table = size / block       the most entries of the table that the client keeps; with one for each block the disk has one tree
   sealer = \"chacha\"          how buckets are sealed; \"plain\" hides nothing, and is only for trying things out
+  near = size / 32           the most bytes of the tree's top levels that the client itself keeps; the default is at most 64 MiB
   listen = \"unix:disk.sock\"  where the disk is served: a socket in its folder, for you alone; or \"127.0.0.1:PORT\", for all users
   state = \"disk.state\"       the file of the disk's state, in its folder
   sync = true                each state is synced before it counts
@@ -49,11 +50,12 @@ Examples:
   oramdisk host --new host.toml
   oramdisk host host.toml";
 
-pub(crate) const FORMAT: &str = "Makes the disk on its host, once, and reports its progress";
+pub(crate) const FORMAT: &str =
+    "Makes an empty disk, tells its host of it, and reports its progress";
 
 pub(crate) const FORMAT_MORE: &str =
     "The host has to be running and reached at the address that the settings name. Each setting is described in the disk.toml
-that 'oramdisk new' writes.
+that 'oramdisk new' writes. If it was broken off, say it once more: it goes on, as long as the disk wasn't used.
 
 Example:
   oramdisk format mydisk/disk.toml";

@@ -5,14 +5,14 @@ ghost use Rattle.oram_settings.specs.Progress as spec;
 
 use std::alloc::{AllocError, Global};
 
-/// What takes long.
+/// What takes long. All of it is counted in records.
 #[derive(Clone, Copy, Debug, PartialEq, Eq)]
 pub enum LongWork {
-    /// A formatting, which is counted in messages.
+    /// A formatting.
     Formatting,
     /// A check of all records.
     Checking,
-    /// An export of all blocks, which is counted in records too.
+    /// An export of all blocks.
     Exporting,
 }
 
@@ -24,16 +24,6 @@ impl LongWork {
             LongWork::Formatting => "formatting",
             LongWork::Checking => "checking",
             LongWork::Exporting => "exporting",
-        }
-    }
-
-    /// Returns what it is counted in.
-    fn unit(self) -> &'static str
-        ensures { result.now ≡ spec.unit self }
-    {
-        match self {
-            LongWork::Formatting => "messages",
-            LongWork::Checking | LongWork::Exporting => "records",
         }
     }
 }
@@ -66,8 +56,7 @@ fn so_far(alloc: Global, work: LongWork, done: u64, of: u64) -> Result<String, A
 {
     let name = work.name();
     let percent = percent(done, of);
-    let unit = work.unit();
-    format!(in alloc; "{name}: {percent} % ({done} of {of} {unit})")
+    format!(in alloc; "{name}: {percent} % ({done} of {of} records)")
 }
 
 /// Returns a text that says how far the work has come, and how long the rest takes.
@@ -82,9 +71,8 @@ fn with_time_left(
 {
     let name = work.name();
     let percent = percent(done, of);
-    let unit = work.unit();
     let left = seconds_left(done, of, milliseconds);
-    format!(in alloc; "{name}: {percent} % ({done} of {of} {unit}), {left} s left")
+    format!(in alloc; "{name}: {percent} % ({done} of {of} records), {left} s left")
 }
 
 /// Returns a text that says how far the work has come, and after its first second also how long the rest takes.

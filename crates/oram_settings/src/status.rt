@@ -1,9 +1,12 @@
 //! The status of a disk.
 
-ghost use Rattle.std.specs.Prelude.{◌≡◌, IfOk, string_bytes};
+ghost use Rattle.std.specs.Prelude.{◌≡◌, ◌≤◌, IfOk, string_bytes};
+ghost use Rattle.oram_geometry.specs.Sizes.{depth_of};
+ghost use Rattle.oram_settings.specs.NearRecords.{near_len};
 ghost use Rattle.oram_settings.specs.Status as spec;
 
 use crate::amounts::counted;
+use crate::near_records::near_len;
 use oram_bucket::Sealer;
 use oram_core::{Core, Reason};
 use serde::Serialize;
@@ -18,6 +21,8 @@ pub struct Status {
     pub trees: u8,
     /// The number of blocks in the stashes of its trees, which the client keeps itself.
     pub stash: u64,
+    /// The number of bytes of its near records, which the client keeps itself.
+    pub near: u64,
     /// The number of accesses: one for each command that was accepted, including those that wait.
     pub accesses: u64,
     /// The greatest number of accesses that a disk ever makes.
@@ -39,9 +44,10 @@ fn stashed<S: Sealer>(core: &Core<S>) -> u64
     blocks
 }
 
-/// Returns the status of the disk of a core.
-pub fn status_of<S: Sealer>(core: &Core<S>) -> Status
-    ensures { result ≡ spec.stands_as core.now.device core.now.state }
+/// Returns the status of the disk of a core, which has so many near levels.
+pub fn status_of<S: Sealer>(core: &Core<S>, levels: u8) -> Status
+    requires { levels ≤ depth_of core.now.device 0 }
+    ensures { result ≡ spec.stands_as core.now.device (near_len core.now.device (S.cipher core.now.sealer).overhead levels) core.now.state }
 {
     let device = core.device();
     let trees = device.trees();
@@ -51,6 +57,7 @@ pub fn status_of<S: Sealer>(core: &Core<S>) -> Status
         block_bytes: device.block_bytes() as u64,
         trees,
         stash: stashed(core),
+        near: near_len(device, core.overhead(), levels),
         accesses: core.next_ticket(),
         lifetime: device.lifetime(),
         waiting: core.waiting() as u64,
@@ -87,13 +94,15 @@ pub fn report(alloc: Global, status: &Status) -> Result<String, AllocError>
     let trees = status.trees;
     let stash = counted(alloc, status.stash, "block")?;
     let stash = stash.as_str();
+    let near = counted(alloc, status.near, "byte")?;
+    let near = near.as_str();
     let accesses = status.accesses;
     let left = status.lifetime.saturating_sub(accesses);
     let waiting = status.waiting;
     let failing = failure_text(alloc, status.failure)?;
     let failing = failing.as_str();
     format!(in alloc;
-        "size: {size} bytes, {blocks} of {block_bytes}\ntrees: {trees}\nstash: {stash}\naccesses: {accesses} made, {left} left\nwaiting: {waiting}\nstate: {failing}\n"
+        "size: {size} bytes, {blocks} of {block_bytes}\ntrees: {trees}\nstash: {stash}\nnear: {near}\naccesses: {accesses} made, {left} left\nwaiting: {waiting}\nstate: {failing}\n"
     )
 }
 
@@ -106,6 +115,7 @@ struct JsonReport<'a> {
     block: u64,
     trees: u8,
     stash: u64,
+    near: u64,
     accesses: u64,
     accesses_left: u64,
     waiting: u64,
@@ -129,6 +139,7 @@ pub fn report_json(
         block: status.block_bytes,
         trees: status.trees,
         stash: status.stash,
+        near: status.near,
         accesses: status.accesses,
         accesses_left: status.lifetime.saturating_sub(status.accesses),
         waiting: status.waiting,

@@ -2,23 +2,24 @@
 
 ghost use Rattle.std.specs.Prelude.{◌≡◌, IfOk, true};
 ghost use Rattle.oram_core.specs.Core.{IsNotedSince};
-ghost use Rattle.oram_keeper.specs.Process.{IsFoundIn, kept_table};
+ghost use Rattle.oram_keeper.specs.Process.{IsFoundIn, kept_records, kept_table};
 ghost use Rattle.oram_kept.specs.Text.{Parts};
 
 use crate::clients::{ClientAttendant, ClientLook, Dismissal};
 use crate::watched_disk::{FailureKeeper, WatchedDisk};
 use oram_bucket::Sealer;
-use oram_client::{Keys, SystemFiles};
+use oram_client::{Dial, HostWatch, Keys, ReconnectLink, SystemFiles};
 use oram_core::{Core, Reason};
 use oram_disk_client::{
-    DiskSealer, HostLink, KeptDisk, LockedDisk, ReachedCore, Stop, UnfailedDisk, disk_in,
-    keep_failure, keys_in, link_to, process_for, reached, sealer_in, stop_fault, tape_for,
+    DiskSealer, KeptDisk, LockedDisk, ReachedCore, Stop, UnfailedDisk, disk_in, keep_failure,
+    keys_in, link_to, process_for, reached, sealer_in, stop_fault, tape_for,
 };
 use oram_disk_host::{Fault, FaultKind, listen_at, not_accepted, time};
 use oram_keeper::{FoundProcess, PairKeeper};
 use oram_nbd::{BlockDevice, DiskFault, NbdFault, is_stop, serve};
+use oram_near::{FormattedRecords, NearLink};
 use oram_redo::SystemPair;
-use oram_rounds::{BatchLink, Keeper, KeptCore};
+use oram_rounds::{BatchLink, Keeper, KeptCore, RoundLink};
 use oram_session::{ChaChaTape, Tape};
 use oram_settings::{DiskSettings, counted, failure_text, relative_to, serving_text};
 use oram_sockets::{Connection, Listener, Look, Peer, listen_at_path, watch};
@@ -231,26 +232,35 @@ fn serve_clients<D: BlockDevice>(
 type DiskKeeper = PairKeeper<SystemPair>;
 
 /// A core with the keeper of its state and the link to its host.
-type DiskVolume<'a, S> = Volume<S, HostLink<'a>, DiskKeeper, ChaChaTape>;
+type DiskVolume<S, D, W> = Volume<
+    S,
+    NearLink<ReconnectLink<D, W>, FormattedRecords<S>>,
+    DiskKeeper,
+    ChaChaTape,
+>;
 
 /// Returns why a disk stopped.
-fn stopped<S: Sealer>(alloc: Global, volume: &DiskVolume<'_, S>, settings: &DiskSettings) -> Fault {
+fn stopped<S: Sealer, D: Dial + Drop, W: HostWatch + Drop>(
+    alloc: Global,
+    volume: &DiskVolume<S, D, W>,
+    settings: &DiskSettings,
+) -> Fault {
     let stop = Stop {
         unkept: volume.keeper.failure(),
         is_used_up: volume.core.next_ticket() >= volume.core.device().lifetime(),
         has_failed: volume.core.failure().is_some(),
-        trouble: volume.link.inner().trouble(),
+        trouble: volume.link.inner().inner().trouble(),
     };
     stop_fault(alloc, settings, stop)
 }
 
-/// Serves a disk until it stops, and returns why. It first carries out the commands that still wait from before.
-fn serve_volume<S: Sealer>(
+/// Serves a disk until it stops, and returns it. It first carries out the commands that still wait from before.
+fn serve_volume<S: Sealer, B: BatchLink + Drop>(
     rt: &HostRuntime,
     settings: &DiskSettings,
     clients: &Clients,
-    mut volume: DiskVolume<'_, S>,
-) -> Result<(), Fault> {
+    mut volume: Volume<S, B, DiskKeeper, ChaChaTape>,
+) -> Result<Volume<S, B, DiskKeeper, ChaChaTape>, Fault> {
     let alloc = rt.alloc();
     let resumed = volume.resume(alloc);
     let state = String::from_str(alloc, settings.state.as_str())?;
@@ -268,13 +278,14 @@ fn serve_volume<S: Sealer>(
         Err(DiskFault::Failed | DiskFault::Stopped | DiskFault::Interrupted) => {}
         Err(DiskFault::OutOfMemory) => return Err(Fault::OutOfMemory),
     }
-    Err(stopped(alloc, &disk.disk, settings))
+    Ok(disk.disk)
 }
 
 /// Tells a core which entries of its table may differ from the one in the files: none, if its table is that one, so that the first keeping
 /// doesn't write all of it again.
 fn note_table<S: Sealer>(core: &mut Core<S>, found: &FoundProcess)
-    ensures { (p : Parts) → IsFoundIn found.now p → IsNotedSince p.table core.new }
+    ensures noted { (p : Parts) → IsFoundIn found.now p → IsNotedSince p.table core.new }
+    ensures same { core.new ≡ record core.old { noted = core.new.noted } }
 {
     if found.has_table(core.table()) {
         core.forget_changes();
@@ -283,46 +294,97 @@ fn note_table<S: Sealer>(core: &mut Core<S>, found: &FoundProcess)
     core.note_any_change();
 }
 
+/// A process that was kept, with the records that its link had kept, and what seals its buckets.
+#[derive(Drop)]
+struct KeptProcess<S: Sealer> {
+    kept: KeptCore<S>,
+    records: Vec<u8>,
+    sealer: S,
+}
+
 /// Decodes the process that is kept of a disk, whose settings are in the file `name`.
-fn process_of<S: Sealer>(
+fn process_of<S: Sealer + Copy>(
     alloc: Global,
     settings: &DiskSettings,
     name: &str,
     keeper: &DiskKeeper,
     kept: KeptDisk,
     sealer: S,
-) -> Result<KeptCore<S>, Fault>
-    requires { (p : Parts) × IsFoundIn kept.process p × (p.table ≡ kept_table keeper.now) }
-    ensures { IfOk result (λ process. IsNotedSince (kept_table keeper.now) process.core) }
+) -> Result<KeptProcess<S>, Fault>
+    requires table { (p : Parts) × IsFoundIn kept.process p × (p.table ≡ kept_table keeper.now) }
+    requires records { kept.process.records.items ≡ kept_records keeper.now }
+    ensures table { IfOk result (λ process. IsNotedSince (kept_table keeper.now) process.kept.core) }
+    ensures records { IfOk result (λ process. process.records.items ≡ kept_records keeper.now) }
+    ensures sealer { IfOk result (λ process. process.kept.core.sealer ≡ process.sealer) }
 {
     let mut process = process_for(alloc, settings, name, &kept, sealer)?;
     note_table(&mut process.core, &kept.process);
-    Ok(process)
+    Ok(KeptProcess {
+        kept: process,
+        records: kept.process.records,
+        sealer,
+    })
 }
 
-/// Serves the disk of a process that was kept, until it stops. The process goes on with `keeper`, which holds the files open that
-/// the process was read from.
+/// Puts the parts of a disk together. The core and the link below tell of all that differs from what the keeper has kept last.
+fn volume_of<S: Sealer, B: BatchLink>(
+    core: Core<S>,
+    link: RoundLink<B>,
+    keeper: DiskKeeper,
+    tape: ChaChaTape,
+) -> Volume<S, B, DiskKeeper, ChaChaTape>
+    requires table { IsNotedSince (kept_table keeper) core }
+    requires records { B.tells link.inner (kept_records keeper) }
+{
+    Volume {
+        core,
+        link,
+        keeper,
+        tape,
+    }
+}
+
+/// Serves the disk of a process that was kept, over a link to its host, until it stops. The process goes on with `keeper`, which holds the
+/// files open that the process was read from.
+fn serve_over<S: Sealer, D: Dial + Drop, W: HostWatch + Drop>(
+    rt: &HostRuntime,
+    settings: &DiskSettings,
+    clients: &Clients,
+    keeper: DiskKeeper,
+    keys: &Keys,
+    process: KeptProcess<S>,
+    link: ReconnectLink<D, W>,
+) -> Result<(), Fault>
+    requires table { IsNotedSince (kept_table keeper) process.kept.core }
+    requires records { process.records.items ≡ kept_records keeper }
+    requires sealer { process.kept.core.sealer ≡ process.sealer }
+{
+    let KeptProcess {
+        kept,
+        records,
+        sealer,
+    } = process;
+    let ReachedCore { core, link } = reached(rt.alloc(), link, settings, kept, records, sealer)?;
+    let tape = tape_for(keys, core.device());
+    let volume = serve_volume(rt, settings, clients, volume_of(core, link, keeper, tape))?;
+    Err(stopped(rt.alloc(), &volume, settings))
+}
+
+/// Serves the disk of a process that was kept, until it stops.
 fn serve_process<S: Sealer>(
     rt: &HostRuntime,
     settings: &DiskSettings,
     clients: &Clients,
     keeper: DiskKeeper,
     keys: &Keys,
-    kept: KeptCore<S>,
+    process: KeptProcess<S>,
 ) -> Result<(), Fault>
-    requires { IsNotedSince (kept_table keeper) kept.core }
+    requires table { IsNotedSince (kept_table keeper) process.kept.core }
+    requires records { process.records.items ≡ kept_records keeper }
+    requires sealer { process.kept.core.sealer ≡ process.sealer }
 {
-    let alloc = rt.alloc();
-    let link = link_to(rt, settings, keys, &kept, MEANWHILE)?;
-    let ReachedCore { core, link } = reached(alloc, link, settings, kept)?;
-    let tape = tape_for(keys, core.device());
-    let volume = Volume {
-        core,
-        link,
-        keeper,
-        tape,
-    };
-    serve_volume(rt, settings, clients, volume)
+    let link = link_to(rt, settings, keys, &process.kept, MEANWHILE)?;
+    serve_over(rt, settings, clients, keeper, keys, process, link)
 }
 
 /// Where clients connect.

@@ -5,10 +5,10 @@
 mod arrivals;
 mod batches;
 mod connections;
-mod disk_formats;
 mod endings;
 mod far_end;
 mod heads;
+mod introductions;
 mod keepers;
 mod links;
 mod stamps;
@@ -44,7 +44,7 @@ impl Table for Calls {
             "volume" => self.volumes.answer(alloc, name, words, page),
             "disk" => keepers::answer(alloc, name, words, page),
             "link" => links::answer(alloc, name, words, page),
-            "format" => disk_formats::answer(alloc, name, words, page),
+            "introduce" => introductions::answer(alloc, name, words, page),
             "stamps" => stamps::answer(alloc, name, words, page),
             _ => Err(RowFault::NoRow),
         }

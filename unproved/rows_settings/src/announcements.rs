@@ -11,7 +11,7 @@ use rows::{Page, RowFault, RowWords};
 use std::alloc::Global;
 
 /// `says amount BYTES`, `says size BYTES`, `says no-size TEXT`, `says counted COUNT NAME`, `says stored SIZE BLOCK SLOTS LEAF-LOAD
-/// TABLE SEALER`, `says made FOLDER SIZE STORED`, `says begun STORED HOST`, `says hosting FILE LISTEN`, `says serving SIZE URI`, and,
+/// TABLE SEALER`, `says made FOLDER SIZE STORED NEAR`, `says begun STORED`, `says hosting FILE LISTEN`, `says serving SIZE URI`, and,
 /// about the text of a file, `says bad-disk NAME TEXT`, `says bad-host NAME TEXT` and `says bad-numbers NAME TEXT`: writes
 /// what `oramdisk` prints.
 pub fn says(alloc: Global, words: &mut RowWords, page: &mut Page) -> Result<(), RowFault> {
@@ -22,8 +22,14 @@ pub fn says(alloc: Global, words: &mut RowWords, page: &mut Page) -> Result<(), 
         "counted" => counted(alloc, words.number(), words.text())?,
         "stored" => amount_text(alloc, stored(words)?)?,
         "no-size" => size_mistake(alloc, words.all())?,
-        "made" => made_text(alloc, words.text(), words.number(), words.number())?,
-        "begun" => begun_text(alloc, words.number(), words.text())?,
+        "made" => made_text(
+            alloc,
+            words.text(),
+            words.number(),
+            words.number(),
+            words.number(),
+        )?,
+        "begun" => begun_text(alloc, words.number())?,
         "hosting" => hosting_text(alloc, words.text(), words.text())?,
         "serving" => serving_text(alloc, words.number(), words.text())?,
         "bad-disk" => disk_complaint(alloc, words.text(), words.lines(alloc).as_str())?,

@@ -3,13 +3,14 @@
 use crate::tables::read_or_bad;
 use oram_geometry::Device;
 use oram_settings::{
-    DiskSettings, Sealing, device_of, disk_text, first_difference, read_disk_settings,
+    DiskSettings, FixedKey, Sealing, device_of, disk_text, first_difference, near_len, near_levels,
+    overhead_of, read_disk_settings, value_text,
 };
 use rows::{Page, RowFault, RowWords};
 use std::alloc::Global;
 
-/// `disk TEXT`: writes the settings in a document: size, block, slots, leaf load, table, sealer, key, host, listen, state, sync
-/// and the reconnect timeout.
+/// `disk TEXT`: writes the settings in a document: size, block, slots, leaf load, table, sealer, near, key, host, listen, state,
+/// sync and the reconnect timeout.
 pub fn disk(alloc: Global, words: &mut RowWords, page: &mut Page) -> Result<(), RowFault> {
     let text = words.lines(alloc);
     put_settings(alloc, text.as_str(), page)
@@ -35,6 +36,7 @@ fn put_numbers(settings: &DiskSettings, page: &mut Page) {
         Sealing::Plain => "plain",
         Sealing::ChaCha => "chacha",
     });
+    page.number(settings.near);
     page.bytes(&settings.key);
 }
 
@@ -110,8 +112,21 @@ fn sealing_in(words: &mut RowWords) -> Result<Sealing, RowFault> {
     }
 }
 
-/// `differs SIZE BLOCK SLOTS LEAF-LOAD TABLE SEALER SIZE BLOCK SLOTS LEAF-LOAD TABLE SEALER`: writes the first key at which the
-/// first settings differ from the second ones, with which a disk was formatted.
+/// `near SIZE BLOCK SLOTS LEAF-LOAD TABLE SEALER BYTES`: writes how many near levels such a disk has if its near records may have so
+/// many bytes, and how many bytes they have.
+pub fn near(words: &mut RowWords, page: &mut Page) -> Result<(), RowFault> {
+    let Some(device) = device_in(words) else {
+        return Err(RowFault::NoRow);
+    };
+    let overhead = overhead_of(sealing_in(words)?);
+    let levels = near_levels(&device, overhead, words.number());
+    page.number(levels);
+    page.number(near_len(&device, overhead, levels));
+    Ok(())
+}
+
+/// `differs SIZE BLOCK SLOTS LEAF-LOAD TABLE SEALER NEAR SIZE BLOCK SLOTS LEAF-LOAD TABLE SEALER LEVELS`: writes the first key at
+/// which settings differ from those with which a disk was formatted, and what it was then. The disk has LEVELS near levels.
 pub fn differs(alloc: Global, words: &mut RowWords, page: &mut Page) -> Result<(), RowFault> {
     let settings = DiskSettings {
         size: words.number(),
@@ -120,6 +135,7 @@ pub fn differs(alloc: Global, words: &mut RowWords, page: &mut Page) -> Result<(
         leaf_load: words.number(),
         table: words.number(),
         sealer: sealing_in(words)?,
+        near: words.number(),
         key: [0; 32],
         host: String::new(alloc),
         listen: String::new(alloc),
@@ -131,12 +147,31 @@ pub fn differs(alloc: Global, words: &mut RowWords, page: &mut Page) -> Result<(
         return Err(RowFault::NoRow);
     };
     let sealing = sealing_in(words)?;
-    match first_difference(&settings, &device, sealing) {
-        Some(key) => {
-            let key = format!(in alloc; "{key}")?;
-            page.word(key.as_str());
+    let levels = words.byte();
+    match first_difference(&settings, &device, sealing, levels) {
+        Some(key) => put_difference(alloc, key, &device, sealing, levels, page),
+        None => {
+            page.word("none");
+            Ok(())
         }
-        None => page.word("none"),
     }
+}
+
+/// Writes a key of the settings, and what it was when a disk was formatted.
+fn put_difference(
+    alloc: Global,
+    key: FixedKey,
+    device: &Device,
+    sealing: Sealing,
+    levels: u8,
+    page: &mut Page,
+) -> Result<(), RowFault> {
+    if device.depth(0) < levels {
+        return Err(RowFault::NoRow);
+    }
+    let name = format!(in alloc; "{key}")?;
+    page.word(name.as_str());
+    let was = value_text(alloc, key, device, sealing, levels)?;
+    page.word(was.as_str());
     Ok(())
 }

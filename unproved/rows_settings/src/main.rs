@@ -38,6 +38,7 @@ impl Table for Calls {
             "says" => announcements::says(alloc, words, page),
             "disk" => disks::disk(alloc, words, page),
             "device" => disks::device(words, page),
+            "near" => disks::near(words, page),
             "differs" => disks::differs(alloc, words, page),
             "first-settings" | "first-settings-set" => {
                 disks::first_settings(alloc, call, words, page)

@@ -45,7 +45,7 @@ pub fn due(
     Ok(())
 }
 
-/// Reads BLOCKS BLOCK_BYTES TREES STASH ACCESSES LIFETIME WAITING FAILURE .., where the failure is `sound`, `malformed`,
+/// Reads BLOCKS BLOCK_BYTES TREES STASH NEAR ACCESSES LIFETIME WAITING FAILURE .., where the failure is `sound`, `malformed`,
 /// `tampered TREE LEVEL` or `refused CODE`.
 fn status(words: &mut RowWords) -> Result<Status, RowFault> {
     Ok(Status {
@@ -53,6 +53,7 @@ fn status(words: &mut RowWords) -> Result<Status, RowFault> {
         block_bytes: words.number(),
         trees: words.byte(),
         stash: words.number(),
+        near: words.number(),
         accesses: words.number(),
         lifetime: words.number(),
         waiting: words.number(),

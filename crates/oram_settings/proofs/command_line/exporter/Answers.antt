@@ -1,5 +1,5 @@
 use Rattle.std.proofs.Common.{◌∙◌, ap, ap₂}
-use Rattle.std.proofs.lemmas.Result.{IfOk-from_err, IfOk-weaker}
+use Rattle.std.proofs.lemmas.Result.{IfOk-weaker}
 use Rattle.clap.specs.Simple.{App, with_rule}
 use Rattle.oram_settings.proofs.Arguments.{about_local, after_help_local, arg_local, version_local, with_about, with_after_help, with_arg, with_version}
 use Rattle.oram_settings.proofs.command_line.exporter.Goals as goal

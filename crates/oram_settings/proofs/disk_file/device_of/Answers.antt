@@ -1,4 +1,4 @@
-use Rattle.std.proofs.Common.{◌≡◌, ◌∙◌, ℕ, ◌*◌, ◌/◌, ◌<◌, ◌^◌, Result, Ok, Err, None, Some, ap, arith, sym}
+use Rattle.std.proofs.Common.{◌≡◌, ◌∙◌, ℕ, ◌*◌, ◌/◌, ◌<◌, ◌^◌, Result, Ok, Err, None, ap, arith, sym}
 use Rattle.std.specs.Result.{result_ok}
 use Rattle.oram_geometry.specs.Sizes.{device_of}
 use Rattle.oram_settings.proofs.disk_file.device_of.Goals as goal

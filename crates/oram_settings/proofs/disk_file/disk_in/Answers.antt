@@ -1,5 +1,5 @@
 use Rattle.std.proofs.lemmas.Result.{err_from_is_err_and}
-use Rattle.oram_settings.proofs.Tables.{no_disk, no_load, no_table}
+use Rattle.oram_settings.proofs.Tables.{no_disk, no_load, no_near, no_table}
 use Rattle.oram_settings.proofs.disk_file.disk_in.Goals as goal
 
 pub returns-in_err-size : goal.returns-in_err-size
@@ -31,6 +31,11 @@ pub returns-in_err-sealer : goal.returns-in_err-sealer
 returns-in_err-sealer c =
     let p = err_from_is_err_and c.from_residual-in_err-sealer.result c.from_residual-in_err-sealer.ensures.1 in
     rw (p.1, p.2) (no_disk _ _ c.in_err-sealer.ensures (λ s. s.sealer) (λ s h. h.sealer))
+
+pub returns-in_err-near : goal.returns-in_err-near
+returns-in_err-near c =
+    let p = err_from_is_err_and c.from_residual-in_err-near.result c.from_residual-in_err-near.ensures.1 in
+    rw (p.1, p.2) (no_near _ _ _ _ c.in_ok-size.ensures c.default_near.ensures c.in_err-near.ensures)
 
 pub returns-in_err-key : goal.returns-in_err-key
 returns-in_err-key c =
