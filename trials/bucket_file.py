@@ -66,6 +66,13 @@ class BucketFile:
         """The length of a node's cell: a byte that says that there is a record, and the record; an even number."""
         return (record_len + 2) // 2 * 2
 
+    def set_there(self, tree, node, is_there):
+        """From now on the file has the record that lies in a node's cell, or has none of that node."""
+        _, record_len, base = self.trees()[tree]
+        with open(self.file, "r+b") as file:
+            file.seek(base + node * self.cell_len(record_len))
+            file.write(bytes([is_there]))
+
     def flip(self, tree, node):
         """Changes one bit of a node's record."""
         _, record_len, base = self.trees()[tree]

@@ -55,6 +55,11 @@ def is_a(kind, body):
     return body[:1] == bytes([kind])
 
 
+def is_store(body):
+    """Whether a message stores a path, or some levels of one."""
+    return is_a(STORE, body) or is_a(STORE_LEVELS, body)
+
+
 def path(depth, leaf):
     """The nodes from the root to a leaf."""
     return [(1 << level) - 1 + (leaf >> (depth - level)) for level in range(depth + 1)]

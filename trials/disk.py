@@ -4,11 +4,14 @@ import json
 import re
 import signal
 import subprocess
+import time
+import tomllib
 from contextlib import suppress
 
 from trials.bucket_file import BucketFile, log_of
 from trials.bucket_host import Host
 from trials.connections import connect
+from trials.formats.sizes import Sizes
 from trials.kept_files import KeptFiles
 from trials.nbd_client import NbdClient
 from trials.ports import free_port
@@ -50,6 +53,23 @@ class Disk:
         """Puts values into disk.toml."""
         put_values(self.folder / "disk.toml", values)
 
+    def settings(self):
+        """The values in its settings."""
+        return tomllib.loads(self.settings_file.read_text())
+
+    def sizes(self):
+        """Its sizes, with the defaults of what its settings leave out."""
+        said = self.settings()
+        block, slots = said.get("block", BLOCK), said.get("slots", 4)
+        blocks = said["size"] // block
+        leaf_load = said.get("leaf_load", 5 if slots > 3 else 1)
+        return Sizes(blocks, block, slots, leaf_load, said.get("table", blocks), said.get("sealer") != "plain")
+
+    def near_levels(self):
+        """How many levels of tree 0 the client keeps itself."""
+        sizes = self.sizes()
+        return sizes.near_levels(self.settings().get("near", sizes.default_near()))
+
     def host_address(self):
         """The address by which it reaches its host: that of the relay."""
         return f"127.0.0.1:{self.relay.port}"
@@ -70,12 +90,32 @@ class Disk:
         self.start_host()
         end = end_of(self.format())
         self.trial.check(f"{self.name}: format", (end.status, end.out) == (0, b""), end)
-        lines = end.err.decode().splitlines()
-        begun = re.compile(rf"oramdisk: formatting: about \S+ \S+ go to the host at 127\.0\.0\.1:{self.relay.port}, which stores all of it")
-        form = re.compile(r"oramdisk: formatting: \d+ % \(\d+ of \d+ messages\)(, \d+ s left)?")
+        self.check_progress(end.err.decode().splitlines())
+        return self
+
+    def check_progress(self, lines):
+        """A formatting that hashes the records of the disk has reported its progress in these lines."""
+        begun = re.compile(r"oramdisk: formatting: about \S+ \S+ of empty records are hashed here, and none of them is sent")
+        form = re.compile(r"oramdisk: formatting: \d+ % \(\d+ of \d+ records\)(, \d+ s left)?")
         holds = lines and begun.fullmatch(lines[0]) and all(map(form.fullmatch, lines[1:])) and " 100 % " in lines[-1]
         self.trial.check(f"{self.name}: its progress", holds, lines)
-        return self
+
+    def introduced_again(self, what):
+        """Formats the disk once more, which has its state already and was never used: it is introduced to its host, and nothing is hashed."""
+        end = end_of(self.format())
+        self.trial.check(what, (end.status, end.out, end.err) == (0, b"", b""), end)
+
+    def take_state_away(self):
+        """Removes the files of its state."""
+        for file in self.kept.read():
+            file.unlink()
+
+    def name_new_host_file(self, name):
+        """Removes its state, and goes on with a new file of its host."""
+        self.take_state_away()
+        self.host.stop()
+        self.host.file = name
+        self.start_host()
 
     def serve(self, under=(), socket_name=None):
         """Serves it at a new port or at a Unix socket in its folder, and under a program that watches the process if one is named."""
@@ -109,6 +149,13 @@ class Disk:
     def lines(self):
         """The lines that the processes that served it have printed."""
         return (self.folder / "serve.log").read_text().splitlines()
+
+    def wait_for_lines(self, text, count):
+        """Waits until the processes that served it have printed so many lines with this text. Returns these lines."""
+        begun = time.monotonic()
+        while len(found := [line for line in self.lines() if text in line]) < count and time.monotonic() < begun + LONGEST_WAIT:
+            time.sleep(0.02)
+        return found
 
     def connect(self):
         """A connection to it, before its handshake."""
@@ -148,6 +195,7 @@ class Disk:
             "size": f"{told['size']} bytes, {counted(told['blocks'], 'block')} of {told['block']}",
             "trees": str(told["trees"]),
             "stash": counted(told["stash"], "block"),
+            "near": counted(told["near"], "byte"),
             "accesses": f"{told['accesses']} made, {told['accesses_left']} left",
             "waiting": str(told["waiting"]),
             "state": told["failure"] or "it is sound",

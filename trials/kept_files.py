@@ -14,6 +14,8 @@ HEAD_AT, TABLE_AT, PAGE_LEN, NUMBERS = 4096, 8192, 1024, 254
 ON_PAGE = 4 * NUMBERS
 # A log whose entries have more bytes is emptied before the next keeping.
 LONG_LOG = 64 << 20
+# The names of the two files of a state.
+STATE = ["disk.state", "disk.state-log"]
 # The salt, the key check and the sealer's byte, which stand before the text of the process.
 TITLE_LEN = 65
 
@@ -41,6 +43,10 @@ class KeptFiles:
     def left(self):
         """The names of what is in the place of these files, or lies where they are made or copied."""
         return sorted(path.name for file in (self.state, self.log) for path in (file, file.with_name(f"{file.name}.unfinished")) if os.path.lexists(path))
+
+    def records_len(self):
+        """How many bytes the records have: near records, and digests of the formatting."""
+        return struct.unpack_from("<Q", replayed(self.state.read_bytes(), self.log.read_bytes()), HEAD_AT + 24)[0]
 
     def text(self):
         """The title, and the text of the process behind it: what the file holds once the entries of the log are written to their places."""

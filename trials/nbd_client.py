@@ -31,8 +31,8 @@ class Request(NamedTuple):
         kind = dice.choice([WRITE, WRITE, WRITE, TRIM, ZEROES, READ, FLUSH])
         if kind == FLUSH:
             return cls(FLUSH)
-        length = dice.choice([1, 17, 512, 4096, 8192, dice.randrange(1, 20000)])
-        offset = dice.randrange(size - length)
+        length = min(size, dice.choice([1, 17, 512, 4096, 8192, dice.randrange(1, 20000)]))
+        offset = dice.randrange(size - length + 1)
         return cls(WRITE, offset, length, dice.randbytes(length), dice.choice([0, 1])) if kind == WRITE else cls(kind, offset, length)
 
 

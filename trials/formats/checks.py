@@ -4,6 +4,7 @@ import hashlib
 
 from trials.formats.ciphers import Tape, derived
 from trials.formats.host_files import opened, read_buckets
+from trials.formats.made_records import MadeRecords
 from trials.formats.reader import Reader
 from trials.formats.sizes import IDENTITY_TREE, STAMP_TREE, node_of
 
@@ -17,9 +18,11 @@ class Reading:
         """`last` has, for each block of each tree, the ticket of the last command to it."""
         self.tally, self.name, self.contents, self.last = tally, name, contents, last
         self.state, self.buckets = disk.state(), read_buckets(disk.folder / "buckets")
+        self.sizes, self.key, self.near = self.state.sizes, disk.key(), disk.near_levels()
+        self.buckets.lay_near(self.state.near)
         for store in self.state.stores:
             self.buckets.lay(store)
-        self.sizes, self.key = self.state.sizes, disk.key()
+        self.buckets.made = MadeRecords(self.sizes, self.derived(b"vidlaqe bucket key")).records
         self.tape = Tape(self.derived(b"vidlaqe tape key"), len(self.sizes.trees()))
 
     def derived(self, purpose):
@@ -28,12 +31,14 @@ class Reading:
     def check(self, what, holds, seen=""):
         self.tally.check(f"{self.name}: {what}", holds, seen)
 
-    def run(self, accepted):
-        """All checks, given how many commands were accepted."""
-        self.check_head(accepted)
+    def run(self, addresses):
+        """All checks, given the addresses of all commands that were accepted, in their order."""
+        self.check_head(len(addresses))
         self.check_stores()
         self.check_stamps()
         self.check_places()
+        self.check_kept_records()
+        self.check_reached(addresses[: len(addresses) - len(self.state.waiting)])
         found = [self.check_tree(tree) for tree in range(len(self.sizes.trees()))]
         self.check_nonces([nonce for nonces, _ in found for nonce in nonces])
         self.check_leaves([blocks for _, blocks in found])
@@ -77,6 +82,37 @@ class Reading:
         self.check("its places", inside[0][0] == 8192 and all(place % 2 == 0 for place, _ in inside), inside)
         self.check("places that lie apart", all(end <= place for (_, end), (place, _) in zip(inside, inside[1:])), inside)
 
+    def check_kept_records(self):
+        """The state has the near records, and of each upper node the digests of its children's records. Before the first command the near records
+        are those of the formatting."""
+        made, near = self.buckets.made, self.state.near
+        self.check("its near records", len(near) == 2**self.near - 1, (len(near), self.near))
+        kept = {(tree, node): digests for tree, nodes in enumerate(self.state.digests) for node, digests in enumerate(nodes)}
+        wrong = [place for place, digests in kept.items() if made[place][-64:] != digests]
+        self.check("its digests of the formatting", not wrong, wrong)
+        if not self.state.accepted:
+            self.check("its near records of the formatting", near == [made[0, node] for node in range(len(near))])
+
+    def check_reached(self, addresses):
+        """The host has the records of the paths that these commands have stored, below the near levels, and no others."""
+        wanted = [set() for _ in self.sizes.trees()]
+        for leaves in self.leaves_shown(addresses):
+            for tree, (leaf, depth) in enumerate(zip(leaves, self.sizes.depths())):
+                wanted[tree].update(node_of(depth, leaf, level) for level in range(0 if tree else self.near, depth + 1))
+        found = [self.buckets.nodes(tree) for tree in range(len(wanted))]
+        self.check("the records that the host has", found == wanted, (found, wanted))
+
+    def leaves_shown(self, addresses):
+        """The leaves that each of these commands has fetched and stored, one of each tree."""
+        shown, depths = {}, self.sizes.depths()
+        for ticket, address in enumerate(addresses):
+            leaves = []
+            for tree, (spare, new) in enumerate(self.tape.words(ticket)):
+                leaves.append(shown.get((tree, address), spare) % 2 ** depths[tree])
+                shown[tree, address] = new
+                address //= self.sizes.entries()
+            yield leaves
+
     def check_tree(self, tree):
         """Every record of a tree is there, ends with its children's digests, and holds blocks where they may be. Returns nonces and blocks."""
         nonces, blocks = self.check_records(tree)
@@ -92,7 +128,7 @@ class Reading:
         depth, nonces, blocks, wrong = self.buckets.shapes[tree].depth, [], {}, []
         for node in range(2 ** (depth + 1) - 1):
             record = self.buckets.record(tree, node)
-            if record is None or record[-64:] != self.buckets.digests_below(tree, node):
+            if record[-64:] != self.buckets.digests_below(tree, node):
                 wrong.append(node)
                 continue
             nonce, held = opened(record, self.sizes, self.derived(b"vidlaqe bucket key"))

@@ -27,30 +27,42 @@ class Shape:
 
 @dataclass
 class Buckets:
-    """What a bucket file and its log hold together."""
+    """What a bucket file and its log hold together, beside what a client has: the STOREs that wait, near records, and the records that it makes."""
 
     data: bytes
     shapes: dict
     later: dict = field(default_factory=dict)
+    made: dict = field(default_factory=dict)
 
     def cell(self, tree, node):
         shape = self.shapes[tree]
         at = shape.place + shape.cell_len() * node
         return self.data[at : at + shape.cell_len()]
 
+    def lay_near(self, records):
+        """The records that a client keeps of the top levels of tree 0 take the place of those in the file."""
+        self.later.update({(0, node): record for node, record in enumerate(records)})
+
     def lay(self, store):
-        """The records of a STORE that the host may not have yet take the place of those in the file."""
+        """The records of a STORE that the host may not have yet take the place of those in the file, and of near records."""
         shape = self.shapes[store.tree]
         for level in range(shape.depth + 1):
             at = level * shape.record_len
             self.later[store.tree, node_of(shape.depth, store.leaf, level)] = store.records[at : at + shape.record_len]
 
-    def record(self, tree, node):
-        """A node's record; None if there is none."""
-        if (tree, node) in self.later:
-            return self.later[tree, node]
+    def kept(self, tree, node):
+        """A node's record at the host; None if there is none."""
         cell = self.cell(tree, node)
-        return cell[1 : 1 + self.shapes[tree].record_len] if cell[0] == 1 else None
+        return cell[1 : 1 + self.shapes[tree].record_len] if cell[:1] == b"\1" else None
+
+    def record(self, tree, node):
+        """A node's record, wherever it is; None if there is none."""
+        return self.later.get((tree, node)) or self.kept(tree, node) or self.made.get((tree, node))
+
+    def nodes(self, tree):
+        """The nodes of a tree of which the host has a record."""
+        count = 2 ** (self.shapes[tree].depth + 1) - 1
+        return {node for node in range(count) if self.kept(tree, node) is not None}
 
     def digests_below(self, tree, node):
         """The digests that a node's record has to end with: those of its children, or zeros."""

@@ -36,6 +36,11 @@ def fetch_of(tree, leaf):
     return bytes([1, tree]) + leaf.to_bytes(4, "big")
 
 
+def fetch_levels_of(tree, first, last, leaf):
+    """A FETCH of some levels of a leaf's path."""
+    return bytes([6, tree, first, last]) + leaf.to_bytes(4, "big")
+
+
 def ask_host(stream, body):
     """The host's answer to a request; both are frames."""
     stream.sendall(len(body).to_bytes(4, "big") + body)
@@ -88,6 +93,7 @@ class DiskFolder:
 
     def __init__(self, folder, program, sizes, values):
         self.folder, self.program, self.processes = Path(folder), program, {}
+        self.sizes, self.near = sizes, values.get("near", sizes.default_near())
         self.log = open(self.folder.parent / f"{self.folder.name}.log", "wb")
         # A new disk has blocks of 4,096 bytes, until its settings say otherwise.
         self.run("new", str(self.folder), "--size", "4096")
@@ -98,6 +104,10 @@ class DiskFolder:
     def key(self):
         text = (self.folder / "disk.toml").read_text()
         return bytes.fromhex(re.search(r'^key = "([0-9a-f]{64})"$', text, re.MULTILINE)[1])
+
+    def near_levels(self):
+        """How many levels of tree 0 the client keeps itself."""
+        return self.sizes.near_levels(self.near)
 
     def start(self, *words):
         return begin([self.program, *words], stdin=subprocess.DEVNULL, stdout=self.log, stderr=self.log)

@@ -41,6 +41,26 @@ class Sizes:
     def record_len(self):
         return self.bucket_len() + self.overhead() + 64
 
+    def near_len(self, levels):
+        """How many bytes the records of so many levels of tree 0 have, counted from the root."""
+        return (2**levels - 1) * self.record_len()
+
+    def near_levels(self, near):
+        """How many levels are near: as many as have room in so many bytes, but never the leaves'."""
+        return max(levels for levels in range(self.depths()[0] + 1) if self.near_len(levels) <= near)
+
+    def default_near(self):
+        """The setting `near` of a disk whose settings have none."""
+        return min(self.blocks * self.block_bytes // 32, 1 << 26)
+
+    def upper_counts(self):
+        """How many upper nodes each tree has: those that are more than three levels above the leaves."""
+        return [2 ** max(depth - 3, 0) - 1 for depth in self.depths()]
+
+    def digests_len(self):
+        """How many bytes a client keeps of the digests of a formatting."""
+        return 64 * sum(self.upper_counts())
+
 
 def node_of(depth, leaf, level):
     """The node of a leaf's path at a level."""

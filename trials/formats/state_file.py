@@ -58,6 +58,8 @@ class State:
     waiting: list = field(default_factory=list)
     outstanding: int = -1
     message: bytes = b""
+    near: list = field(default_factory=list)
+    digests: list = field(default_factory=list)
 
 
 @dataclass
@@ -103,15 +105,13 @@ def read_pages(data, at, length):
 def read_state(records, log):
     """The state that a file and its log keep."""
     parts = read_parts(joined(records, log, LETTERS, VERSION, PAGES_AT))
-    if parts.records:
-        raise Misread("the state of a disk has no records")
     text = parts.before + parts.table + parts.after
     head = Reader(text)
     salt, check, sealer = head.take(32), head.take(32), head.number(1)
     stores = [read_store(head.take(head.number(8))) for _ in range(head.number(8))]
     note = head.take(head.number(8))
-    if head.number(8):
-        raise Misread("the text of a disk says that it has records")
+    if head.number(8) != len(parts.records):
+        raise Misread("how many bytes the records have")
     reader = Reader(text[head.at :])
     blocks, block_bytes = reader.number(4), reader.number(4)
     leaf_load, slots, table = reader.number(2) + 1, reader.number(2), reader.number(4)
@@ -128,9 +128,21 @@ def read_state(records, log):
     if (len(parts.before), len(parts.table)) != (head.at + BEFORE_TABLE, 4 * len(state.table)):
         raise Misread("the place of the table")
     state.process_check = siphash(parts.before[TITLE:] + parts.after)
+    state.near, state.digests = read_records(parts.records, sizes)
     if mode != FAILED and not reader.is_at_end():
         raise Misread("there is more after the state")
     return state
+
+
+def read_records(data, sizes):
+    """The near records, by their nodes, and the two digests that are kept of each upper node of each tree. There are as many near records as a
+    number of whole levels has."""
+    reader = Reader(data)
+    near_len = len(data) - sizes.digests_len()
+    if near_len not in map(sizes.near_len, range(sizes.depths()[0] + 1)):
+        raise Misread("how many bytes the near records have")
+    near = [reader.take(sizes.record_len()) for _ in range(near_len // sizes.record_len())]
+    return near, [[reader.take(64) for _ in range(count)] for count in sizes.upper_counts()]
 
 
 def read_store(body):

@@ -101,7 +101,8 @@ def try_accepting(trial, folder):
 
 MADE = """\
 oramdisk: made mydisk for a disk of 1 GiB: disk.toml with its key, which stays here, and host.toml for the rented machine
-oramdisk: formatting will send about 2.2 GB to the host, which stores all of it
+oramdisk: its host will store up to about 2.2 GB of it
+oramdisk: the client keeps records of 16.9 MB itself
 Next, once host.toml is at the rented machine, and a tunnel leads there (ssh -N -o StreamLocalBindUnlink=yes -L mydisk/buckets.sock:/home/you/buckets.sock you@rented):
   there:  oramdisk host --new host.toml
   here:   oramdisk format mydisk/disk.toml

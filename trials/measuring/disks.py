@@ -1,5 +1,7 @@
 """What is measured: disks of oramdisk, and files behind nbdkit."""
 
+import os
+import random
 import re
 import shutil
 import socket
@@ -10,7 +12,12 @@ from trials.connections import connect
 from trials.disk import BLOCK
 from trials.measuring.figures import Figures, TimedClient
 from trials.measuring.line import Line
+from trials.nbd_client import WRITE
+from trials.processes import begin
 
+# How many bytes of a disk are written before it is measured, at most, and how many at once. A formatting sends nothing, so before that its host has
+# no records.
+FILLED, PIECE = 64 << 20, 1 << 18
 LUKS = ["--object", "secret,id=word,data=measured"]
 
 
@@ -29,7 +36,7 @@ def connect_or_exit(place, process):
 
 
 class MeasuredDisk:
-    """A disk of this program in a folder of its own, formatted."""
+    """A disk of this program in a folder of its own, formatted and filled."""
 
     def __init__(self, oramdisk, folder, size, is_one_tree, syncs=True):
         self.oramdisk, self.folder, self.syncs = oramdisk, folder, syncs
@@ -43,6 +50,21 @@ class MeasuredDisk:
         connect_or_exit(self.port, self.host).close()
         self.set_host(self.port)
         subprocess.run([oramdisk, "format", "disk.toml"], cwd=folder, check=True, stderr=subprocess.DEVNULL)
+        self.fill()
+
+    def fill(self):
+        """Writes random bytes everywhere, or to as many pieces at random places as are to be written at most. `filled` then says how much was."""
+        serve = self.start("serve", "disk.toml")
+        client = TimedClient(connect_or_exit(self.folder / "disk.sock", serve))
+        places, is_whole = range(0, client.size, PIECE), client.size <= FILLED
+        for offset in places if is_whole else random.sample(places, FILLED // PIECE):
+            length = min(PIECE, client.size - offset)
+            if client.ask(WRITE, offset, length, os.urandom(length)) != (0, b""):
+                sys.exit("measure: a write failed")
+        client.close()
+        serve.terminate()
+        serve.wait()
+        self.filled = "all of it was written" if is_whole else f"{FILLED >> 20} MiB of it, at random places, were written"
 
     def set_host(self, port):
         """Writes all of its settings anew, so that programs of several versions are measured with the same ones."""
@@ -52,7 +74,8 @@ class MeasuredDisk:
         (self.folder / "disk.toml").write_text(f'size = {self.size}\nkey = "{self.key}"\n{reached}{values}')
 
     def start(self, *words):
-        return subprocess.Popen([self.oramdisk, *words], cwd=self.folder, stderr=subprocess.DEVNULL)
+        # It ends with the script at the latest, also if something can't be measured.
+        return begin([self.oramdisk, *words], cwd=self.folder, stderr=subprocess.DEVNULL)
 
     def measure(self, way, count):
         """What requests take over a line to its host."""
@@ -76,13 +99,15 @@ class MeasuredDisk:
 
 
 def measure_disks(options, top, is_one_tree, ways):
-    """Rows of the figures of each program's disk, one program right after the other over each line."""
+    """Rows of the figures of each program's disk, one program right after the other over each line, and how much of each disk was written before
+    that."""
     disks = {}
     try:
         for name, oramdisk in options.programs.items():
             folder = top / f"{'one' if is_one_tree else 'two'}{name}"
             disks[name] = MeasuredDisk(oramdisk, folder, options.size, is_one_tree, not options.no_sync)
-        return [(way, {name: disk.measure(way, options.requests) for name, disk in disks.items()}) for way in ways]
+        rows = [(way, {name: disk.measure(way, options.requests) for name, disk in disks.items()}) for way in ways]
+        return rows, next(iter(disks.values())).filled
     finally:
         for disk in disks.values():
             disk.end()

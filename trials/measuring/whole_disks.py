@@ -1,32 +1,11 @@
 """What it takes to read a whole disk: to check it, and to export it."""
 
-import os
 import resource
 import subprocess
 import sys
 import time
 
-from trials.measuring.disks import connect_or_exit
-from trials.measuring.figures import TimedClient
 from trials.measuring.line import Line
-from trials.nbd_client import WRITE
-
-# A part of the disk that is written before it is read as a whole, in pieces.
-FILLED, PIECE = 8 << 20, 1 << 18
-
-
-def fill(disk):
-    """Writes random bytes to the beginning of a disk."""
-    disk.set_host(disk.port)
-    serve = disk.start("serve", "disk.toml")
-    client = TimedClient(connect_or_exit(disk.folder / "disk.sock", serve))
-    for offset in range(0, min(FILLED, client.size), PIECE):
-        if client.ask(WRITE, offset, PIECE, os.urandom(PIECE)) != (0, b""):
-            sys.exit("measure: a write failed")
-    client.close()
-    serve.terminate()
-    serve.wait()
-
 
 def measure_readings(disk, ways):
     """Checks a disk and exports it over each of these lines, and prints a row of a table for each."""

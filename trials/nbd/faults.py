@@ -76,9 +76,13 @@ def try_formattings(trial, disk):
     trial.ends("bad settings", disk.format(), BAD_WORDS, 'oramdisk: faults/disk.toml, line 18: sealer has to be "chacha" or "plain"')
     nobody = f"127.0.0.1:{free_port()}"
     disk.set(sealer="chacha", host=nobody)
-    trial.ends("no host", disk.format(), OUT_OF_REACH, unreachable(nobody))
+    end = end_of(disk.format())
+    *lines, last = end.err.decode().splitlines()
+    trial.check("no host", (end.status, end.out, last) == (OUT_OF_REACH, b"", unreachable(nobody)), end)
+    disk.check_progress(lines)
     disk.set(host=disk.host_address())
-    disk.formatted()
+    disk.start_host()
+    disk.introduced_again("no host: once there is one")
     files = disk.kept.read()
     for file in files:
         file.unlink()

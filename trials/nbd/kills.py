@@ -16,34 +16,40 @@ def try_kills(trial):
     """The process that serves a disk and its host are killed at random moments, with the state synced and not, with one request and sixteen
     in flight, and with one tree and two: every acknowledged byte is there, and the disk is sound."""
     for in_flight, counts in ((1, (2, 1)), (16, (1, 2))):
-        answered = sum(kill_and_ask(trial, sync, in_flight, KILLS // 4, trees) for sync, trees in zip((True, False), counts))
+        answered = sum(kill_new_disk(trial, sync, in_flight, trees) for sync, trees in zip((True, False), counts))
         trial.check(f"requests between the kills, {in_flight} in flight", answered > 0)
         print(f"{answered} requests between {KILLS // 4 * 2} kills, {in_flight} in flight", flush=True)
 
 
-def kill_and_ask(trial, sync, in_flight, kills, trees):
-    """Kills this many times, and makes requests in between. Counts the requests of those turns in which each request in
-    flight had a reply."""
+def kill_new_disk(trial, sync, in_flight, trees):
+    """Kills at a new disk, as below. Returns how many requests were answered."""
     name = f"kills-{sync}-{in_flight}".lower()
     disk = Disk(trial, name, table=TABLES[trees], reconnect_timeout=60, sync=sync).formatted()
     trial.check(f"kills: {trees} trees", disk.status().get("trees") == str(trees), disk.status())
-    array = DiskArray()
+    answered = kill_and_ask(trial, disk, DiskArray(), in_flight, KILLS // 4)
+    disk.host.stop()
+    return answered
+
+
+def kill_and_ask(trial, disk, array, in_flight, kills):
+    """Kills this many times, and makes requests in between. Counts the requests of those turns in which each request in
+    flight had a reply. The host still runs afterwards."""
     answered = 0
     for number in range(kills):
         client = disk.serve().client()
-        trial.check(f"kill {number}: it is served", client is not None, disk.lines()[-2:])
+        trial.check(f"{disk.name}, kill {number}: it is served", client is not None, disk.lines()[-2:])
         if client is None:
             break
         if number % 10 == 0:
-            check_disk(trial, f"kill {number}: what was acknowledged", client, array)
+            check_disk(trial, f"{disk.name}, kill {number}: what was acknowledged", client, array)
         ask = ask_while_host_is_killed if trial.dice.random() < 0.5 else ask_until_disk_is_killed
         answered += ask(trial, disk, client, array, in_flight)
     client = disk.serve().client()
-    check_disk(trial, "what was acknowledged before all kills", client, array)
-    client.close()
+    check_disk(trial, f"{disk.name}: what was acknowledged before all kills", client, array)
+    if client is not None:
+        client.close()
     disk.stop()
-    trial.check("kills: it is sound", disk.status().get("state") == "it is sound", disk.status())
-    disk.host.stop()
+    trial.check(f"{disk.name}: it is sound", disk.status().get("state") == "it is sound", disk.status())
     return answered
 
 

@@ -15,8 +15,7 @@ def try_life(trial):
     wanted = {"used": "by nobody", "size": f"{SMALL} bytes, 63 blocks of 4096", "trees": "2", "waiting": "0", "state": "it is sound"}
     trial.check("life: how it stands", wanted.items() <= status.items(), status)
     check_folder(trial, "life: after the formatting", disk, {"disk.toml", "host.toml", "buckets", "buckets-log", "log"})
-    line = "life/disk.state is there already, and is left as it is: to format anew, take it away, and name a new file at the host"
-    trial.ends("life: format again", disk.format(), EXISTS, f"oramdisk: {line}")
+    disk.introduced_again("life: format again")
     array = DiskArray()
     for _ in range(3):
         # Whoever only looks at the disk doesn't keep it from being served.
@@ -33,6 +32,8 @@ def try_life(trial):
     status = disk.status()
     made = int(status["accesses"].split()[0])
     trial.check("life: its accesses", made >= 3 * 63, status)
+    line = "life/disk.state is there already, and is left as it is: to format anew, take it away, and name a new file at the host"
+    trial.ends("life: format it once it was used", disk.format(), EXISTS, f"oramdisk: {line}")
     disk.host.stop()
 
 

@@ -4,12 +4,14 @@ import socket
 import threading
 import time
 
-from trials.bucket_messages import FETCH, is_a
+from trials.bucket_messages import FETCH_LEVELS, fetch, is_a
 from trials.connections import connect, frame_of, read_frame, write_frame
 from trials.disk import Disk
 from trials.disk_array import DiskArray, ask_at_random, check_and_end, check_disk, lose_write, make_requests
+from trials.kept_files import STATE
 from trials.processes import end_of
-from trials.nbd.tampering import IDENTITY_TREE
+from trials.nbd.tampering import STAMP_TREE
+from trials.nbd_client import READ
 from trials.statuses import OUT_OF_REACH
 
 # The seconds by which the program may end later than its reconnect timeout.
@@ -117,23 +119,24 @@ def try_reconnect_timeout(trial):
 
 
 def try_unanswered_formatting(trial):
-    """A formatting waits for a host that doesn't answer until the reconnect timeout, and not much longer, and leaves no state."""
+    """A formatting waits for a host that doesn't answer until the reconnect timeout, and not much longer. The state stays, and the next formatting goes on with it."""
     disk = Disk(trial, "unanswered", table=16)
     for kind, timeout in (("silent", 1), ("silent", 3), ("drops", 2)):
         what, deaf = f"formatting at a host that is {kind}, timeout {timeout}", DeafHost(kind)
         check_that_it_gives_up(trial, disk, "format", deaf, timeout, (f"{what}: its end", f"{what}: its time"))
-        trial.check(f"{what}: no state", not disk.kept.left())
+        trial.check(f"{what}: the state", disk.kept.left() == STATE, disk.kept.left())
         deaf.end()
 
 
 class DrippingHost(threading.Thread):
-    """Leads to a host, and passes on what both say, but for the answer to a FETCH of a path: of that it gives one byte every half second, so
+    """Leads to a host, and passes on what both say, but for the answers to some messages: of these it gives one byte every half second, so
     that it is never silent for long."""
 
     PAUSE = 0.5
 
-    def __init__(self, host):
+    def __init__(self, host, is_dripped):
         super().__init__(daemon=True)
+        self.is_dripped = is_dripped
         self.listener = socket.create_server(("127.0.0.1", 0))
         self.address, self.host, self.given, self.ended = f"127.0.0.1:{self.listener.getsockname()[1]}", host, 0, threading.Event()
         self.start()
@@ -144,7 +147,7 @@ class DrippingHost(threading.Thread):
             far = connect(self.host.port, self.host.process)
             while (body := read_frame(near)) is not None and write_frame(far, body):
                 answer = read_frame(far)
-                if is_a(FETCH, body) and body[1] != IDENTITY_TREE:
+                if self.is_dripped(body):
                     self.drip(near, frame_of(answer))
                     break
                 write_frame(near, answer)
@@ -164,13 +167,21 @@ class DrippingHost(threading.Thread):
 
 def try_dripping(trial):
     """A host that goes on giving a byte now and then doesn't hold a batch for longer than the reconnect timeout, or 20 seconds if that is
-    more."""
-    disk = Disk(trial, "dripping", table=16).formatted()
-    host = DrippingHost(disk.host)
-    disk.set(host=host.address, reconnect_timeout=2)
-    end = end_of(disk.start("serve"))
-    host.ended.set()
-    seen = (end.status, end.err.decode().splitlines()[-1:])
-    trial.check("a host that gives a byte now and then: its end", seen == (OUT_OF_REACH, [unreachable(host.address)]), end)
-    trial.check("a host that gives a byte now and then: it gave some", host.given > 2, host.given)
-    disk.host.stop()
+    more: neither with its stamps, nor with the records of a path."""
+    for what, is_dripped in (("stamps", lambda body: body == fetch(STAMP_TREE, 0)), ("records", lambda body: is_a(FETCH_LEVELS, body))):
+        disk = Disk(trial, f"dripping-{what}", table=16).formatted()
+        host = DrippingHost(disk.host, is_dripped)
+        disk.set(host=host.address, reconnect_timeout=2)
+        begun = time.monotonic()
+        client = disk.serve().client()
+        trial.check(f"a host that gives its {what} now and then: it is asked for them", (client is None) == (what == "stamps"))
+        if client is not None:
+            trial.check(f"a host that gives its {what} now and then: no reply", client.ask(READ, 0, 1) is None)
+            client.stream.close()
+        seen = disk.wait(), disk.lines()[-1:]
+        host.ended.set()
+        trial.check(f"a host that gives its {what} now and then: its end", seen == (OUT_OF_REACH, [unreachable(host.address)]), seen)
+        took = time.monotonic() - begun
+        trial.check(f"a host that gives its {what} now and then: its time", took < 2 * (20 + GRACE), took)
+        trial.check(f"a host that gives its {what} now and then: it gave some", host.given > 2, host.given)
+        disk.host.stop()

@@ -2,15 +2,15 @@
 
 import time
 
-from trials.bucket_messages import NO_ROOM, STORE, is_a, refused
+from trials.bucket_messages import NO_ROOM, is_store, refused
 from trials.disk import Disk
 from trials.disk_array import DiskArray, check_and_end, lose_write, write_block
 from trials.statuses import HOST_FULL
 
 
-def refuse_for_room(relay, kind):
-    """From now on the host seems to have no room for messages of this kind."""
-    relay.instead = lambda body: refused(NO_ROOM) if is_a(kind, body) else None
+def refuse_for_room(relay, refuses=is_store):
+    """From now on the host seems to have no room for messages of which this is true: STOREs, if nothing else is said."""
+    relay.instead = lambda body: refused(NO_ROOM) if refuses(body) else None
 
 
 def no_room(disk):
@@ -28,7 +28,7 @@ def try_no_room(trial):
     client = disk.serve().client()
     full, again = f"oramdisk: the host at {disk.host_address()} has no room", f"oramdisk: the host at {disk.host_address()} answers again"
     trial.check("no room for a while: its log", disk.lines().count(full) == 1 and again in disk.lines(), disk.lines())
-    refuse_for_room(disk.relay, STORE)
+    refuse_for_room(disk.relay)
     begun = time.monotonic()
     lose_write(trial, "no room: no reply", client, array)
     status = disk.wait()
@@ -43,7 +43,7 @@ def wait_for_room(trial, disk, array):
     """The host refuses six STOREs for want of room, and then no more: each write has its reply."""
     client = disk.serve().client()
     refusals = []
-    disk.relay.instead = lambda body: refusals.append(body) or refused(NO_ROOM) if is_a(STORE, body) and len(refusals) < 6 else None
+    disk.relay.instead = lambda body: refusals.append(body) or refused(NO_ROOM) if is_store(body) and len(refusals) < 6 else None
     for number in range(5):
         trial.check("no room for a while: a reply", write_block(trial, client, array, number))
     trial.check("no room for a while: it was refused more often than a message is sent otherwise", len(refusals) == 6, len(refusals))

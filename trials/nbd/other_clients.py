@@ -45,6 +45,7 @@ def try_others(trial):
     disk = Disk(trial, "others", size="4MiB", sync=False).formatted()
     disk.serve()
     disk.client().close()
+    trial.check("a client that leaves", len(disk.wait_for_lines(" until ", 1)) == 1)
     printed = run_to_end(trial, "nbdinfo", "nbdinfo", disk.address())
     trial.check("nbdinfo: its size", "export-size: 4194304" in printed, printed)
     trial.check("nbdinfo: the list", "export=" in run_to_end(trial, "nbdinfo --list", "nbdinfo", "--list", disk.address()))

@@ -23,6 +23,7 @@ def try_wrong_settings(trial):
         (CHANGED_SETTING, changed.format("leaf_load", 5), {"leaf_load": 1}),
         (CHANGED_SETTING, changed.format("table", 16), {"table": 8}),
         (CHANGED_SETTING, changed.format("sealer", '"chacha"'), {"sealer": "plain"}),
+        (CHANGED_SETTING, changed.format("near", 0), {"near": 1 << 20}),
     ):
         disk.set(**values)
         for command in ("serve", "status"):

@@ -5,7 +5,7 @@ import shutil
 import signal
 
 from trials.bucket_file import BucketFile
-from trials.bucket_messages import NO_ROOM, PUT, STORE, fetch, is_a, refused
+from trials.bucket_messages import NO_ROOM, PUT, fetch, is_a, is_store, refused
 from trials.disk import Disk
 from trials.disk_array import DiskArray, check_and_end, check_disk, lose_write, make_requests, write_block
 from trials.kept_files import KeptFiles
@@ -102,7 +102,7 @@ def copy_after_refusal(disk):
     def instead(body):
         if copies:
             return None
-        if is_a(STORE, body):
+        if is_store(body):
             refusals.append(body)
             return refused(NO_ROOM)
         if refusals and is_a(PUT, body) and body[1:6] == bytes([STAMP_TREE, 0, 0, 0, 0]):

@@ -8,7 +8,7 @@ import struct
 from trials.bucket_file import BucketFile
 from trials.disk import Disk
 from trials.disk_array import DiskArray, check_and_end, check_disk, make_requests, write_block
-from trials.kept_files import HEAD_AT, NUMBERS, PAGE_LEN, TABLE_AT, replayed
+from trials.kept_files import HEAD_AT, NUMBERS, ON_PAGE, PAGE_LEN, TABLE_AT, replayed
 from trials.processes import end_of
 from trials.statuses import DAMAGED, NO_STATE, NO_STATE_FILE, REPLACED_STATE, WRONG_LOG
 
@@ -24,9 +24,9 @@ OLDER_FILE = WRONG_LOG, "oramdisk: {} is older than its log, the file beside it 
 # The disk isn't refused, and holds what it held.
 HOLDS = None
 
-# A disk with few and small blocks, so that its log is short.
+# A disk with few and small blocks, so that its log is short, and with two near levels, whose three records have 6,456 bytes.
 SMALL_BLOCK, BLOCKS = 512, 63
-SMALL_DISK = {"size": SMALL_BLOCK * BLOCKS, "block": SMALL_BLOCK, "table": 64}
+SMALL_DISK = {"size": SMALL_BLOCK * BLOCKS, "block": SMALL_BLOCK, "table": 64, "near": 7000}
 
 
 def used_disk(trial, name):
@@ -132,10 +132,10 @@ def regions_of_entries(log, entries):
 
 
 def regions_of_text(state, records):
-    """The regions in which a file without entries in its log has its text."""
-    before_len, numbers, after_len = struct.unpack_from("<3Q", records, HEAD_AT)
-    pages, first = -(-numbers // NUMBERS), TABLE_AT + 4 * min(numbers, NUMBERS)
-    text = TABLE_AT + pages * PAGE_LEN
+    """The regions in which a file without entries in its log has its text, but for the records."""
+    before_len, numbers, after_len, records_len = struct.unpack_from("<4Q", records, HEAD_AT)
+    first = TABLE_AT + 4 * min(numbers, NUMBERS)
+    text = TABLE_AT + (-(-numbers // NUMBERS) + -(-records_len // ON_PAGE)) * PAGE_LEN
     return {
         "the head": (state, HEAD_AT, HEAD_AT + 48, {BROKEN}),
         "the first page": (state, TABLE_AT, first, {BROKEN}),
@@ -144,6 +144,15 @@ def regions_of_text(state, records):
         "the text before the table": (state, text + 65, text + before_len, {BROKEN}),
         "the text behind the table": (state, text + before_len, text + before_len + after_len, {BROKEN}),
     }
+
+
+def pages_of_records(records):
+    """The pages that a file has of its records: where each begins, and where its checksum is."""
+    numbers, _, records_len = struct.unpack_from("<3Q", records, HEAD_AT + 8)
+    first = TABLE_AT + -(-numbers // NUMBERS) * PAGE_LEN
+    for at in range(0, records_len, ON_PAGE):
+        begin = first + at // ON_PAGE * PAGE_LEN
+        yield begin, begin + min(ON_PAGE, records_len - at)
 
 
 def flipped(files, file, at, bit):
@@ -172,6 +181,28 @@ def try_flipped_bits(trial):
     trial.check("flipped: many were refused", refused > 20, refused)
     disk.kept.put(files)
     check_and_end(trial, "flipped: what it holds at last", disk, array)
+
+
+def try_flipped_records(trial, bits=4):
+    """A bit is changed on each page of the near records and of the digests of the formatting, in any place: it is told, but for the bytes of the last
+    page that don't count."""
+    disk, array = used_disk(trial, "flipped-records")
+    files = settled(disk.kept.read())
+    state, pages = disk.kept.state, list(pages_of_records(files[disk.kept.state]))
+    records_len = sum(check - begin for begin, check in pages)
+    sizes = disk.sizes()
+    wanted = sizes.near_len(2) + sizes.digests_len()
+    trial.check("flipped records: what there is", (records_len, len(pages)) == (wanted, -(-wanted // ON_PAGE)), (records_len, len(pages)))
+    for number, (begin, check) in enumerate(pages):
+        places = [begin, *(trial.dice.randrange(begin, check) for _ in range(bits)), check - 1, trial.dice.randrange(check, check + 8)]
+        for at in places:
+            bit = trial.dice.randrange(8)
+            what = f"flipped records: page {number}, bit {bit} of byte {at}"
+            check_files(trial, what, disk, array, flipped(files, state, at, bit), {BROKEN})
+    begin, check = pages[-1]
+    at = trial.dice.randrange(check + 8, begin + PAGE_LEN)
+    check_files(trial, "flipped records: behind the last page's checksum", disk, array, flipped(files, state, at, 0), {HOLDS})
+    check_and_end(trial, "flipped records: what it holds at last", disk, array)
 
 
 def try_cut_files(trial):

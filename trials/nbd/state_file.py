@@ -25,12 +25,12 @@ MOST_WRITES = 6
 
 def try_killed_keeping(trial):
     """A process is killed right before one of the calls with which it opens its files or keeps a state, whichever it is: what was acknowledged
-    is there, and the files are sound."""
+    is there, and the files are sound. The state has the record of the root, which each round changes, on 17 pages."""
     if not strace.is_usable():
         trial.skip()
         return
     for sync in (True, False):
-        disk, array = Disk(trial, f"killed-keeping-{sync}".lower(), table=16, sync=sync).formatted(), DiskArray()
+        disk, array = Disk(trial, f"killed-keeping-{sync}".lower(), table=16, sync=sync, near=40_000).formatted(), DiskArray()
         killed = 0
         for calls, most in KILLING_CALLS:
             for when in sorted(trial.dice.sample(range(1, most + 1), min(most, MOST_KILLS))):

@@ -5,9 +5,10 @@ import signal
 
 from trials.bucket_file import BucketFile
 from trials.bucket_host import TIME
-from trials.disk import SMALL, Disk
-from trials.disk_array import DiskArray, check_and_end, make_requests
-from trials.nbd_client import EIO, FLUSH, READ, TRIM, WRITE, ZEROES
+from trials.bucket_messages import DONE, FETCH_LEVELS, is_a
+from trials.disk import Disk
+from trials.disk_array import DiskArray, check_and_end, make_requests, write_block
+from trials.nbd_client import EIO, FLUSH, READ, TRIM, WRITE, ZEROES, Request
 from trials.processes import end_of
 from trials.statuses import DISK_FAILED, NOT_FAILED
 
@@ -16,16 +17,19 @@ STAMP_TREE, IDENTITY_TREE = 254, 255
 
 
 def tamper(file, level=None):
-    """Changes a bit of each record of a disk's trees in a host's file, or of those at one level of tree 0. Returns the file's records after
-    that."""
+    """Changes a bit of each record of a disk's trees that a host's file has, or of those at one level of tree 0. Returns the file's records
+    after that."""
     buckets = BucketFile(file)
     buckets.replay()
-    for tree, (depth, _, _) in buckets.trees().items():
-        for node in range((2 << depth) - 1):
-            at = (node + 1).bit_length() - 1
-            if tree < STAMP_TREE and (level is None or (tree, at) == (0, level)):
-                buckets.flip(tree, node)
+    for tree, node in records_of(buckets, level):
+        buckets.flip(tree, node)
     return buckets.records()
+
+
+def records_of(buckets, level=None, tree=0):
+    """The trees and nodes of a disk's trees of which a host's file has a record, or those at one level of a tree."""
+    held = [place for place in buckets.records() if place[0] < STAMP_TREE]
+    return held if level is None else [(at, node) for at, node in held if (at, (node + 1).bit_length() - 1) == (tree, level)]
 
 
 def mend(file, changed):
@@ -101,24 +105,51 @@ def fail_disk(trial, disk, array):
     return reason
 
 
+def fill_disk(trial, disk, array):
+    """A disk is written everywhere. Its last rounds are about one block each, so that the STOREs of one path wait, which the next process sends
+    before it looks at what they replace. Then it and its host are stopped."""
+    client = disk.serve().client()
+    request = Request(WRITE, 0, array.size, trial.dice.randbytes(array.size))
+    array.note_reply(trial, request, client.ask(*request))
+    for number in range(2):
+        write_block(trial, client, array, number)
+    disk.end(client)
+
+
 def try_each_level(trial):
-    """A record that was changed at any level of a path is found at that level."""
-    disk = Disk(trial, "levels", table=16, leaf_load=1).formatted()
-    disk.host.stop()
+    """A record that was changed at any level of a path is found at that level. The root's record is on each path that waits, so a changed one
+    counts only before the first access, when the host has none: it makes one up."""
+    disk = Disk(trial, "unused-level", table=16, leaf_load=1).formatted()
+    disk.relay.instead = lambda body: DONE + b"\1" + bytes(disk.sizes().record_len()) if is_a(FETCH_LEVELS, body) and body[1] == 0 else None
+    check_failure(trial, disk, 0)
+    disk, array = Disk(trial, "levels", table=16, leaf_load=1).formatted(), DiskArray()
+    fill_disk(trial, disk, array)
     before, kept = disk.host_files(), disk.kept.read()
-    for level in range(7):
+    for level in range(1, 7):
         disk.put_host_files(before)
         disk.kept.put(kept)
         tamper(disk.host.path(), level)
-        reason = failure_of(trial, disk, f"level {level}")
-        trial.check(f"level {level}: why", is_failure(reason, 0, level), reason)
-        check_that_retry_works(trial, disk)
+        disk.start_host()
+        check_failure(trial, disk, level)
+    disk.put_host_files(before)
+    disk.kept.put(kept)
+    disk.start_host()
+    check_and_end(trial, "levels: what it holds with its own records", disk, array)
+
+
+def check_failure(trial, disk, level, tree=0):
+    """A disk whose host runs fails at a record of this level. Its state is left as it was, and its host is stopped."""
+    what = f"{disk.name}, tree {tree}, level {level}"
+    reason = failure_of(trial, disk, what)
+    trial.check(f"{what}: why", is_failure(reason, tree, level), reason)
+    check_that_retry_works(trial, disk)
+    disk.host.stop()
 
 
 def failure_of(trial, disk, what):
     """A read of all blocks fails. Returns what `status` then says of the disk."""
-    disk.start_host()
     client = disk.serve().client()
-    trial.check(f"{what}: a READ", client.ask(READ, 0, SMALL) == (EIO, b""))
-    disk.end(client)
+    trial.check(f"{what}: a READ", client.ask(READ, 0, disk.settings()["size"]) == (EIO, b""))
+    client.close()
+    disk.stop()
     return disk.status().get("state", "")

@@ -24,9 +24,10 @@ def try_unix_socket(trial):
     trial.check("a second client is turned away", other.take(1) is None)
     other.stream.close()
     client.close()
+    # From then on the next client isn't turned away.
+    lines = disk.wait_for_lines("a local client from ", 1)
+    trial.check("lines of local clients", len(lines) == 1, lines)
     use_other_clients(trial, disk, array)
-    lines = disk.lines()
-    trial.check("lines of local clients", any("a local client from " in line for line in lines), lines)
     disk.stop(signal.SIGKILL)
     trial.check("a killed process leaves its socket", disk.socket.is_socket())
     client = disk.serve(socket_name="disk.sock").client()

@@ -142,17 +142,25 @@ def try_sparse_image(trial):
     disk.host.stop()
 
 
+def put_record(trial, buckets, node):
+    """Gives a node a record that nobody stored."""
+    _, record_len, base = buckets.trees()[0]
+    with open(buckets.file, "r+b") as file:
+        file.seek(base + node * buckets.cell_len(record_len))
+        file.write(b"\1" + trial.dice.randbytes(record_len))
+
+
 def try_each_lost_level(trial):
-    """A record that is changed at some level of a tree is found by a check, with its level and all records below it. The disk has made no
-    access yet, so no STOREs wait that would put the record right."""
-    disk = Disk(trial, "lost-levels").formatted()
+    """A record that the host has at some level of a tree, and that nobody stored, is found by a check, with its level and all records below
+    it. The client keeps no level itself. The disk has made no access yet, so no STOREs wait that would put the record right."""
+    disk = Disk(trial, "lost-levels", near=0).formatted()
     disk.host.stop()
     before, levels = disk.host_files(), levels_of(disk)
     records = 2**levels - 1
     for level in range(levels):
         buckets = BucketFile(disk.host.path())
         buckets.replay()
-        buckets.flip(0, 2**level - 1 + trial.dice.randrange(2**level))
+        put_record(trial, buckets, 2**level - 1 + trial.dice.randrange(2**level))
         disk.start_host()
         end = end_of(disk.start("check"))
         lost = 2 ** (levels - level) - 1
@@ -165,6 +173,40 @@ def try_each_lost_level(trial):
         trial.check(f"a changed record at level {level}: export", end.status == RECORDS_LOST and line.encode() in end.err and not left, (end, left))
         disk.host.stop()
         disk.put_host_files(before)
+
+
+def try_near_readings(trial):
+    """However many levels its client keeps itself, a disk is whole just after it was formatted, and when it was written in part. A host
+    that hides what was stored has lost it, also if its client makes the records of the formatting in place of those."""
+    for levels, near in ((0, 0), (2, 60_000), (4, 1 << 20)):
+        name = f"near-{levels}"
+        what, array = f"a disk with {levels} near levels", DiskArray()
+        disk = Disk(trial, name, near=near).formatted()
+        check_whole(trial, f"{what}, just formatted: check", disk, 1)
+        check_export(trial, f"{what}, just formatted: export", disk, array, f"{name}-new.img")
+        client = disk.serve().client()
+        for number in range(0, 20, 4):
+            write_block(trial, client, array, number)
+        client.close()
+        disk.stop(signal.SIGKILL)
+        check_whole(trial, f"{what}, written in part: check", disk, 1)
+        check_export(trial, f"{what}, written in part: export", disk, array, f"{name}.img")
+        disk.settle_host()
+        stored = {node for tree, node in BucketFile(disk.host.path()).records() if tree == 0}
+        far = min(stored, default=0) >= 2**levels - 1
+        trial.check(f"{what}: the host has records, and none of the near nodes", len(stored) > 0 and far, stored)
+        disk.host.stop()
+        before = disk.host_files()
+        for node in stored:
+            hide_record(BucketFile(disk.host.path()), node)
+        disk.start_host()
+        end = end_of(disk.start("check"))
+        trial.check(f"{what}: a host that hides what was stored", end.status == RECORDS_LOST and b" missing" not in end.out, end)
+        disk.host.stop()
+        disk.put_host_files(before)
+        disk.start_host()
+        check_whole(trial, f"{what}: with these records again", disk, 1)
+        check_and_end(trial, f"{what}: it goes on", disk, array)
 
 
 def lost_line(level, below):
@@ -230,6 +272,11 @@ def lose_record(trial, buckets, node):
     if trial.dice.random() < 0.5:
         buckets.flip(0, node)
         return
+    hide_record(buckets, node)
+
+
+def hide_record(buckets, node):
+    """Takes a node's record away."""
     _, record_len, base = buckets.trees()[0]
     with open(buckets.file, "r+b") as file:
         file.seek(base + node * buckets.cell_len(record_len))

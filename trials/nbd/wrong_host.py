@@ -1,7 +1,6 @@
 """A host that keeps another disk, or none."""
 
 from trials.bucket_host import Host
-from trials.bucket_messages import STORE
 from trials.disk import BLOCK, Disk
 from trials.disk_array import DiskArray, ask_at_random, check_and_end, lose_write
 from trials.nbd.no_room import refuse_for_room
@@ -39,7 +38,7 @@ def leave_write_waiting(trial, disk, array):
     disk.start_host()
     client = disk.serve().client()
     ask_at_random(trial, client, array)
-    refuse_for_room(disk.relay, STORE)
+    refuse_for_room(disk.relay)
     lose_write(trial, f"{disk.name}: a write is left waiting", client, array, offset=BLOCK, payload=b"wait")
     disk.wait()
     disk.host.stop()
