@@ -7,7 +7,7 @@ OUT_OF_MEMORY = 3
 RIGHT, WENT_ON, WRONG = "right", "went on", "wrong"
 # The answers that may differ without memory, since their calls go on: they refuse or repeat what there was no memory for.
 GO_ON = {
-    "rows_disk": re.compile(rb"(format|link) .*"),
+    "rows_disk": re.compile(rb"(introduce|link) .*"),
     "rows_sessions": re.compile(rb"(session|far_session) .*"),
     "rows_rounds": re.compile(
         rb"lives .* (ends|faults|answers|lies) .* => .*"
