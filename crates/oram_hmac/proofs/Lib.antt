@@ -1,0 +1,4 @@
+pub mod SameBytes
+pub mod TagsApart
+pub mod TestVectors
+pub mod WorkedRows
