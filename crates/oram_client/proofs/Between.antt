@@ -1,18 +1,21 @@
 -- A batch between its stamps, whose two exchanges are left out.
-use Rattle.std.proofs.Common.{◌≡◌, ◌⊎◌, ℕ, ◌<◌, List, [], ◌∷◌, ◌++◌, length, Option, Result, Ok, Err, inl, inr, refl, sym, ap, subst, arith, append_assoc, length-append}
+use Rattle.std.proofs.Common.{◌≡◌, ◌⊎◌, ◌∙◌, ℕ, ◌<◌, ◌≤◌, List, [], ◌∷◌, ◌++◌, length, Option, Result, Ok, Err, inl, inr, refl, sym, ap, subst, arith, append_assoc, length-append}
 use Rattle.oram_session.specs.declared.link.LinkFault.{LinkFault}
 use Rattle.oram_link_laws.specs.Repair.{AreAmong, IsAmong}
 use Rattle.oram_link_laws.specs.Runs.{Exchange, bodies_of}
-use Rattle.oram_rounds.specs.Batches.{BatchOutcome, IsBatch, answered, batch_outcome_of}
+use Rattle.oram_rounds.specs.Batches.{BatchOutcome, BreaksOff, IsBatch, answered, batch_outcome_of}
+use Rattle.oram_rounds.proofs.NextAnswers.{answered_none}
+use Rattle.oram_rounds.proofs.Sent.{answered_among}
 use Rattle.std.specs.Global.{Vec}
 use Rattle.std.specs.Prelude.{IfOk}
 use Rattle.std.proofs.lemmas.List.{length-map}
 use Rattle.oram_client.specs.Attempts.{Attempt, link_outcome}
-use Rattle.oram_client.specs.BatchExchanges.{batch_among, streams_are_batches}
+use Rattle.oram_client.specs.BatchExchanges.{among_both, batch_among, streams_are_batches}
 use Rattle.oram_client.specs.Dialer.{Destination, fault_of}
 use Rattle.oram_client.specs.StampMessages.{stamp_put}
 use Rattle.oram_client.specs.Stamped.{CarriesStamped, ComesTo, IsStampPut, LeavesOut, between}
 use Rattle.oram_client.specs.StreamBatches.{Connection, StreamBatch}
+use Rattle.oram_client.proofs.Frames.{among_left, among_right}
 use Rattle.oram_stamps.specs.Known.{IsSent, Stamps, next_stamp}
 use Rattle.oram_stamps.specs.Stamps.{record_text}
 use Rattle.oram_stamps.specs.declared.stamp.Place.TheVariants.{Begun, Done}
@@ -87,6 +90,57 @@ module _ (begun done : List ℕ) (bodies : List (List ℕ)) (put_begun : IsStamp
         (count, tries.exchanges, tries.among, refl),
       )
 
+  -- what is left of a batch's exchanges, once it broke off after these answers to its own messages
+  abbrev pub Parted : List (List ℕ) → List Exchange → Type 0
+  Parted answers heard = (exchanges : List Exchange) × LeavesOut heard exchanges × BreaksOff bodies answers exchanges
+
+  -- none of them has an answer
+  pub parted_early : (heard : List Exchange) → AreAmong (bodies_of heard) All → Parted [] heard
+  parted_early heard among =
+      let left = some_left heard among in
+      (left.exchanges, left.left, ([], left.exchanges, tt, left.among, sym (ap (λ (es : List Exchange). es ++ left.exchanges) (answered_none bodies))))
+
+  -- the exchanges of the first answers, and those behind them
+  behind : (bs answers more : List (List ℕ)) → length answers ≤ length bs → ((x : List ℕ) → IsAmong x bs → IsAmong x bodies)
+      → (rest : List Exchange) × (answered (bs ++ done ∷ []) (answers ++ more) ≡ answered bs answers ++ rest) × AreAmong (bodies_of rest) All
+  behind bs [] more few inside = (
+    answered (bs ++ done ∷ []) more,
+    sym (ap (λ (es : List Exchange). es ++ answered (bs ++ done ∷ []) more) (answered_none bs)),
+    answered_among (bs ++ done ∷ []) more All (λ x k. elim (which done bs x k) [
+      | inl same ↦ inr (among_right bodies (done ∷ []) x (inl same))
+      | inr among ↦ inr (among_left bodies (done ∷ []) x (inside x among))
+    ]),
+  )
+  behind [] (a ∷ answers) more few inside = absurd (omega (arith, few))
+  behind (b ∷ bs) (a ∷ answers) more few inside =
+      let rest = behind bs answers more (omega (arith, few)) (λ x k. inside x (inr k)) in
+      (rest.0, ap (λ (es : List Exchange). (b, Ok a) ∷ es) rest.1, rest.2)
+
+  -- The first message, which puts the stamp as begun, has this answer, and the first of the others have these. Some more may have come.
+  pub parted_later : (b : List ℕ) (answers more : List (List ℕ)) (tries after heard : List Exchange) → length answers ≤ length bodies → AreAmong (bodies_of tries) All
+      → AreAmong (bodies_of after) All → heard ≡ tries ++ answered All (b ∷ (answers ++ more)) ++ after → Parted answers heard
+  parted_later b answers more tries after heard few one two is =
+      let own = answered bodies answers in
+      let rest = behind bodies answers more few (λ x k. k) in
+      let before = some_left tries one in
+      let later = some_left (rest.0 ++ after) (among_both All rest.0 after rest.2 two) in
+      let front = tries ++ ((begun, Ok b) ∷ own) in
+      let whole : heard ≡ front ++ (rest.0 ++ after) =
+      is ∙ ap (λ (es : List Exchange). (tries ++ ((begun, Ok b) ∷ es)) ++ after) rest.1 ∙ ap (λ (es : List Exchange). es ++ after) (sym (append_assoc tries ((begun, Ok b) ∷ own) rest.0))
+      ∙ append_assoc front rest.0 after in (
+        (before.exchanges ++ own) ++ later.exchanges,
+        subst (λ (es : List Exchange). LeavesOut es ((before.exchanges ++ own) ++ later.exchanges)) (sym whole)
+            (leaves_both front (rest.0 ++ after) (before.exchanges ++ own) later.exchanges
+            (leaves_both tries ((begun, Ok b) ∷ own) before.exchanges own before.left (inl (put_begun, leaves_all own))) later.left),
+        (before.exchanges, later.exchanges, before.among, later.among, refl),
+      )
+
+  -- the messages of a batch that broke off
+  pub off_among : (answers : List (List ℕ)) (exchanges : List Exchange) → BreaksOff bodies answers exchanges → AreAmong (bodies_of exchanges) bodies
+  off_among answers exchanges off =
+      subst (λ (es : List Exchange). AreAmong (bodies_of es) bodies) (sym off.4) (among_both bodies (off.0 ++ answered bodies answers) off.1
+      (among_both bodies off.0 (answered bodies answers) off.2 (answered_among bodies answers bodies (λ x k. k))) off.3)
+
 -- all answers of such a batch
 pub long_enough : (outcome : Result (Vec (Vec ℕ)) LinkFault) (begun done : List ℕ) (bodies : List (List ℕ)) (heard : List Exchange)
     → IsBatch (between begun bodies done) (batch_outcome_of outcome) heard → IfOk outcome (λ answers. 1 < length answers.items)
@@ -117,7 +171,7 @@ module _ {S : Type 0} (remaining contents : S → Option (List ℕ)) where
     made : (outcome : BatchOutcome) (came : Attempt) (heard exchanges : List Exchange) → StreamBatch remaining contents line (between begun_put bodies done_put) outcome heard line'
         → ComesTo d known outcome came e → LeavesOut heard exchanges → IsBatch bodies (link_outcome came) exchanges → Carried came
     made outcome came heard exchanges batch comes left is =
-        (exchanges, inr (inr (record { known = known; sent = sent; outcome = outcome; heard = heard; batch = batch; comes = comes; left = left; is_batch = is })))
+        (exchanges, inr (inr (inl (record { known = known; sent = sent; outcome = outcome; heard = heard; batch = batch; comes = comes; left = left; is_batch = is }))))
 
     with_answers : (answers : List (List ℕ)) (came : Attempt) (heard : List Exchange) → StreamBatch remaining contents line (between begun_put bodies done_put) (Ok answers) heard line'
         → ComesTo d known (Ok answers) came e → IsBatch (between begun_put bodies done_put) (Ok answers) heard → Carried came

@@ -8,6 +8,7 @@ pub mod Greeted
 pub mod Tries
 pub mod TakenIn
 pub mod SentAhead
+pub mod TakenAnswers
 pub mod AskedAhead
 pub mod OneHostTries
 pub mod Reached
@@ -17,6 +18,8 @@ pub mod Between
 pub mod TakenStamps
 pub mod TreesApart
 pub mod StampedHost
+pub mod StampedStreams
+pub mod Streaming
 pub mod TreesApartExample
 pub mod Rows
 pub mod StampedExample

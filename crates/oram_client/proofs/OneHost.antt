@@ -11,14 +11,14 @@ use Rattle.oram_rounds.specs.Batches.{BatchOutcome, IsBatch, answered}
 use Rattle.oram_rounds.specs.CatchUp.{IsPlainCall, PlainRun}
 use Rattle.oram_client.specs.OneHost.{AnswersAreTheHosts, AreTries, ExchangesAreOfTheTries, FaultsAreOfMemory, TriesRun}
 use Rattle.oram_client.specs.Attempts.{Attempt, link_outcome}
-use Rattle.oram_client.specs.Reconnect.{DialerKind, IsDelayed, IsGivenUp, IsTried, IsTroubleIn, MakesTries, NextTry, ReconnectState, VainTry}
+use Rattle.oram_client.specs.Reconnect.{DialerKind, IsDelayed, IsGivenUp, IsTried, IsTroubleIn, MakesTries, NextTry, ReconnectState, SentBatch, VainTry}
 use Rattle.oram_session.specs.declared.link.LinkFault.{LinkFault}
 use Rattle.oram_session.specs.declared.link.LinkFault.TheVariants.{Io, Closed, TooLong, TooLarge, OutOfMemory}
 use Rattle.oram_client.specs.Dialer.{fault_of, lacks_memory}
 use Rattle.oram_client.specs.declared.dialer.Limits.{Limits}
 use Rattle.oram_client.specs.declared.dialer.Trouble.{Trouble}
 use Rattle.oram_client.specs.declared.dialer.Trouble.TheVariants.{OutOfReach, NoRoom, AnotherDisk, NoDisk, OlderState, OlderHost, NoStamps}
-use Rattle.oram_client.specs.BatchExchanges.{reconnects_are_batches}
+use Rattle.oram_client.specs.BatchExchanges.{sent_are_batches}
 
 module _ (may_lie : Bool) (v : Scheme) where
   abbrev Calls : Host → Exchange → Host → Type 0
@@ -108,9 +108,13 @@ module _ {D L : Type 0} (kind : DialerKind D L) where
   )
   divided (Some why) l m bodies o exchanges h = ([], tt, h.unsent)
 
+  sent : (l m : ReconnectState D L) (bodies : List (List ℕ)) (o : BatchOutcome) (exchanges : List Exchange) → SentBatch kind l bodies o exchanges m → Divided bodies exchanges
+  sent l m bodies o exchanges (inl h) = divided l.trouble l m bodies o exchanges h.passed
+  sent l m bodies o exchanges (inr h) = (exchanges ∷ [], (inr (l.dialer, m.dialer, h.line, h.line', h.came, h.called), tt), sym (append-nil exchanges))
+
   pub exchanges_are_of_the_tries : ExchangesAreOfTheTries kind
   exchanges_are_of_the_tries l m bodies o exchanges h =
-      let parts : Divided bodies exchanges = divided l.trouble l m bodies o exchanges h.passed in (
+      let parts : Divided bodies exchanges = sent l m bodies o exchanges h in (
         parts.0,
         parts.1,
         (λ may_lie v host after. (
@@ -135,9 +139,9 @@ module _ {D L : Type 0} (kind : DialerKind D L) where
 
   pub answers_are_the_hosts : AnswersAreTheHosts kind
   answers_are_the_hosts law may_lie v l m bodies answers exchanges host after h run =
-      let batch : IsBatch bodies (Ok answers) exchanges = reconnects_are_batches kind law l m bodies (Ok answers) exchanges h in
+      let batch : IsBatch bodies (Ok answers) exchanges = sent_are_batches kind law l m bodies (Ok answers) exchanges h in
       let whole : PlainRun may_lie v host (batch.1 ++ answered bodies answers) after = subst (λ (es : List Exchange). PlainRun may_lie v host es after) batch.3 run in
-      (batch.1, batch.2, folds_split {P = Host} {A = Exchange} (Calls may_lie v) host after batch.1 (answered bodies answers) whole, roomy l.trouble l m bodies answers exchanges h.passed)
+      (batch.1, batch.2, folds_split {P = Host} {A = Exchange} (Calls may_lie v) host after batch.1 (answered bodies answers) whole, λ tried. roomy l.trouble l m bodies answers exchanges tried.passed)
 
   faulty : (gave_up : Option Trouble) (l m : ReconnectState D L) (bodies : List (List ℕ)) (fault : LinkFault) (exchanges : List Exchange)
       → MatchOption gave_up (MakesTries kind l bodies (Err fault) exchanges m)

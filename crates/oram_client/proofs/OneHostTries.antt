@@ -9,10 +9,9 @@ use Rattle.oram_rounds.specs.Batches.{BatchOutcome}
 use Rattle.oram_rounds.specs.CatchUp.{IsPlainCall, PlainRun}
 use Rattle.oram_client.specs.OneHost.{ExchangesAreOfOneHost, LeadToOneHost}
 use Rattle.oram_client.specs.Attempts.{Attempt}
-use Rattle.oram_client.specs.Reconnect.{DialerKind, HasLine, IsDelayed, IsGivenUp, IsTimedOut, IsTried, MakesTries, NextTry, ReconnectState, VainTry}
+use Rattle.oram_client.specs.Reconnect.{DialerKind, HasLine, IsDelayed, IsGivenUp, IsTimedOut, IsTried, MakesTries, NextTry, ReconnectState, SentBatch, VainTry}
 use Rattle.oram_client.specs.declared.dialer.Limits.{Limits}
 use Rattle.oram_client.specs.declared.dialer.Trouble.{Trouble}
-use Rattle.oram_client.specs.declared.dialer.Trouble.TheVariants.{OutOfReach}
 
 -- the exchanges of an honest host are also possible for a host that may lie
 pub plain_run : (may_lie : Bool) (v : Scheme) (exchanges : List Exchange) (host after : Host) → HostRun host exchanges after → PlainRun may_lie v host exchanges after
@@ -99,6 +98,11 @@ module _ {D L : Type 0} (kind : DialerKind D L)
     ap (λ (d : D). host_of d m.line) h.same_dialer ∙ ap (λ (line : Option L). host_of l.dialer line) h.same_line ∙ is,
   )
 
+  sent : (l m : ReconnectState D L) (o : BatchOutcome) (exchanges : List Exchange) (host : Host) → host_of l.dialer l.line ≡ Some host → SentBatch kind l bodies o exchanges m
+      → Reached host exchanges m.dialer m.line
+  sent l m o exchanges host is (inl h) = passed l.trouble l m o exchanges host is h.passed
+  sent l m o exchanges host is (inr h) =
+      called_over h.came l.dialer m.dialer h.line h.line' m.line exchanges host (ap (λ (o : Option L). host_of l.dialer o) (sym h.was_open) ∙ is) h.called h.after
+
 pub exchanges_are_of_one_host : {D L : Type 0} (kind : DialerKind D L) → ExchangesAreOfOneHost kind
-exchanges_are_of_one_host kind may_lie v bodies host_of law l m o exchanges host is h =
-    passed kind may_lie v bodies host_of law l.trouble l m o exchanges host is h.passed
+exchanges_are_of_one_host kind may_lie v bodies host_of law l m o exchanges host is h = sent kind may_lie v bodies host_of law l m o exchanges host is h

@@ -80,7 +80,7 @@ read_all (Some left) bodies answers host after bytes leads gives count =
     let done = all_heard bodies answers host after leads.answers bytes leads.lost left leads.given leads.come gives.0 gives.1 count in
     (done.0, ap (λ (l : List ℕ). Some l) done.1)
 
-read_some : (new : Option (List ℕ)) (bodies answers : List (List ℕ)) (fault : LinkFault) (host after : Host) (bytes : List ℕ) → LeadsToHost host bodies bytes after
+pub read_some : (new : Option (List ℕ)) (bodies answers : List (List ℕ)) (fault : LinkFault) (host after : Host) (bytes : List ℕ) → LeadsToHost host bodies bytes after
     → GivesFrames (Some bytes) new answers → HostRun host (cut_short bodies answers fault) after
 read_some None bodies answers fault host after bytes leads gives = absurd gives.1
 read_some (Some left) bodies answers fault host after bytes leads gives =

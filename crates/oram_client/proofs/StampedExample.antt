@@ -1,5 +1,5 @@
 -- A batch between its stamps, over a connection that leads to a host.
-use Rattle.std.proofs.Common.{◌≡◌, ◌≢◌, ℕ, ◌<◌, ◌≤◌, ◌^◌, cond, true, false, List, [], ◌∷◌, ◌++◌, length, drop, take, Ok, Option, Some, refl, sym, ap, ◌∙◌, subst, inl, inr, arith, lit≤, suc, length-append}
+use Rattle.std.proofs.Common.{◌≡◌, ◌≢◌, ℕ, ◌<◌, ◌≤◌, ◌^◌, cond, true, false, List, [], ◌∷◌, ◌++◌, length, drop, take, Ok, Err, Option, Some, refl, sym, ap, ◌∙◌, subst, inl, inr, arith, lit≤, suc, length-append}
 use Rattle.std.specs.BTreeMap.{is_at}
 use Rattle.std.specs.Int.{w32, from_be_bytes, to_be_bytes}
 use Rattle.std.specs.List.{All}
@@ -10,7 +10,8 @@ use Rattle.std.proofs.lemmas.Nat.{from_be_bytes-to_be_bytes_4}
 use Rattle.oram_wire.specs.FrameStream.{IsBody, frame}
 use Rattle.oram_wire.specs.HostBodies.{HasNumbers, is_request_length}
 use Rattle.oram_wire.specs.HostMessages.{done_answer, fetch_body, no_room_answer, payload_answer, put_body, request_body}
-use Rattle.oram_wire.specs.declared.host_messages.HostAnswer.TheVariants.{Done, Payload}
+use Rattle.oram_wire.specs.declared.host_messages.HostAnswer.{HostAnswer}
+use Rattle.oram_wire.specs.declared.host_messages.HostAnswer.TheVariants.{Done, Payload, Refused}
 use Rattle.oram_wire.specs.declared.host_messages.HostRequest.{HostRequest}
 use Rattle.oram_wire.specs.declared.host_messages.HostRequest.TheVariants.{Fetch, Put, Shape, Store}
 use Rattle.oram_geometry.specs.Least.{least_from}
@@ -19,6 +20,7 @@ use Rattle.oram_host.specs.Answers.{Answers, IsFetched, IsPut}
 use Rattle.oram_host.specs.Host.{Host, Kept, record_of, tree_at}
 use Rattle.oram_host.specs.Path.{node_on, record_at}
 use Rattle.oram_host.specs.Service.{Serves}
+use Rattle.oram_host.specs.declared.refusals.HostRefusal.TheVariants.{OutOfMemory}
 use Rattle.oram_link_laws.specs.Examples.{known}
 use Rattle.oram_link_laws.specs.Repair.{IsAmong}
 use Rattle.oram_link_laws.proofs.Put.{first}
@@ -34,10 +36,11 @@ use Rattle.oram_stamps.proofs.Spelled.{length-stamp_text, length-tag}
 use Rattle.oram_client.specs.AnswerLengths.{longest_answer}
 use Rattle.oram_client.specs.OneHost.{LeadsToHost, this_disk}
 use Rattle.oram_client.specs.StampMessages.{stamp_put}
-use Rattle.oram_client.specs.Stamped.{IsBetween}
-use Rattle.oram_client.specs.StampedHost.{StampedBatchExample, answered_dialer, second_stamp, stamped_answers, stamped_dialer, stamped_host, stamped_line, stamped_messages, stamped_way, zero_key}
+use Rattle.oram_client.specs.Stamped.{IsBetween, IsStopped}
+use Rattle.oram_client.specs.StampedHost.{StampedBatchExample, answered_dialer, asking_dialer, fetched_in_vain, full_line, second_stamp, stamped_answers, stamped_dialer, stamped_host, stamped_line, stamped_messages, stamped_way, zero_key}
 use Rattle.oram_client.specs.StreamBatches.{StreamBatch}
 use Rattle.oram_client.specs.TreesApart.{AgreeBeside, fetched_alone, no_stamps, one_path, one_record}
+use Rattle.oram_client.specs.declared.dialer.Trouble.TheVariants.{NoRoom}
 use Rattle.oram_client.specs.declared.identity.TheConstants.{STAMP_TREE}
 
 -- the stamps' tree with these two records
@@ -87,29 +90,32 @@ is_done a b new long = record {
   keeps = record { here = refl; others = other_trees a new a b };
 }
 
-only_put : (host host' : Host) (node : ℕ) (bytes : List ℕ) → node < 2 ^ 32 → IsPut host STAMP_TREE node bytes host' → (message : HostRequest) → HasNumbers message
-    → put_body STAMP_TREE node bytes ≡ request_body message → Answers host message Done host'
-only_put host host' node bytes low put (Fetch t l) numbers e = absurd (let three : 3 ≡ 1 = ap first e in omega (arith, three))
-only_put host host' node bytes low put (Store t l r) numbers e = absurd (let three : 3 ≡ 2 = ap first e in omega (arith, three))
-only_put host host' node bytes low put (Shape t d l) numbers e = absurd (let three : 3 ≡ 4 = ap first e in omega (arith, three))
-only_put host host' node bytes low put (Put t n bs) numbers e =
+-- a message that puts these bytes is this request
+only_put : (node : ℕ) (bytes : List ℕ) → node < 2 ^ 32 → (message : HostRequest) → HasNumbers message → put_body STAMP_TREE node bytes ≡ request_body message → Put STAMP_TREE node bytes ≡ message
+only_put node bytes low (Fetch t l) numbers e = absurd (let three : 3 ≡ 1 = ap first e in omega (arith, three))
+only_put node bytes low (Store t l r) numbers e = absurd (let three : 3 ≡ 2 = ap first e in omega (arith, three))
+only_put node bytes low (Shape t d l) numbers e = absurd (let three : 3 ≡ 4 = ap first e in omega (arith, three))
+only_put node bytes low (Put t n bs) numbers e =
     let same_tree : STAMP_TREE ≡ t = ap (λ (b : List ℕ). first (drop 1 b)) e in
     let behind : to_be_bytes w32 node ++ bytes ≡ to_be_bytes w32 n ++ bs = ap (λ (b : List ℕ). drop 2 b) e in
     let number : to_be_bytes w32 node ≡ to_be_bytes w32 n = sym (take_at (to_be_bytes w32 node) bytes 4 refl) ∙ ap (take 4) behind ∙ take_at (to_be_bytes w32 n) bs 4 refl in
     let same_node : node ≡ n = sym (from_be_bytes-to_be_bytes_4 node low) ∙ ap (from_be_bytes w32) number ∙ from_be_bytes-to_be_bytes_4 n numbers in
     let same_bytes : bytes ≡ bs = sym (drop_at (to_be_bytes w32 node) bytes 4 refl) ∙ ap (drop 4) behind ∙ drop_at (to_be_bytes w32 n) bs 4 refl in
-    subst (λ (x : ℕ). IsPut host x n bs host') same_tree
-    (subst (λ (x : ℕ). IsPut host STAMP_TREE x bs host') same_node (subst (λ (x : List ℕ). IsPut host STAMP_TREE node x host') same_bytes put))
+    λ i. Put (same_tree i) (same_node i) (same_bytes i)
 
-put_served : (host host' : Host) (node : ℕ) (bytes : List ℕ) → node < 2 ^ 32 → length bytes ≡ 48 → IsPut host STAMP_TREE node bytes host'
-    → Serves host (put_body STAMP_TREE node bytes) Done host'
-put_served host host' node bytes low long put =
+put_answered : (host host' : Host) (node : ℕ) (bytes : List ℕ) (answer : HostAnswer) → node < 2 ^ 32 → length bytes ≡ 48 → Answers host (Put STAMP_TREE node bytes) answer host'
+    → Serves host (put_body STAMP_TREE node bytes) answer host'
+put_answered host host' node bytes answer low long put =
     let whole : length (put_body STAMP_TREE node bytes) ≡ 54 = ap (λ (n : ℕ). suc (suc (suc (suc (suc (suc n)))))) long in
     record {
-      request = only_put host host' node bytes low put;
+      request = λ message numbers e. subst (λ (m : HostRequest). Answers host m answer host') (only_put node bytes low message numbers e) put;
       op = λ e. absurd cc;
       misfit = λ m. absurd (let both : true ≡ false = subst (λ (n : ℕ). is_request_length 3 n ≡ false) whole m.1 in cc);
     }
+
+put_served : (host host' : Host) (node : ℕ) (bytes : List ℕ) → node < 2 ^ 32 → length bytes ≡ 48 → IsPut host STAMP_TREE node bytes host'
+    → Serves host (put_body STAMP_TREE node bytes) Done host'
+put_served host host' node bytes low long put = put_answered host host' node bytes Done low long put
 
 path_at : record_of one_record (node_on 0 0 0) ≡ Some (record_at 2 one_path 0)
 unfolding node_on
@@ -228,11 +234,52 @@ between_stamps = record {
   is_batch = (refl, [], tt, refl);
 }
 
+stopped : IsStopped known known stamped_dialer full_line (fetch_body 0 0 ∷ []) (Err NoRoom) fetched_in_vain asking_dialer stamped_way
+stopped = record {
+  known = asking_dialer.known;
+  sent = inl ((omega arith, (refl, omega arith)), refl);
+  answer = no_room_answer;
+  read = record {
+    was_open = refl;
+    is_open = refl;
+    disk = refl;
+    sent = record { fit = all_fit; wrote = refl };
+    received = record { count = refl; read = (All-cons IsBody no_room_answer [] (lit≤ tt) (All-nil IsBody), refl); within = (lit≤ tt, tt) };
+  };
+  trouble = NoRoom;
+  wrong = refl;
+  says = refl;
+  unheard = refl;
+  after = refl;
+}
+
+-- the host has no room for the first stamp, and stays as it was
+leads_full : LeadsToHost (stamped_host first_stamp first_stamp) stamped_messages (frame no_room_answer) (stamped_host first_stamp first_stamp)
+leads_full =
+    let host = stamped_host first_stamp first_stamp in
+    let begun = record_text zero_key place.Begun second_stamp in
+    let long = record_long place.Begun second_stamp in
+    record {
+      answers = frame no_room_answer;
+      given = inr (
+        Refused 8,
+        host,
+        [],
+        (lit≤ tt, lit≤ tt),
+        lit≤ tt,
+        put_answered host host 0 begun (Refused 8) (omega arith) long (OutOfMemory, refl, (omega arith, long), refl),
+        refl,
+        inl (refl, refl),
+      );
+      lost = [];
+      come = refl;
+    }
+
 agree : AgreeBeside STAMP_TREE (stamped_host first_stamp first_stamp) no_stamps
 agree t apart =
     ap (λ (o : Option Kept). cond (is_at (nat_cmp t) 0) (Some one_record) o)
     (look_past t (STAMP_TREE, kept (record_text zero_key place.Begun first_stamp) (record_text zero_key place.Done first_stamp)) [] (λ same. apart (sym same)))
 
 pub stamped_batch_example : StampedBatchExample
-unfolding between_stamps
-stamped_batch_example = ((inr (Fetch 0 0, omega arith, refl, λ e. (let zero_is : 0 ≡ 254 = e in omega (arith, zero_is))), tt), agree, between_stamps, leads)
+unfolding between_stamps stopped
+stamped_batch_example = ((inr (Fetch 0 0, omega arith, refl, λ e. (let zero_is : 0 ≡ 254 = e in omega (arith, zero_is))), tt), agree, between_stamps, leads, stopped, leads_full)

@@ -26,8 +26,8 @@ use Rattle.oram_rounds.specs.Batches.{BatchOutcome}
 use Rattle.oram_rounds.specs.CatchUp.{PlainRun}
 use Rattle.oram_rounds.proofs.KeptPaths.{serves_fetch}
 use Rattle.oram_client.specs.AnswerLengths.{longest_answer}
-use Rattle.oram_client.specs.OneHost.{AnswersFirst, Bytes, LeadToOneHost, LeadsToHost, NeverFails, OpensNext, PausesBetween, ReadsNoClock, TwoTriesExample, comes_over, done_frame, done_link, emptied, fresh, host_after, host_now, host_over, messages, ones, ones_host, path_frame, this_disk, two_tries}
-use Rattle.oram_client.specs.Reconnect.{IsDelayed, ReconnectBatch, dialer_kind, first_pause}
+use Rattle.oram_client.specs.OneHost.{AnswersFirst, Bytes, LeadToOneHost, LeadsToHost, NeverFails, OpensNext, PausesBetween, ReadsNoClock, TwoTriesExample, comes_over, done_frame, done_link, emptied, fresh, host_after, host_now, host_over, messages, ones, ones_host, path_frame, second_opened, this_disk, two_tries}
+use Rattle.oram_client.specs.Reconnect.{GoesOnce, IsDelayed, ReconnectBatch, dialer_kind, first_pause}
 use Rattle.oram_client.specs.StreamBatches.{StreamBatch, connection}
 use Rattle.oram_client.specs.Attempts.{Attempt, Plainly, attempt_for}
 use Rattle.oram_client.specs.declared.dialer.Limits.{Limits}
@@ -345,6 +345,20 @@ batch = record {
   reconnect_timeout = refl;
 }
 
+once : GoesOnce (dialer_kind OpensNext NeverFails PausesBetween ReadsNoClock (Plainly (StreamBatch known known))) second_opened messages (Ok (done_answer ∷ payload_answer ones ∷ [])) second_exchanges done_link
+once = record {
+  going = refl;
+  line = second_line;
+  was_open = refl;
+  came = Ok (done_answer ∷ payload_answer ones ∷ []);
+  line' = emptied;
+  called = (Ok (done_answer ∷ payload_answer ones ∷ []), second_batch, refl, refl);
+  after = refl;
+  says = refl;
+  still_going = refl;
+  reconnect_timeout = refl;
+}
+
 honest_store : (bytes : List ℕ) → IsHonestCall (host_with bytes) (store_body 0 0 ones) (Ok done_answer) ones_host
 honest_store bytes = (Done, tt, refl, store_served bytes)
 
@@ -359,4 +373,7 @@ two_tries_example = (
   (ones_host, honest_store _, (ones_host, inl refl, (ones_host, honest_store ones, (ones_host, honest_fetch, refl)))),
   (Done, ones_host, path_frame, tt, lit≤ tt, store_served ones, refl, (Payload ones, ones_host, [], omega arith, lit≤ tt, fetch_served, refl, tt)),
   leads 0,
+  refl,
+  once,
+  (ones_host, honest_store ones, (ones_host, honest_fetch, refl)),
 )

@@ -1,8 +1,10 @@
 -- The exchanges of a batch over a connection, and those of a batch over a link that tries until its host answers, are such as
 -- `IsBatch` allows.
-use Rattle.std.proofs.Common.{◌≡◌, ℕ, Bool, true, false, List, [], ◌∷◌, ◌++◌, Option, None, Some, Ok, Err, MatchOption, MatchResult, inl, inr, refl, sym, ap, ◌∙◌, subst, append_assoc}
+use Rattle.std.proofs.Common.{◌≡◌, ◌≤◌, ◌||◌, ℕ, Bool, true, false, List, [], ◌∷◌, ◌++◌, length, take, take_all, Option, None, Some, Ok, Err, MatchOption, inl, inr, refl, sym, ap, ◌∙◌, subst, append_assoc}
 use Rattle.std.specs.List.{FoldsTo, flat_map}
 use Rattle.std.specs.Prelude.{MatchBool}
+use Rattle.std.proofs.Math.Nat.{le_refl}
+use Rattle.oram_rounds.specs.Streams.{EndsAsBatch}
 use Rattle.oram_session.specs.declared.link.LinkFault.{LinkFault}
 use Rattle.oram_link_laws.specs.Repair.{AreAmong, IsAmong}
 use Rattle.oram_link_laws.specs.Runs.{Exchange, bodies_of}
@@ -12,10 +14,9 @@ use Rattle.oram_session.specs.declared.link.LinkFault.TheVariants.{Closed}
 use Rattle.oram_client.specs.Dialer.{fault_of}
 use Rattle.oram_client.specs.declared.dialer.Limits.{Limits}
 use Rattle.oram_client.specs.declared.dialer.Trouble.{Trouble}
-use Rattle.oram_client.specs.declared.dialer.Trouble.TheVariants.{OutOfReach}
-use Rattle.oram_client.specs.Reconnect.{DialerKind, IsDelayed, IsGivenUp, IsTried, LinkBatch, LinkLearns, MakesTries, NextTry, ReconnectBatch, ReconnectState, VainTry}
+use Rattle.oram_client.specs.Reconnect.{DialerKind, IsDelayed, IsGivenUp, IsTried, LinkBatch, LinkLearns, MakesTries, NextTry, ReconnectBatch, ReconnectState, SentBatch, VainTry}
 use Rattle.oram_client.specs.AnswerLengths.{longest_answer}
-use Rattle.oram_client.specs.StreamBatches.{Carries, Connection, IsClosed, StreamBatch, cut_short}
+use Rattle.oram_client.specs.StreamBatches.{AreReceived, Carries, Connection, IsClosed, StreamBatch, Streams, cut_short}
 
 -- if the messages of two lists of exchanges are among these bodies, so are those of both lists together
 pub among_both : (bodies : List (List ℕ)) (first second : List Exchange) → AreAmong (bodies_of first) bodies → AreAmong (bodies_of second) bodies
@@ -28,7 +29,7 @@ answered_among all [] answers inside = tt
 answered_among all (b ∷ bodies) [] inside = tt
 answered_among all (b ∷ bodies) (a ∷ answers) inside = (inside b (inl refl), answered_among all bodies answers (λ x k. inside x (inr k)))
 
-cut_among : (all bodies answers : List (List ℕ)) (fault : LinkFault) → ((x : List ℕ) → IsAmong x bodies → IsAmong x all)
+pub cut_among : (all bodies answers : List (List ℕ)) (fault : LinkFault) → ((x : List ℕ) → IsAmong x bodies → IsAmong x all)
     → AreAmong (bodies_of (cut_short bodies answers fault)) all
 cut_among all [] answers fault inside = tt
 cut_among all (b ∷ bodies) [] fault inside = (inside b (inl refl), cut_among all bodies [] fault (λ x k. inside x (inr k)))
@@ -59,6 +60,21 @@ module _ {R W : Type 0} (remaining : R → Option (List ℕ)) (contents : W → 
   pub streams_are_batches : (l m : Connection R W) (bodies : List (List ℕ)) (o : BatchOutcome) (exchanges : List Exchange)
       → StreamBatch remaining contents l bodies o exchanges m → IsBatch bodies o exchanges
   streams_are_batches l m bodies o exchanges h = carried l.closed l m bodies o exchanges h.carried
+
+  -- Once all answers were read one by one, the whole was a batch with these answers.
+  pub streams_end : EndsAsBatch (StreamBatch remaining contents) (Streams remaining contents)
+  streams_end l m bodies answers h count =
+      let all : take (length answers) bodies ≡ bodies = take_all (length answers) bodies (subst (λ (n : ℕ). n ≤ length answers) count (le_refl (length answers))) in
+      let received = subst (λ (bs : List (List ℕ)). AreReceived (longest_answer l.disk) (remaining l.reader) (remaining m.reader) bs answers) all h.received in (
+        answered bodies answers,
+        record {
+          closed = h.is_open ∙ sym (ap (λ (b : Bool). b || false) h.was_open);
+          disk = h.disk;
+          carried = subst (λ (b : Bool). MatchBool b (IsClosed l (Ok answers) (answered bodies answers) m)
+              (Carries remaining contents (longest_answer l.disk) l.reader l.writer bodies (Ok answers) (answered bodies answers) m.reader m.writer))
+              (sym h.was_open) (record { sent = h.sent; received = received }, refl);
+        },
+      )
 
 module _ {D L : Type 0} (kind : DialerKind D L) (law : DialersAreBatches kind.carries) where
   tried_among : (dialer dialer' : D) (line line' : Option L) (limits : Limits) (bodies : List (List ℕ)) (came : Attempt) (exchanges : List Exchange)
@@ -115,10 +131,17 @@ module _ {D L : Type 0} (kind : DialerKind D L) (law : DialersAreBatches kind.ca
       → ReconnectBatch kind l bodies o exchanges m → IsBatch bodies o exchanges
   reconnects_are_batches l m bodies o exchanges h = passed l.trouble l m bodies o exchanges h.passed
 
+  -- So has a batch whose answers are taken one by one, which is one try.
+  pub sent_are_batches : (l m : ReconnectState D L) (bodies : List (List ℕ)) (o : BatchOutcome) (exchanges : List Exchange)
+      → SentBatch kind l bodies o exchanges m → IsBatch bodies o exchanges
+  sent_are_batches l m bodies o exchanges (inl h) = reconnects_are_batches l m bodies o exchanges h
+  sent_are_batches l m bodies o exchanges (inr h) =
+      subst (λ (k : BatchOutcome). IsBatch bodies k exchanges) (sym h.says) (law l.dialer m.dialer h.line h.line' bodies h.came exchanges h.called)
+
   -- A link that learns that its process was kept has no exchanges.
   pub links_are_batches : (learns : D → ℕ → D → Type 0) (l m : ReconnectState D L) (bodies : List (List ℕ)) (o : BatchOutcome) (exchanges : List Exchange)
       → LinkBatch kind learns l bodies o exchanges m → IsBatch bodies o exchanges
-  links_are_batches learns l m bodies o exchanges (inl h) = reconnects_are_batches l m bodies o exchanges h
+  links_are_batches learns l m bodies o exchanges (inl h) = sent_are_batches l m bodies o exchanges h
   links_are_batches learns l m bodies o exchanges (inr h) =
       subst (λ (k : BatchOutcome). IsBatch bodies k exchanges) (sym h.no_answers)
       (subst (λ (bs : List (List ℕ)). IsBatch bs (Ok []) exchanges) (sym h.no_bodies) (refl, [], tt, h.unsent))

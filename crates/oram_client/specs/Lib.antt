@@ -2,6 +2,9 @@ pub mod DiskHead
 pub mod Keys
 pub mod Reconnect
 pub mod Pipelined
+pub mod Streaming
+pub mod StampedStreams
+pub mod StreamedBatches
 pub mod StreamBatches
 pub mod TreesApart
 pub mod BatchExchanges

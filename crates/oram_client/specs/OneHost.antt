@@ -18,7 +18,7 @@ use Rattle.oram_rounds.specs.Batches.{BatchOutcome, answered}
 use Rattle.oram_rounds.specs.CatchUp.{PlainRun}
 use Rattle.oram_client.specs.AnswerLengths.{DiskSizes}
 use Rattle.oram_client.specs.Attempts.{Attempt, DialersAreBatches, Plainly}
-use Rattle.oram_client.specs.Reconnect.{DialerKind, ReconnectBatch, ReconnectState, dialer_kind}
+use Rattle.oram_client.specs.Reconnect.{DialerKind, GoesOnce, ReconnectBatch, ReconnectState, SentBatch, dialer_kind}
 use Rattle.oram_client.specs.StreamBatches.{Connection, StreamBatch, connection}
 use Rattle.oram_client.specs.declared.dialer.Limits.{Limits}
 use Rattle.oram_client.specs.declared.dialer.Trouble.{Trouble}
@@ -38,21 +38,22 @@ module _ {D L : Type 0} (kind : DialerKind D L) where
   -- other.
   abbrev pub ExchangesAreOfTheTries : Type 0
   ExchangesAreOfTheTries = (l m : ReconnectState D L) (bodies : List (List ℕ)) (o : BatchOutcome) (exchanges : List Exchange)
-      → ReconnectBatch kind l bodies o exchanges m
+      → SentBatch kind l bodies o exchanges m
       → (tries : List (List Exchange)) × AreTries kind.carries bodies tries
       × ((may_lie : Bool) (v : Scheme) (host after : Host) → TriesRun may_lie v host tries after ↔ PlainRun may_lie v host exchanges after)
 
   -- The answers that the caller receives are the host's, to all messages in their order, after the host received any of the
-  -- messages in tries that failed. None of them says that the host has no room, unless the link has given up.
+  -- messages in tries that failed. If the link sends a batch again while it may, none of them says that the host has no room, unless the link
+  -- has given up.
   abbrev pub AnswersAreTheHosts : Type 0
   AnswersAreTheHosts = DialersAreBatches kind.carries
       → (may_lie : Bool) (v : Scheme) (l m : ReconnectState D L) (bodies answers : List (List ℕ)) (exchanges : List Exchange) (host after : Host)
-      → ReconnectBatch kind l bodies (Ok answers) exchanges m → PlainRun may_lie v host exchanges after
+      → SentBatch kind l bodies (Ok answers) exchanges m → PlainRun may_lie v host exchanges after
       → (vain : List Exchange) × AreAmong (bodies_of vain) bodies
       × ((mid : Host) × PlainRun may_lie v host vain mid × PlainRun may_lie v mid (answered bodies answers) after)
-      × (m.trouble ≡ None → ¬ IsAmong no_room_answer answers)
+      × (ReconnectBatch kind l bodies (Ok answers) exchanges m → m.trouble ≡ None → ¬ IsAmong no_room_answer answers)
 
-  -- If a link returns a fault and hasn't given up, memory ran out.
+  -- If a link that sends its batches again while it may returns a fault and hasn't given up, memory ran out.
   abbrev pub FaultsAreOfMemory : Type 0
   FaultsAreOfMemory = (l m : ReconnectState D L) (bodies : List (List ℕ)) (fault : LinkFault) (exchanges : List Exchange)
       → ReconnectBatch kind l bodies (Err fault) exchanges m → l.trouble ≡ None → m.trouble ≡ None → fault ≡ OutOfMemory
@@ -75,7 +76,7 @@ module _ {D L : Type 0} (kind : DialerKind D L) where
   abbrev pub ExchangesAreOfOneHost : Type 0
   ExchangesAreOfOneHost = (may_lie : Bool) (v : Scheme) (bodies : List (List ℕ)) (host_of : D → Option L → Option Host) → LeadToOneHost may_lie v bodies host_of
       → (l m : ReconnectState D L) (o : BatchOutcome) (exchanges : List Exchange) (host : Host) → host_of l.dialer l.line ≡ Some host
-      → ReconnectBatch kind l bodies o exchanges m
+      → SentBatch kind l bodies o exchanges m
       → (after : Host) × PlainRun may_lie v host exchanges after × (host_of m.dialer m.line ≡ Some after)
 
 -- If the reader's bytes are known to be a server's answers to the messages, then that server is honest in the exchanges of a
@@ -188,10 +189,22 @@ emptied = record { reader = []; writer = frame (store_body 0 0 ones) ++ frame (f
 abbrev pub done_link : ReconnectState ℕ Bytes
 done_link = record { dialer = 2; line = Some emptied; reconnect_timeout = 1000; trouble = None; awaited = None }
 
--- The batch sends both messages again, and all connections lead to the host, which is honest in all exchanges.
+-- the link once it has opened the second connection, over which it has sent nothing yet
+abbrev pub second_opened : ReconnectState ℕ Bytes
+second_opened = record { dialer = 2; line = Some (connection (comes_over 1) [] this_disk); reconnect_timeout = 1000; trouble = None; awaited = None }
+
+-- what is exchanged over the second connection
+abbrev pub second_try : List Exchange
+second_try = (store_body 0 0 ones, Ok done_answer) ∷ (fetch_body 0 0, Ok (payload_answer ones)) ∷ []
+
+-- The batch sends both messages again, and all connections lead to the host, which is honest in all exchanges. So it is if the answers over the
+-- second connection are taken one by one.
 abbrev pub TwoTriesExample : Type 0
 TwoTriesExample = ((may_lie : Bool) → LeadToOneHost (dialer_kind OpensNext NeverFails PausesBetween ReadsNoClock (Plainly (StreamBatch known known))) may_lie one_block messages host_now)
     × (host_now fresh.dialer fresh.line ≡ Some new_host)
     × ReconnectBatch (dialer_kind OpensNext NeverFails PausesBetween ReadsNoClock (Plainly (StreamBatch known known))) fresh messages (Ok (done_answer ∷ payload_answer ones ∷ [])) two_tries done_link
     × HostRun new_host two_tries ones_host
     × Supplies ones_host messages (comes_over 1) × LeadsToHost new_host messages (comes_over 0) ones_host
+    × (host_now second_opened.dialer second_opened.line ≡ Some ones_host)
+    × GoesOnce (dialer_kind OpensNext NeverFails PausesBetween ReadsNoClock (Plainly (StreamBatch known known))) second_opened messages (Ok (done_answer ∷ payload_answer ones ∷ [])) second_try done_link
+    × HostRun ones_host second_try ones_host

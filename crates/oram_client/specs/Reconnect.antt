@@ -19,7 +19,7 @@ pub record ReconnectState (D L : Type 0) : Type 0 where
   pub line : Option L
   pub reconnect_timeout : ℕ
   pub trouble : Option Trouble  -- why it gave up, once it has
-  pub awaited : Option (Awaited L)  -- what was sent ahead of its answers; it has the open connection then
+  pub awaited : Option (Awaited L)  -- a batch whose answers are still to be received; it has the open connection then
 
 -- Why an attempt has to be made again: not all messages were answered, or the host had no room for one of them. `None` if
 -- the attempt has something for the caller: the answers, or that memory ran out.
@@ -173,6 +173,24 @@ module _ {D L : Type 0} (kind : DialerKind D L) where
     pub passed : Passes l bodies outcome exchanges m
     pub reconnect_timeout : m.reconnect_timeout ≡ l.reconnect_timeout
 
+  -- A batch whose answers were taken one by one is one try over the open connection, and nothing more, whatever it came to. If it broke off, the
+  -- connection is closed.
+  pub record GoesOnce (l : ReconnectState D L) (bodies : List (List ℕ)) (outcome : BatchOutcome) (exchanges : List Exchange) (m : ReconnectState D L) : Type 0 where
+    pub going : l.trouble ≡ None
+    pub line : L
+    pub was_open : l.line ≡ Some line
+    pub came : Attempt
+    pub line' : L
+    pub called : kind.carries l.dialer line bodies came exchanges m.dialer line'
+    pub after : MatchResult came (λ answers. m.line ≡ Some line') (λ trouble. m.line ≡ None)
+    pub says : outcome ≡ link_outcome came
+    pub still_going : m.trouble ≡ None
+    pub reconnect_timeout : m.reconnect_timeout ≡ l.reconnect_timeout
+
+  -- a batch of messages, with as many tries as it needs or with one
+  abbrev pub SentBatch : ReconnectState D L → List (List ℕ) → BatchOutcome → List Exchange → ReconnectState D L → Type 0
+  SentBatch l bodies outcome exchanges m = ReconnectBatch l bodies outcome exchanges m ⊎ GoesOnce l bodies outcome exchanges m
+
 -- the link learns that its process was kept, and has this check
 abbrev pub LinkLearns : {D L : Type 0} → (D → ℕ → D → Type 0) → ReconnectState D L → ℕ → ReconnectState D L → Type 0
 LinkLearns learns l check m = learns l.dialer check m.dialer × (m ≡ record l { dialer = m.dialer })
@@ -187,4 +205,4 @@ pub record HasLearnt {D L : Type 0} (learns : D → ℕ → D → Type 0) (l : R
 
 -- A batch over such a link. A link that learns that its process was kept does no more than in a batch of no messages.
 abbrev pub LinkBatch : {D L : Type 0} → DialerKind D L → (D → ℕ → D → Type 0) → ReconnectState D L → List (List ℕ) → BatchOutcome → List Exchange → ReconnectState D L → Type 0
-LinkBatch kind learns l bodies outcome exchanges m = ReconnectBatch kind l bodies outcome exchanges m ⊎ HasLearnt learns l bodies outcome exchanges m
+LinkBatch kind learns l bodies outcome exchanges m = SentBatch kind l bodies outcome exchanges m ⊎ HasLearnt learns l bodies outcome exchanges m

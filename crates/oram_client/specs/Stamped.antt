@@ -3,7 +3,7 @@ use Rattle.std.specs.Prelude.{◌≡◌, ◌≢◌, ◌⊎◌, ℕ, ◌<◌, ◌
 use Rattle.oram_wire.specs.HostMessages.{done_answer, no_room_answer, payload_answer, put_body}
 use Rattle.oram_wire.specs.declared.host_messages.TheConstants.{GOOD, REFUSED}
 use Rattle.oram_session.specs.declared.link.LinkFault.{LinkFault}
-use Rattle.oram_session.specs.declared.link.LinkFault.TheVariants.{Io, OutOfMemory}
+use Rattle.oram_session.specs.declared.link.LinkFault.TheVariants.{Closed, Io, OutOfMemory}
 use Rattle.oram_link_laws.specs.Repair.{IsAmong}
 use Rattle.oram_link_laws.specs.Runs.{Exchange}
 use Rattle.oram_rounds.specs.Batches.{BatchOutcome, IsBatch}
@@ -16,7 +16,7 @@ use Rattle.oram_client.specs.Attempts.{Attempt, attempt_for, link_outcome}
 use Rattle.oram_client.specs.Dialer.{Destination, IsGreeted, IsUngreeted, mismatch_trouble, stamps_question}
 use Rattle.oram_client.specs.StampMessages.{stamp_put}
 use Rattle.oram_client.specs.declared.identity.TheConstants.{STAMP_TREE}
-use Rattle.oram_client.specs.StreamBatches.{Connection, StreamAsk, StreamBatch}
+use Rattle.oram_client.specs.StreamBatches.{Connection, StreamAsk, StreamBatch, Streams, cut_short}
 use Rattle.oram_client.specs.declared.dialer.Trouble.{Trouble}
 use Rattle.oram_client.specs.declared.dialer.Trouble.TheVariants.{OutOfReach, NoRoom, AnotherDisk, NoDisk, OlderState, OlderHost, NoStamps}
 
@@ -40,6 +40,16 @@ ArePutFor begun done AnotherDisk = ⊥
 ArePutFor begun done NoDisk = ⊥
 ArePutFor begun done OlderState = ⊥
 ArePutFor begun done OlderHost = ⊥
+
+-- what is wrong with the answer to one of them
+abbrev pub IsPutFor : List ℕ → Trouble → Type 0
+IsPutFor answer NoRoom = answer ≡ no_room_answer
+IsPutFor answer NoStamps = (answer ≢ done_answer) × (answer ≢ no_room_answer)
+IsPutFor answer (OutOfReach fault) = ⊥
+IsPutFor answer AnotherDisk = ⊥
+IsPutFor answer NoDisk = ⊥
+IsPutFor answer OlderState = ⊥
+IsPutFor answer OlderHost = ⊥
 
 -- Of the answers to a batch between its stamps, the answers to the two stamps were taken out: the first answer and the last one.
 pub record TakesStamps {A : Type 0} (answers : List (List ℕ)) (result : Result A Trouble) (left : List (List ℕ)) : Type 0 where
@@ -141,9 +151,22 @@ module _ {S : Type 0} (remaining contents : S → Option (List ℕ)) where
     pub left : LeavesOut heard exchanges
     pub is_batch : IsBatch bodies (link_outcome came) exchanges
 
+  -- The host didn't put the stamp as begun, and the batch broke off there: no other answers were read.
+  pub record IsStopped (d : Destination) (line : Line) (bodies : List (List ℕ)) (came : Attempt) (exchanges : List Exchange) (e : Destination) (line' : Line) : Type 0 where
+    pub known : Stamps
+    pub sent : IsSent d.known known
+    pub answer : List ℕ
+    pub read : Streams remaining contents line (between (stamp_put d.key Begun (next_stamp d.known)) bodies (stamp_put d.key Done (next_stamp d.known))) (answer ∷ []) line'
+    pub trouble : Trouble
+    pub wrong : IsPutFor answer trouble
+    pub says : came ≡ Err trouble
+    pub unheard : exchanges ≡ cut_short bodies [] Closed
+    pub after : e ≡ with_known d known
+
   abbrev pub CarriesStamped : Destination → Line → List (List ℕ) → Attempt → List Exchange → Destination → Line → Type 0
   CarriesStamped d line bodies came exchanges e line' =
       IsUnsent d line came exchanges e line' ⊎ IsPlain d line bodies came exchanges e line' ⊎ IsBetween d line bodies came exchanges e line'
+      ⊎ IsStopped d line bodies came exchanges e line'
 
 -- Messages may go ahead of their answers only if their batch needs no stamps.
 abbrev pub AsksPlainly : {S : Type 0} → (S → Option (List ℕ)) → Destination → Connection S S → List (List ℕ) → Connection S S → Type 0

@@ -1,15 +1,14 @@
 -- The exchanges of a batch that goes between its stamps are such as `IsBatch` allows.
-use Rattle.std.proofs.Common.{◌≡◌, ℕ, List, [], Option, Ok, Err, inl, inr, refl, sym, ap, subst}
+use Rattle.std.proofs.Common.{ℕ, List, [], Option, Ok, Err, inl, inr, sym, ap, subst}
+use Rattle.oram_link_laws.specs.Repair.{AreAmong}
 use Rattle.oram_link_laws.specs.Runs.{Exchange, bodies_of}
 use Rattle.oram_rounds.specs.Batches.{BatchOutcome, IsBatch}
 use Rattle.oram_rounds.specs.Law.{AreBatches}
 use Rattle.oram_client.specs.Attempts.{Attempt, DialersAreBatches, Plainly, attempt_for, link_outcome}
-use Rattle.oram_client.specs.BatchExchanges.{streams_are_batches}
+use Rattle.oram_client.specs.BatchExchanges.{cut_among, streams_are_batches}
 use Rattle.oram_client.specs.Dialer.{Destination}
-use Rattle.oram_client.specs.Stamped.{CarriesStamped, IsUnsent, Line}
-use Rattle.oram_client.specs.declared.dialer.Trouble.{Trouble}
-use Rattle.oram_client.specs.declared.dialer.Trouble.TheVariants.{OutOfReach}
-use Rattle.oram_session.specs.declared.link.LinkFault.TheVariants.{OutOfMemory}
+use Rattle.oram_client.specs.Stamped.{CarriesStamped, Line}
+use Rattle.oram_session.specs.declared.link.LinkFault.TheVariants.{Closed, OutOfMemory}
 
 -- an attempt says what its batch came to
 said : (bodies : List (List ℕ)) (outcome : BatchOutcome) (exchanges : List Exchange) → IsBatch bodies outcome exchanges → IsBatch bodies (link_outcome (attempt_for outcome)) exchanges
@@ -30,4 +29,8 @@ module _ {S : Type 0} (remaining contents : S → Option (List ℕ)) where
   carries_are_batches d e line line' bodies came exchanges (inr (inl h)) =
       subst (λ (k : BatchOutcome). IsBatch bodies k exchanges) (sym (ap link_outcome h.says))
       (said bodies h.outcome exchanges (streams_are_batches remaining contents line line' bodies h.outcome exchanges h.batch))
-  carries_are_batches d e line line' bodies came exchanges (inr (inr h)) = h.is_batch
+  carries_are_batches d e line line' bodies came exchanges (inr (inr (inl h))) = h.is_batch
+  carries_are_batches d e line line' bodies came exchanges (inr (inr (inr h))) =
+      let among : AreAmong (bodies_of exchanges) bodies =
+      subst (λ (es : List Exchange). AreAmong (bodies_of es) bodies) (sym h.unheard) (cut_among bodies bodies [] Closed (λ x k. k)) in
+      subst (λ (k : BatchOutcome). IsBatch bodies k exchanges) (sym (ap link_outcome h.says)) among

@@ -1,10 +1,10 @@
 -- The host of a dialer that puts stamps between the messages of its batches.
-use Rattle.std.specs.Prelude.{◌≡◌, ℕ, false, List, [], ◌∷◌, ◌++◌, Ok, Option, Some, replicate}
+use Rattle.std.specs.Prelude.{◌≡◌, ◌⊎◌, ℕ, false, List, [], ◌∷◌, ◌++◌, Ok, Err, Option, Some, replicate}
 use Rattle.std.specs.List.{AllByRecursion, flat_map}
 use Rattle.oram_geometry.specs.declared.Sizes.{Sizes}
 use Rattle.oram_geometry.specs.Sizes.{IsDevice}
 use Rattle.oram_wire.specs.FrameStream.{frame}
-use Rattle.oram_wire.specs.HostMessages.{done_answer, fetch_body, payload_answer}
+use Rattle.oram_wire.specs.HostMessages.{done_answer, fetch_body, no_room_answer, payload_answer}
 use Rattle.oram_host.specs.Host.{Host, Kept}
 use Rattle.oram_link_laws.specs.Examples.{known}
 use Rattle.oram_link_laws.specs.Runs.{Exchange, HostRun}
@@ -17,19 +17,21 @@ use Rattle.oram_client.specs.Attempts.{Attempt}
 use Rattle.oram_client.specs.Dialer.{Destination}
 use Rattle.oram_client.specs.OneHost.{LeadsToHost, this_disk}
 use Rattle.oram_client.specs.StampMessages.{stamp_put}
-use Rattle.oram_client.specs.Stamped.{IsBetween, between}
+use Rattle.oram_client.specs.Stamped.{IsBetween, IsStopped, between}
 use Rattle.oram_client.specs.StreamBatches.{Connection, connection}
 use Rattle.oram_client.specs.TreesApart.{AgreeBeside, IsAboutAnother, fetched_alone, no_stamps, one_path, one_record}
+use Rattle.oram_client.specs.declared.dialer.Trouble.TheVariants.{NoRoom}
 use Rattle.oram_client.specs.declared.identity.TheConstants.{STAMP_TREE}
+use Rattle.oram_session.specs.declared.link.LinkFault.TheVariants.{Closed}
 
--- A batch goes between its stamps over a connection that leads to a host. What that host is sent, and answers, has the messages that put
+-- A batch goes between its stamps over a connection that leads to a host. Or it stops there, since the host refuses the first stamp. What that host is sent, and answers, has the messages that put
 -- the stamps in it. Then a host that keeps the same of every tree but the stamps' is honest in the exchanges of the batch's own messages,
 -- as if no stamps had been put, and afterwards both keep the same of every other tree again.
 abbrev pub StampedBatchesReachTheHost : {S : Type 0} → (S → Option (List ℕ)) → (S → Option (List ℕ)) → Type 0
 StampedBatchesReachTheHost {S} remaining contents =
     (d e : Destination) (line line' : Connection S S) (bodies : List (List ℕ)) (came : Attempt) (exchanges : List Exchange) (host other after : Host) (bytes : List ℕ)
     → AllByRecursion (IsAboutAnother STAMP_TREE) bodies → AgreeBeside STAMP_TREE host other → line.closed ≡ false → remaining line.reader ≡ Some bytes
-    → (batch : IsBetween remaining contents d line bodies came exchanges e line')
+    → IsBetween remaining contents d line bodies came exchanges e line' ⊎ IsStopped remaining contents d line bodies came exchanges e line'
     → LeadsToHost host (between (stamp_put d.key Begun (next_stamp d.known)) bodies (stamp_put d.key Done (next_stamp d.known))) bytes after
     → (rest : Host) × HostRun other exchanges rest × AgreeBeside STAMP_TREE after rest
 
@@ -71,8 +73,21 @@ stamped_way = record { reader = []; writer = flat_map frame stamped_messages; di
 abbrev pub answered_dialer : Destination
 answered_dialer = record stamped_dialer { known = settled second_stamp }
 
+-- Or the host has no room for the first of the two stamps, and answers nothing else. Then the path is fetched in vain.
+abbrev pub full_line : Connection (List ℕ) (List ℕ)
+full_line = connection (frame no_room_answer) [] this_disk
+
+abbrev pub fetched_in_vain : List Exchange
+fetched_in_vain = (fetch_body 0 0, Err Closed) ∷ []
+
+-- the dialer knows then that it has sent the second stamp
+abbrev pub asking_dialer : Destination
+asking_dialer = record stamped_dialer { known = record { may = first_stamp ∷ []; begun = 0; done = 0; current = second_stamp } }
+
 -- The premises of the law about batches between their stamps hold: the host with stamps, and one without them.
 abbrev pub StampedBatchExample : Type 0
 StampedBatchExample = AllByRecursion (IsAboutAnother STAMP_TREE) (fetch_body 0 0 ∷ []) × AgreeBeside STAMP_TREE (stamped_host first_stamp first_stamp) no_stamps
     × IsBetween known known stamped_dialer stamped_line (fetch_body 0 0 ∷ []) (Ok (payload_answer one_path ∷ [])) fetched_alone answered_dialer stamped_way
     × LeadsToHost (stamped_host first_stamp first_stamp) stamped_messages stamped_answers (stamped_host second_stamp second_stamp)
+    × IsStopped known known stamped_dialer full_line (fetch_body 0 0 ∷ []) (Err NoRoom) fetched_in_vain asking_dialer stamped_way
+    × LeadsToHost (stamped_host first_stamp first_stamp) stamped_messages (frame no_room_answer) (stamped_host first_stamp first_stamp)

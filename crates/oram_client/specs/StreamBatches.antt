@@ -138,3 +138,11 @@ module _ {R W : Type 0} (remaining : R → Option (List ℕ)) (contents : W → 
     pub closed : m.closed ≡ (l.closed || is_err o)
     pub disk : m.disk ≡ l.disk
     pub carried : MatchBool l.closed (IsClosed l o exchanges m) (Carries (longest_answer l.disk) l.reader l.writer bodies o exchanges m.reader m.writer)
+
+  -- A batch was sent over an open connection, and these answers to the first of its messages were read.
+  pub record Streams (l : Connection R W) (bodies answers : List (List ℕ)) (m : Connection R W) : Type 0 where
+    pub was_open : l.closed ≡ false
+    pub is_open : m.closed ≡ false
+    pub disk : m.disk ≡ l.disk
+    pub sent : AreSent contents l.writer bodies m.writer
+    pub received : AreReceived (longest_answer l.disk) (remaining l.reader) (remaining m.reader) (take (length answers) bodies) answers

@@ -1,11 +1,12 @@
 //! How a connection to a host is opened, what can be wrong with a host, and who is notified of it.
-ghost use Rattle.std.specs.Prelude.{◌≡◌, ◌++◌, ℕ, List, Option, IfOk, IfErr};
+ghost use Rattle.std.specs.Prelude.{◌≡◌, ◌++◌, ◌+◌, ◌<◌, ℕ, List, Option, length, IfOk, IfErr};
 ghost use Rattle.oram_client.specs.Attempts.{Attempt, DialersAreBatches, attempt_of};
 ghost use Rattle.oram_link_laws.specs.Runs.{Exchange};
 ghost use Rattle.oram_rounds.specs.Batches.{texts};
 ghost use Rattle.oram_client.specs.Pipelined.{EndsCarrying, IsSending};
+ghost use Rattle.oram_client.specs.Streaming.{BeginsOver, CountsAnswers, EndsCarried, GivesOver};
 
-use crate::awaited::Sending;
+use crate::awaited::{Progress, Sending};
 use oram_cli::SocketFault;
 use oram_session::LinkFault;
 use oram_stamps::Mismatch;
@@ -154,6 +155,7 @@ pub struct Limits {
 /// A dialer may have something to remember beyond the end of its process, as a [`BatchLink`](oram_rounds::BatchLink) may.
 pub trait Dial {
     ghost use Rattle.oram_client.specs.Attempts.{Attempt, DialersAreBatches};
+    ghost use Rattle.oram_client.specs.declared.awaited.Progress.{Progress};
     ghost use Rattle.oram_client.specs.declared.dialer.Limits.{Limits};
     ghost use Rattle.oram_client.specs.declared.dialer.Trouble.{Trouble};
 
@@ -180,6 +182,10 @@ pub trait Dial {
 
     /// `asks dialer line bodies line'`: these messages were sent ahead of their answers over `line`, which became `line'`.
     ghost asks: { Self → Self.Line → List (List ℕ) → Self.Line → Type 0 };
+
+    /// `streams old line bodies answers progress new line'`: these bodies were sent in one batch over `line`, these answers were given to the
+    /// first of them, and the batch has come that far. The dialer has turned from `old` into `new`, and the connection into `line'`.
+    ghost streams: { Self → Self.Line → List (List ℕ) → List (List ℕ) → Progress → Self → Self.Line → Type 0 };
 
     /// The bytes that the dialer wants to have kept with its process.
     ghost notes: { Self → List ℕ };
@@ -218,6 +224,31 @@ pub trait Dial {
     ) -> Result<Vec<Vec<u8>>, Trouble>
         ensures { EndsCarrying asks carries self.now (texts bodies.now) line.old (attempt_of result) line.new };
 
+    /// Sends the bodies of `first` and then those of `last` over a connection that this dialer has opened, as [`carry`](Dial::carry) does,
+    /// and returns how far the batch has come. It gives no answers: [`next_answer`](Dial::next_answer) has to be called for each of the
+    /// bodies, before anything else is done with the connection. There is at least one of them. If it fails, that is the outcome of the
+    /// batch.
+    fn begin(
+        &mut self,
+        alloc: Global,
+        line: &mut Self::Line,
+        first: &[Vec<u8>],
+        last: &[Vec<u8>],
+    ) -> Result<Progress, Trouble>
+        requires { 0 < length first.now + length last.now }
+        ensures { BeginsOver carries streams self.old line.old (texts first.now ++ texts last.now) result self.new line.new };
+
+    /// Returns the answer to the next body of the batch that was begun over a connection, which is `body`. Fails if it doesn't come; then
+    /// the connection isn't used again.
+    fn next_answer(
+        &mut self,
+        alloc: Global,
+        line: &mut Self::Line,
+        progress: &mut Progress,
+        body: &[u8],
+    ) -> Result<Vec<u8>, Trouble>
+        ensures { GivesOver carries streams self.old line.old progress.old body.now result self.new line.new progress.new };
+
     /// Returns the dialer's note, which may be empty.
     fn note(&self, alloc: Global) -> Result<Vec<u8>, AllocError>
         ensures { IfOk result (λ note. note.items ≡ notes self.now) };
@@ -228,6 +259,12 @@ pub trait Dial {
 
     // The exchanges are those of the bodies, and the last ones have the answers.
     ghost are_batches: { DialersAreBatches carries };
+
+    // How far a batch has come says how many answers are to be given.
+    ghost counts_answers: { CountsAnswers streams };
+
+    // A batch whose answers were all given one by one is a batch as any other.
+    ghost ends_carried: { EndsCarried carries streams };
 
     /// Waits for `milliseconds`.
     fn pause(&mut self, milliseconds: u64)

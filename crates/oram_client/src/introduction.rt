@@ -10,7 +10,7 @@ ghost use Rattle.oram_client.specs.Introduction.{AreDone, AreUndone, HasOther, I
 use crate::faults::IntroductionFault;
 use crate::identity::{OwnTree, identity_question, identity_tree, shape_messages, stamps_tree};
 use crate::keys::Identity;
-use crate::reconnect_link::is_no_room;
+use crate::no_room::is_no_room;
 use oram_geometry::Device;
 use oram_host::HostRefusal;
 use oram_rounds::BatchLink;

@@ -8,7 +8,7 @@ use crate::dialer::Dial;
 use std::io::{Read, Write};
 
 /// A law about definitions: the exchanges of a batch over a [`ReconnectLink`](crate::ReconnectLink) are those of its tries,
-/// each a batch over one connection. So if all connections lead to one host, which takes part in the exchanges of the tries,
+/// each a batch over one connection; of a batch whose answers are taken one by one there is one try. So if all connections lead to one host, which takes part in the exchanges of the tries,
 /// one after the other, then that host takes part in those of the whole batch, and the laws about links and their hosts hold of
 /// it.
 pub fn exchanges_are_of_the_tries<D: Dial>()
@@ -17,12 +17,13 @@ pub fn exchanges_are_of_the_tries<D: Dial>()
 
 /// A law about definitions: the answers that such a link gives are those of the host beside it, to all messages of the batch in
 /// their order. In the tries before, the host may have received any of these messages, and no others. None of these answers
-/// says that the host has no room, unless the link has given up.
+/// says that the host has no room, unless the link has given up, or they were taken one by one.
 pub fn answers_are_the_hosts<D: Dial>()
     ensures { AnswersAreTheHosts (dialer_kind D.opens D.fails D.pauses D.reads D.carries) }
 {}
 
-/// A law about definitions: such a link returns a fault only if it has given up, or if memory ran out.
+/// A law about definitions: such a link returns a fault only if it has given up, or if memory ran out. A batch whose answers are taken one by
+/// one may break off otherwise too; then its caller sends it again.
 pub fn faults_are_of_memory<D: Dial>()
     ensures { FaultsAreOfMemory (dialer_kind D.opens D.fails D.pauses D.reads D.carries) }
 {}
@@ -61,7 +62,7 @@ pub fn trees_are_apart()
 {}
 
 /// A law about definitions: a batch that goes between its stamps, over a connection that leads to an honest host, has the exchanges of a
-/// host to which no stamps were put. So the laws about links and their hosts hold of a host without its stamps' tree.
+/// host to which no stamps were put, also if it stops since the host refuses the first stamp. So the laws about links and their hosts hold of a host without its stamps' tree.
 pub fn stamped_batches_reach_the_host<S: Read + Write>()
     ensures { StampedBatchesReachTheHost S.remaining S.contents }
 {}

@@ -19,14 +19,17 @@ mod introduction;
 mod keys;
 mod law;
 mod named_files;
+mod no_room;
 mod reconnect_link;
+mod reconnect_time;
+mod stamp_answers;
 mod stream_batches;
 mod tcp_dialer;
 mod timed_link;
 mod trouble_reporter;
 
 pub use answer_lengths::AnswerLengths;
-pub use awaited::{Awaited, Sending};
+pub use awaited::{AheadBatch, Awaited, BegunBatch, Progress, Sending};
 pub use dialer::{Dial, HostWatch, Limits, Trouble};
 pub use disk_head::{Head, SealerKind, TITLE_LEN, head_in, title_of};
 pub use disk_keys::{Keys, WrongKey, keys_for};

@@ -1,21 +1,21 @@
 //! A link that tries until its host answers.
 ghost use Rattle.std.specs.Prelude.{◌≡◌, ◌≢◌, ◌⊎◌, ◌++◌, ◌*◌, ◌-◌, ◌<◌, ◌≤◌, ◌^◌, [], ◌∷◌, List, None, Some, min, IfOk, IfErr, IfSome, MatchBool, MatchOption, MatchResult};
-ghost use Rattle.oram_wire.specs.HostMessages.{no_room_answer};
-ghost use Rattle.oram_link_laws.specs.Repair.{IsAmong};
 ghost use Rattle.oram_link_laws.specs.Runs.{Exchange};
 ghost use Rattle.oram_rounds.specs.Batches.{BatchOutcome, batch_outcome_of, texts};
 ghost use Rattle.oram_client.specs.Attempts.{attempt_of, link_outcome};
-ghost use Rattle.oram_client.specs.Pipelined.{EndsAwaited, EndsTry, GoesOn};
-ghost use Rattle.oram_client.specs.Reconnect.{HasLine, IsPaused, IsReached, IsTimedOut, IsTried, IsTroubleIn, MakesTries, ReconnectBatch, dialer_kind, elapsed, limits, time_left};
+ghost use Rattle.oram_client.specs.Pipelined.{EndsAwaited, EndsTry, GoesOn, NoneAhead};
+ghost use Rattle.oram_client.specs.Reconnect.{HasLine, IsPaused, IsReached, IsTimedOut, IsTried, IsTroubleIn, MakesTries, ReconnectBatch, dialer_kind, limits};
+ghost use Rattle.oram_client.specs.Streaming.{HoldsBegun, NoneBegun};
+ghost use Rattle.oram_client.specs.declared.awaited.Awaited.TheVariants.{Ahead, Begun};
 
-use crate::awaited::{Awaited, Sending};
+use crate::awaited::{AheadBatch, Awaited, BegunBatch, Progress, Sending};
 use crate::dialer::{Dial, HostWatch, Limits, Trouble};
+use crate::no_room::has_no_room;
+use crate::reconnect_time::time_left;
 use crate::trouble_reporter::TroubleReporter;
-use oram_host::HostRefusal;
 use oram_pipeline::PipelinedLink;
 use oram_rounds::{BatchLink, LinkRecords};
 use oram_session::LinkFault;
-use oram_wire::REFUSED;
 use std::alloc::{AllocError, Global};
 use std::marker::Model;
 
@@ -58,6 +58,9 @@ struct Wait {
 /// While a connection is open, the messages of a batch can be sent ahead of their answers ([`PipelinedLink`]). Their answers are then
 /// what the first try comes to. If they don't come, the whole batch is sent again as any other. Its reconnect timeout runs from the moment
 /// when its messages were sent, also while the caller does something else.
+///
+/// Over an open connection a batch can also be begun, and its answers taken one by one ([`BatchLink::begin`]). Such a batch isn't tried again: if
+/// it breaks off, the connection is closed, and the caller gets the fault.
 #[derive(Debug, Drop)]
 pub struct ReconnectLink<D: Dial, W> {
     dialer: D,
@@ -67,7 +70,7 @@ pub struct ReconnectLink<D: Dial, W> {
     reconnect_timeout: u64,
     /// Why the link gave up.
     trouble: Option<Trouble>,
-    /// What was sent ahead. It has the open connection then, and `line` is `None`.
+    /// A batch whose answers are still to be received. It has the open connection then, and `line` is `None`.
     awaited: Option<Awaited<D::Line>>,
 }
 
@@ -77,25 +80,6 @@ impl<D: Dial, W> Model for ReconnectLink<D, W> {
     ghost Value = { ReconnectState D D.Line };
 
     ghost view = { λ l. record { dialer = l.dialer; line = l.line; reconnect_timeout = l.reconnect_timeout; trouble = l.trouble; awaited = l.awaited } };
-}
-
-/// Returns whether an answer says that the host has no room.
-pub(crate) fn is_no_room(answer: &[u8]) -> bool
-    ensures { MatchBool result (answer.now ≡ no_room_answer) (answer.now ≢ no_room_answer) }
-{
-    answer == [REFUSED, HostRefusal::OutOfMemory.code()].as_slice()
-}
-
-/// Returns whether one of the answers says that the host has no room.
-pub(crate) fn has_no_room(answers: &[Vec<u8>]) -> bool
-    ensures { MatchBool result (IsAmong no_room_answer (texts answers.now)) (¬ IsAmong no_room_answer (texts answers.now)) }
-{
-    for answer in answers {
-        if is_no_room(answer) {
-            return true;
-        }
-    }
-    false
 }
 
 /// Returns why an attempt has to be made again; `None` if there is something to give to the caller: the answers, or that
@@ -132,34 +116,6 @@ fn reached(answers: Result<Vec<Vec<u8>>, LinkFault>) -> Result<(), Trouble>
     match answers {
         Ok(_) => Ok(()),
         Err(fault) => Err(Trouble::OutOfReach(fault)),
-    }
-}
-
-/// Returns the time between two readings of the clock, or 0 if one of them failed.
-pub(crate) fn elapsed(begin: Option<u64>, now: Option<u64>) -> u64
-    ensures { result ≡ elapsed begin now }
-{
-    match (begin, now) {
-        (Some(begin), Some(now)) => now.saturating_sub(begin),
-        _ => 0,
-    }
-}
-
-/// Returns how much time is left of the reconnect timeout after `trouble`: none if the trouble won't pass.
-fn time_left(
-    reconnect_timeout: u64,
-    begin: Option<u64>,
-    left: u64,
-    trouble: Trouble,
-    now: Option<u64>,
-) -> u64
-    ensures left { result ≡ time_left reconnect_timeout begin left trouble now }
-    ensures most { result ≤ left }
-{
-    if trouble.may_pass() {
-        left.min(reconnect_timeout.saturating_sub(elapsed(begin, now)))
-    } else {
-        0
     }
 }
 
@@ -288,6 +244,15 @@ impl<D: Dial, W: HostWatch> ReconnectLink<D, W> {
         self.news.report_trouble(trouble);
     }
 
+    /// Reports why a batch broke off that was begun, unless memory ran out here.
+    fn report_break(&mut self, trouble: Trouble)
+        ensures { self.new ≡ self.old }
+    {
+        if !trouble.lacks_memory() {
+            self.news.report_trouble(trouble);
+        }
+    }
+
     /// Reports that the host has answered, if it has.
     fn report_answer(&mut self, came: &Result<Vec<Vec<u8>>, Trouble>)
         ensures { self.new ≡ self.old }
@@ -406,14 +371,17 @@ impl<D: Dial, W: HostWatch> ReconnectLink<D, W> {
         }
     }
 
-    /// Takes out what was sent ahead, unless the link has given up.
-    fn take_awaited(&mut self) -> Option<Awaited<D::Line>>
-        ensures taken { MatchOption result ((self.old.awaited ≡ None) ⊎ (self.old.trouble ≢ None))
-            (λ awaited. (self.old.awaited ≡ Some awaited) × (self.old.trouble ≡ None)) }
+    /// Takes out what was sent ahead, unless the link has given up. If other answers are due, their connection is closed.
+    fn take_ahead(&mut self) -> Option<AheadBatch<D::Line>>
+        ensures taken { MatchOption result (NoneAhead self.old.awaited ⊎ (self.old.trouble ≢ None))
+            (λ ahead. (self.old.awaited ≡ Some (Ahead ahead)) × (self.old.trouble ≡ None)) }
         ensures same { self.new ≡ record self.old { awaited = self.new.awaited } }
     {
         match self.trouble {
-            None => self.awaited.take(),
+            None => match self.awaited.take() {
+                Some(Awaited::Ahead(ahead)) => Some(ahead),
+                _ => None,
+            },
             Some(_) => None,
         }
     }
@@ -422,26 +390,65 @@ impl<D: Dial, W: HostWatch> ReconnectLink<D, W> {
     fn end_batch(
         &mut self,
         alloc: Global,
-        awaited: Awaited<D::Line>,
+        ahead: AheadBatch<D::Line>,
         bodies: &[Vec<u8>],
     ) -> Result<Vec<Vec<u8>>, LinkFault>
         requires { self.old.trouble ≡ None }
         ensures ends { EndsAwaited (dialer_kind D.opens D.fails D.pauses D.reads D.carries) D.asks
-            self.old (texts bodies.now) awaited (batch_outcome_of result) self.new }
+            self.old (texts bodies.now) ahead (batch_outcome_of result) self.new }
         ensures reconnect_timeout { self.new.reconnect_timeout ≡ self.old.reconnect_timeout }
     {
-        let Awaited { begin, sending } = awaited;
+        let AheadBatch { begin, sending } = ahead;
         let came = self.end_try(alloc, sending, bodies);
         self.go_on(alloc, begin, came, &[], bodies)
+    }
+}
+
+impl<D: Dial, W> ReconnectLink<D, W> {
+    /// Keeps the connection of a batch that was begun: with the batch, as long as more of its answers are to come.
+    fn keep_begun(&mut self, line: D::Line, progress: Progress)
+        ensures { HoldsBegun line progress self.old self.new }
+    {
+        if progress.left == 0 {
+            self.line = Some(line);
+        } else {
+            self.awaited = Some(Awaited::Begun(BegunBatch { line, progress }));
+        }
+    }
+
+    /// Takes out the open connection for a batch that is to be begun; `None` if there is none, or if the link has given up.
+    fn take_open(&mut self) -> Option<D::Line>
+        ensures taken { MatchOption result ((self.new ≡ self.old) × ((self.old.line ≡ None) ⊎ (self.old.trouble ≢ None)))
+            (λ line. (self.old.line ≡ Some line) × (self.old.trouble ≡ None) × (self.new ≡ record self.old { line = None })) }
+    {
+        match self.trouble {
+            None => self.line.take(),
+            Some(_) => None,
+        }
+    }
+
+    /// Takes out the batch that was begun. If other answers are due, their connection is closed.
+    fn take_begun(&mut self) -> Option<BegunBatch<D::Line>>
+        ensures taken { MatchOption result (NoneBegun self.old.awaited) (λ batch. self.old.awaited ≡ Some (Begun batch)) }
+        ensures same { self.new ≡ record self.old { awaited = None } }
+    {
+        match self.awaited.take() {
+            Some(Awaited::Begun(batch)) => Some(batch),
+            _ => None,
+        }
     }
 }
 
 impl<D: Dial, W: HostWatch> BatchLink for ReconnectLink<D, W> {
     ghost use Rattle.std.specs.Prelude.{[], ⊤};
     ghost use Rattle.oram_client.specs.BatchExchanges.{learnt_nothing_sent, links_are_batches};
+    ghost use Rattle.oram_client.specs.StreamedBatches.{link_streams_end};
     ghost use Rattle.oram_client.specs.Reconnect.{LinkBatch, LinkLearns};
+    ghost use Rattle.oram_client.specs.Streaming.{LinkStreams};
 
     ghost batches = { λ l bodies o exchanges m. LinkBatch (dialer_kind D.opens D.fails D.pauses D.reads D.carries) D.learns l bodies o exchanges m };
+
+    ghost streams = { λ l bodies answers m. LinkStreams D.streams l bodies answers m };
 
     ghost notes = { λ l. record { text = D.notes l.dialer; records = [] } };
 
@@ -458,6 +465,52 @@ impl<D: Dial, W: HostWatch> BatchLink for ReconnectLink<D, W> {
         self.pass(alloc, first, last)
     }
 
+    /// Sends the messages over the open connection, if there is one and the link hasn't given up. If that fails, the connection is closed,
+    /// and that is reported, unless memory ran out here.
+    fn begin(&mut self, alloc: Global, first: &[Vec<u8>], last: &[Vec<u8>]) -> bool {
+        if first.is_empty() && last.is_empty() {
+            return false;
+        }
+        let Some(mut line) = self.take_open() else {
+            return false;
+        };
+        match self.dialer.begin(alloc, &mut line, first, last) {
+            Ok(progress) => {
+                self.keep_begun(line, progress);
+                true
+            }
+            Err(trouble) => {
+                self.report_break(trouble);
+                false
+            }
+        }
+    }
+
+    /// If the answer doesn't come, the connection is closed, and that is reported. An answer that the host has no room is given as any
+    /// other.
+    fn next_answer(&mut self, alloc: Global, body: &[u8]) -> Result<Vec<u8>, LinkFault> {
+        let Some(batch) = self.take_begun() else {
+            return Err(LinkFault::Closed);
+        };
+        let BegunBatch {
+            mut line,
+            mut progress,
+        } = batch;
+        match self
+            .dialer
+            .next_answer(alloc, &mut line, &mut progress, body)
+        {
+            Ok(answer) => {
+                self.keep_begun(line, progress);
+                Ok(answer)
+            }
+            Err(trouble) => {
+                self.report_break(trouble);
+                Err(trouble.fault())
+            }
+        }
+    }
+
     fn note(&self, alloc: Global) -> Result<Vec<u8>, AllocError> {
         self.dialer.note(alloc)
     }
@@ -472,6 +525,9 @@ impl<D: Dial, W: HostWatch> BatchLink for ReconnectLink<D, W> {
 
     ghost are_batches = { λ l m bodies o exchanges h.
         links_are_batches (dialer_kind D.opens D.fails D.pauses D.reads D.carries) D.are_batches D.learns l m bodies o exchanges h };
+
+    ghost ends_as_batch = { λ l m bodies answers h count.
+        link_streams_end (dialer_kind D.opens D.fails D.pauses D.reads D.carries) D.learns D.streams D.counts_answers D.ends_carried l m bodies answers h count };
 
     ghost learning_sends_nothing = { λ l m check learnt.
         learnt_nothing_sent (dialer_kind D.opens D.fails D.pauses D.reads D.carries) D.learns l m check learnt };
@@ -496,13 +552,13 @@ impl<D: Dial, W: HostWatch> PipelinedLink for ReconnectLink<D, W> {
         if let Some(line) = self.line.take() {
             let begin = self.now();
             let sending = self.dialer.ask(alloc, line, bodies);
-            self.awaited = Some(Awaited { begin, sending });
+            self.awaited = Some(Awaited::Ahead(AheadBatch { begin, sending }));
         }
     }
 
     fn answers(&mut self, alloc: Global, bodies: &[Vec<u8>]) -> Result<Vec<Vec<u8>>, LinkFault> {
-        match self.take_awaited() {
-            Some(awaited) => self.end_batch(alloc, awaited, bodies),
+        match self.take_ahead() {
+            Some(ahead) => self.end_batch(alloc, ahead, bodies),
             None => self.pass(alloc, &[], bodies),
         }
     }

@@ -9,7 +9,7 @@ ghost use Rattle.oram_link_laws.specs.Runs.{Exchange};
 ghost use Rattle.oram_rounds.specs.Batches.{batch_outcome_of, texts};
 ghost use Rattle.oram_client.specs.AnswerLengths.{longest_answer};
 ghost use Rattle.oram_pipeline.specs.Pipelines.{EndsBatch};
-ghost use Rattle.oram_client.specs.StreamBatches.{AreAdded, AreReceived, AreSent, AreUnframed, Carries, FailsToSendAll, ReceivesWithin, StopsAfter, StreamAsk, StreamBatch, connection};
+ghost use Rattle.oram_client.specs.StreamBatches.{AreAdded, AreReceived, AreSent, AreUnframed, Carries, FailsToSendAll, ReceivesWithin, StopsAfter, StreamAsk, StreamBatch, Streams, connection};
 
 use crate::answer_lengths::AnswerLengths;
 use oram_rounds::{BatchLink, LinkRecords};
@@ -364,6 +364,38 @@ impl<R: Read, W: WriteDuplex<R>> StreamBatches<R, W> {
         self.closed = outcome.is_err();
         outcome
     }
+
+    /// Sends a batch as [`call_between`](StreamBatches::call_between) does, and gives no answers:
+    /// [`next_answer`](BatchLink::next_answer) reads them, one at a time. If it fails, that is the outcome of the batch.
+    pub fn begin_between(
+        &mut self,
+        alloc: Global,
+        before: &[Vec<u8>],
+        first: &[Vec<u8>],
+        between: &[Vec<u8>],
+        last: &[Vec<u8>],
+    ) -> Result<(), LinkFault>
+        ensures ok { OnOk result (Streams R.remaining W.contents self.old
+            ((texts before.now ++ texts first.now) ++ (texts between.now ++ texts last.now)) [] self.new) }
+        ensures err { IfErr result (λ fault. (exchanges : List Exchange) × StreamBatch R.remaining W.contents self.old
+            ((texts before.now ++ texts first.now) ++ (texts between.now ++ texts last.now)) (Err fault) exchanges self.new) }
+    {
+        if self.is_closed() {
+            return Err(LinkFault::Closed);
+        }
+        let begun = send_duplex(
+            alloc,
+            &mut self.reader,
+            &mut self.writer,
+            &self.lengths,
+            before,
+            first,
+            between,
+            last,
+        );
+        self.closed = begun.is_err();
+        begun
+    }
 }
 
 impl<R: Read, W: Write> StreamBatches<R, W> {
@@ -406,10 +438,12 @@ impl<R: Read, W: Write> StreamBatches<R, W> {
 impl<R: Read, W: WriteDuplex<R>> BatchLink for StreamBatches<R, W> {
     ghost use Rattle.std.specs.Prelude.{◌≡◌, [], ⊤};
     ghost use Rattle.std.proofs.Common.{inl};
-    ghost use Rattle.oram_client.specs.StreamBatches.{StreamBatch};
-    ghost use Rattle.oram_client.specs.BatchExchanges.{streams_are_batches};
+    ghost use Rattle.oram_client.specs.StreamBatches.{StreamBatch, Streams};
+    ghost use Rattle.oram_client.specs.BatchExchanges.{streams_are_batches, streams_end};
 
     ghost batches = { λ l bodies o exchanges m. StreamBatch R.remaining W.contents l bodies o exchanges m };
+
+    ghost streams = { λ l bodies answers m. Streams R.remaining W.contents l bodies answers m };
 
     ghost notes = { λ l. record { text = []; records = [] } };
 
@@ -426,6 +460,20 @@ impl<R: Read, W: WriteDuplex<R>> BatchLink for StreamBatches<R, W> {
         self.call_between(alloc, &[], first, &[], last)
     }
 
+    fn begin(&mut self, alloc: Global, first: &[Vec<u8>], last: &[Vec<u8>]) -> bool {
+        self.begin_between(alloc, &[], first, &[], last).is_ok()
+    }
+
+    /// Reads the next frame. A fault closes the connection.
+    fn next_answer(&mut self, alloc: Global, body: &[u8]) -> Result<Vec<u8>, LinkFault> {
+        if self.is_closed() {
+            return Err(LinkFault::Closed);
+        }
+        let answer = receive(alloc, &mut self.reader, self.lengths.longest(body));
+        self.closed = answer.is_err();
+        answer
+    }
+
     /// Returns no bytes: this link has nothing to remember.
     fn note(&self, alloc: Global) -> Result<Vec<u8>, AllocError> {
         Ok(Vec::new(alloc))
@@ -438,6 +486,8 @@ impl<R: Read, W: WriteDuplex<R>> BatchLink for StreamBatches<R, W> {
     fn learn_kept(&mut self, _check: u64) {}
 
     ghost are_batches = { λ l m bodies o exchanges h. streams_are_batches R.remaining W.contents l m bodies o exchanges h };
+
+    ghost ends_as_batch = { λ l m bodies answers h count. streams_end R.remaining W.contents l m bodies answers h count };
 
     ghost learning_sends_nothing = { λ l m check same. inl same };
 

@@ -1,11 +1,13 @@
 //! Connections to the host of a disk, over TCP or over a Unix socket.
-ghost use Rattle.std.specs.Prelude.{◌≡◌, ◌≢◌, ◌<◌, ◌++◌, List, OnOk, IfOk, IfErr, MatchBool, length, string_bytes};
+ghost use Rattle.std.specs.Prelude.{◌≡◌, ◌≢◌, ◌<◌, ◌+◌, ◌++◌, List, OnOk, IfOk, IfErr, MatchBool, length, string_bytes};
 ghost use Rattle.oram_link_laws.specs.Runs.{Exchange};
 ghost use Rattle.oram_rounds.specs.Batches.{batch_outcome_of, texts};
 ghost use Rattle.oram_stamps.specs.Stamps.{shown_text};
 ghost use Rattle.oram_client.specs.Attempts.{attempt_of};
 ghost use Rattle.oram_client.specs.Dialer.{mismatch_trouble};
 ghost use Rattle.oram_client.specs.Stamped.{ArePutFor, CarriesStamped, ComesTo, GivesNoStamps, GivesStamps, IsCompared, IsLearnt, IsUncompared, ShowsNoStamps, TakesStamps, with_known};
+ghost use Rattle.oram_client.specs.StampedStreams.{HearsDone, StreamsStamped, learnt_done};
+ghost use Rattle.oram_client.specs.Streaming.{BeginsOver, GivesOver};
 ghost use Rattle.oram_sockets.specs.Duplex.{contents_of, remaining_of};
 ghost use Rattle.oram_stamps.specs.Known.{IsMismatch, IsTakenOver, Stamps};
 ghost use Rattle.oram_stamps.specs.declared.known.Mismatch.{Mismatch};
@@ -15,10 +17,12 @@ ghost use Rattle.oram_wire.specs.declared.host_messages.HostAnswer.TheVariants.{
 ghost use Rattle.oram_client.specs.Dialer.{Shows, IsGreetedOver, IsUngreetedOver};
 
 use crate::answer_lengths::AnswerLengths;
-use crate::awaited::Sending;
+use crate::awaited::{Progress, Sending};
 use crate::dialer::{Dial, Limits, Trouble};
 use crate::identity::{IDENTITY_TREE, STAMP_TREE, stamp_message};
-use crate::reconnect_link::{elapsed, has_no_room, is_no_room};
+use crate::no_room::{has_no_room, is_no_room};
+use crate::reconnect_time::elapsed;
+use crate::stamp_answers::{hear_begun, hear_own, hear_stamp};
 use crate::timed_link::{TimedLink, milliseconds};
 use oram_cli::limit_silence;
 use oram_host::HostRefusal;
@@ -32,8 +36,8 @@ use std::io::Read;
 use std::marker::Model;
 use std::net::{Net, OpenStream};
 use std::rt::Clock;
-use std::thread;
 use std::time::Duration;
+use std::{slice, thread};
 
 /// The longest time to connect to a host, in milliseconds.
 const LONGEST_CONNECTING: u64 = 10_000;
@@ -264,6 +268,89 @@ impl<R> TcpDialer<R> {
         let outcome = line.call_between(alloc, &[begun], first, last, &[done]);
         self.learn_outcome(outcome)
     }
+
+    /// Sends a batch as [`carry_stamped`](TcpDialer::carry_stamped) does, and reads no answers.
+    fn begin_stamped<S: Read + WriteDuplex<S>, C: Clock>(
+        &mut self,
+        alloc: Global,
+        line: &mut TimedLink<S, C>,
+        first: &[Vec<u8>],
+        last: &[Vec<u8>],
+    ) -> Result<Progress, Trouble>
+        requires { 0 < length first.now + length last.now }
+        ensures { BeginsOver (CarriesStamped S.remaining S.contents) (StreamsStamped S.remaining S.contents) self.old line.old (texts first.now ++ texts last.now) result self.new line.new }
+    {
+        let next = self.known.next_stamp();
+        let begun = stamp_message(alloc, &self.key, Place::Begun, &next)?;
+        let done = stamp_message(alloc, &self.key, Place::Done, &next)?;
+        self.known.send(alloc)?;
+        let before = slice::from_ref(&begun);
+        let behind = slice::from_ref(&done);
+        if let Err(fault) = line.begin_between(alloc, before, first, last, behind) {
+            return Err(Trouble::OutOfReach(fault));
+        }
+        Ok(Progress {
+            left: first.len() + last.len(),
+            no_room: false,
+            begun: Some(begun),
+            done: Some(done),
+        })
+    }
+
+    /// Learns that the host has put a batch's stamp as done. It has done the batch, unless it had no room for one of the messages.
+    fn learn_done(&mut self, no_room: bool)
+        ensures { self.new ≡ learnt_done self.old no_room }
+    {
+        if !no_room {
+            self.known.settle();
+        }
+    }
+
+    /// Reads the answer to the message that puts a batch's stamp as done, once all others were read, and learns from it.
+    fn hear_done<S: Read + WriteDuplex<S>, C: Clock>(
+        &mut self,
+        alloc: Global,
+        line: &mut TimedLink<S, C>,
+        progress: &mut Progress,
+    ) -> Result<(), Trouble>
+        ensures { HearsDone S.remaining S.contents self.old line.old progress.old result self.new line.new progress.new }
+    {
+        if progress.left > 0 {
+            return Ok(());
+        }
+        let Some(done) = progress.done.take() else {
+            return Ok(());
+        };
+        match hear_stamp(alloc, line, &done) {
+            Ok(()) => {
+                self.learn_done(progress.no_room);
+                Ok(())
+            }
+            Err(trouble) => Err(trouble),
+        }
+    }
+
+    /// Reads the next answer to a batch's own messages, and with the first one and the last one those to its stamps.
+    fn next_stamped<S: Read + WriteDuplex<S>, C: Clock>(
+        &mut self,
+        alloc: Global,
+        line: &mut TimedLink<S, C>,
+        progress: &mut Progress,
+        body: &[u8],
+    ) -> Result<Vec<u8>, Trouble>
+        ensures { GivesOver (CarriesStamped S.remaining S.contents) (StreamsStamped S.remaining S.contents) self.old line.old progress.old body.now result self.new line.new progress.new }
+    {
+        match hear_begun(alloc, line, progress) {
+            Ok(()) => match hear_own(alloc, line, progress, body) {
+                Ok(answer) => match self.hear_done(alloc, line, progress) {
+                    Ok(()) => Ok(answer),
+                    Err(trouble) => Err(trouble),
+                },
+                Err(trouble) => Err(trouble),
+            },
+            Err(trouble) => Err(trouble),
+        }
+    }
 }
 
 impl<R> TcpDialer<R> {
@@ -306,6 +393,8 @@ impl<R: Net + Clock + Copy> Dial for TcpDialer<R> {
     ghost use Rattle.std.specs.Prelude.{◌≡◌};
     ghost use Rattle.oram_client.specs.Stamped.{AsksPlainly, CarriesStamped, FailsToOpen, Opens};
     ghost use Rattle.oram_client.specs.StampedBatches.{carries_are_batches};
+    ghost use Rattle.oram_client.specs.StampedStreams.{StreamsStamped};
+    ghost use Rattle.oram_client.specs.StreamedBatches.{stamped_counts, stamped_ends};
     ghost use Rattle.oram_client.specs.Dialer.{Destination};
     ghost use Rattle.oram_stamps.specs.Known.{kept};
     ghost use Rattle.oram_stamps.specs.Note.{note_text};
@@ -322,11 +411,18 @@ impl<R: Net + Clock + Copy> Dial for TcpDialer<R> {
 
     ghost asks = { λ d line bodies line'. AsksPlainly (contents_of R.Stream.contents) d line bodies line' };
 
+    ghost streams = { λ d line bodies answers progress e line'. StreamsStamped (remaining_of R.Stream.remaining) (contents_of R.Stream.contents) d line bodies answers progress e line' };
+
     ghost notes = { λ d. note_text d.known };
 
     ghost learns = { λ d check e. e ≡ record d { known = kept d.known (mask d.key check) } };
 
     ghost are_batches = { λ d e line line' bodies came exchanges h. carries_are_batches (remaining_of R.Stream.remaining) (contents_of R.Stream.contents) d e line line' bodies came exchanges h };
+
+    ghost counts_answers = { λ d e line line' bodies answers progress h. stamped_counts (remaining_of R.Stream.remaining) (contents_of R.Stream.contents) d e line line' bodies answers progress h };
+
+    ghost ends_carried = { λ d e line line' bodies answers progress h count.
+        stamped_ends (remaining_of R.Stream.remaining) (contents_of R.Stream.contents) d e line line' bodies answers progress h count };
 
     // The model knows neither how long a pause was nor what the clock reads.
     ghost pauses = { λ d _ e. e ≡ d };
@@ -410,6 +506,38 @@ impl<R: Net + Clock + Copy> Dial for TcpDialer<R> {
             Ok(answers) => Ok(answers),
             Err(fault) => Err(Trouble::OutOfReach(fault)),
         }
+    }
+
+    fn begin(
+        &mut self,
+        alloc: Global,
+        line: &mut TimedLink<Duplex<R, Connection<R::Stream>>, R>,
+        first: &[Vec<u8>],
+        last: &[Vec<u8>],
+    ) -> Result<Progress, Trouble> {
+        let is_plain = first.is_empty() && self.known.is_settled();
+        if !is_plain {
+            return self.begin_stamped(alloc, line, first, last);
+        }
+        match line.begin_between(alloc, &[], first, &[], last) {
+            Ok(()) => Ok(Progress {
+                left: first.len() + last.len(),
+                no_room: false,
+                begun: None,
+                done: None,
+            }),
+            Err(fault) => Err(Trouble::OutOfReach(fault)),
+        }
+    }
+
+    fn next_answer(
+        &mut self,
+        alloc: Global,
+        line: &mut TimedLink<Duplex<R, Connection<R::Stream>>, R>,
+        progress: &mut Progress,
+        body: &[u8],
+    ) -> Result<Vec<u8>, Trouble> {
+        self.next_stamped(alloc, line, progress, body)
     }
 
     fn note(&self, alloc: Global) -> Result<Vec<u8>, AllocError> {

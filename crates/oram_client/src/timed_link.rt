@@ -1,9 +1,9 @@
 //! A connection whose batches have a time limit.
-ghost use Rattle.std.specs.Prelude.{◌≡◌, ◌++◌, List, Err, IfOk, IfErr, OnOk};
+ghost use Rattle.std.specs.Prelude.{◌≡◌, ◌++◌, [], List, Err, IfOk, IfErr, OnOk};
 ghost use Rattle.oram_link_laws.specs.Runs.{Exchange};
 ghost use Rattle.oram_rounds.specs.Batches.{batch_outcome_of, texts};
 ghost use Rattle.oram_pipeline.specs.Pipelines.{EndsBatch};
-ghost use Rattle.oram_client.specs.StreamBatches.{StreamAsk, StreamBatch, connection};
+ghost use Rattle.oram_client.specs.StreamBatches.{StreamAsk, StreamBatch, Streams, connection};
 
 use crate::answer_lengths::AnswerLengths;
 use crate::stream_batches::StreamBatches;
@@ -185,6 +185,25 @@ impl<S: Read + WriteDuplex<S>, C: Clock> TimedLink<S, C> {
         self.begin_batch();
         self.line.call_between(alloc, before, first, between, last)
     }
+
+    /// Sends a batch as [`StreamBatches::begin_between`] does. Its time runs from now on until its last answer is read, also while the
+    /// caller works between two answers.
+    pub fn begin_between(
+        &mut self,
+        alloc: Global,
+        before: &[Vec<u8>],
+        first: &[Vec<u8>],
+        between: &[Vec<u8>],
+        last: &[Vec<u8>],
+    ) -> Result<(), LinkFault>
+        ensures ok { OnOk result (Streams S.remaining S.contents self.old
+            ((texts before.now ++ texts first.now) ++ (texts between.now ++ texts last.now)) [] self.new) }
+        ensures err { IfErr result (λ fault. (exchanges : List Exchange) × StreamBatch S.remaining S.contents self.old
+            ((texts before.now ++ texts first.now) ++ (texts between.now ++ texts last.now)) (Err fault) exchanges self.new) }
+    {
+        self.begin_batch();
+        self.line.begin_between(alloc, before, first, between, last)
+    }
 }
 
 impl<S: Read + Write, C: Clock> TimedLink<S, C> {
@@ -210,10 +229,12 @@ impl<S: Read + Write, C: Clock> TimedLink<S, C> {
 impl<S: Read + WriteDuplex<S>, C: Clock> BatchLink for TimedLink<S, C> {
     ghost use Rattle.std.specs.Prelude.{◌≡◌, [], ⊤};
     ghost use Rattle.std.proofs.Common.{inl};
-    ghost use Rattle.oram_client.specs.StreamBatches.{StreamBatch};
-    ghost use Rattle.oram_client.specs.BatchExchanges.{streams_are_batches};
+    ghost use Rattle.oram_client.specs.StreamBatches.{StreamBatch, Streams};
+    ghost use Rattle.oram_client.specs.BatchExchanges.{streams_are_batches, streams_end};
 
     ghost batches = { λ l bodies o exchanges m. StreamBatch S.remaining S.contents l bodies o exchanges m };
+
+    ghost streams = { λ l bodies answers m. Streams S.remaining S.contents l bodies answers m };
 
     ghost notes = { λ l. record { text = []; records = [] } };
 
@@ -231,6 +252,15 @@ impl<S: Read + WriteDuplex<S>, C: Clock> BatchLink for TimedLink<S, C> {
         self.line.call_all(alloc, first, last)
     }
 
+    fn begin(&mut self, alloc: Global, first: &[Vec<u8>], last: &[Vec<u8>]) -> bool {
+        self.begin_between(alloc, &[], first, &[], last).is_ok()
+    }
+
+    /// Reads the next frame, within the time of the batch that was begun.
+    fn next_answer(&mut self, alloc: Global, body: &[u8]) -> Result<Vec<u8>, LinkFault> {
+        self.line.next_answer(alloc, body)
+    }
+
     /// Returns no bytes: this link has nothing to remember.
     fn note(&self, alloc: Global) -> Result<Vec<u8>, AllocError> {
         Ok(Vec::new(alloc))
@@ -243,6 +273,8 @@ impl<S: Read + WriteDuplex<S>, C: Clock> BatchLink for TimedLink<S, C> {
     fn learn_kept(&mut self, _check: u64) {}
 
     ghost are_batches = { λ l m bodies o exchanges h. streams_are_batches S.remaining S.contents l m bodies o exchanges h };
+
+    ghost ends_as_batch = { λ l m bodies answers h count. streams_end S.remaining S.contents l m bodies answers h count };
 
     ghost learning_sends_nothing = { λ l m check same. inl same };
 

@@ -12,6 +12,7 @@ use Rattle.oram_disk_host.specs.declared.kinds.FaultKind.TheVariants.{DamagedSta
 use Rattle.oram_geometry.specs.Sizes.{record_len_of}
 use Rattle.oram_geometry.specs.declared.Sizes.{Sizes}
 use Rattle.oram_link_laws.specs.Runs.{Exchange}
+use Rattle.oram_near.specs.ComingAnswers.{no_coming}
 use Rattle.oram_near.specs.EmptyRecords.{WithRest}
 use Rattle.oram_near.specs.FormattedRecords.{SealedDevice}
 use Rattle.oram_near.specs.Near.{nothing_noted}
@@ -55,6 +56,7 @@ link_at_first inner device sealer record_len levels records = record {
   device = device;
   near = record { levels = levels; record_len = record_len; bytes = records; noted = nothing_noted };
   unsure = [];
+  coming = no_coming;
 }
 
 -- A link for whole paths of a process that was kept with these records and STOREs, of a device whose sealed buckets have this overhead. It has

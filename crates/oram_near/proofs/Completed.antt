@@ -19,26 +19,29 @@ use Rattle.oram_session.specs.declared.link.LinkFault.{LinkFault}
 use Rattle.oram_session.specs.declared.link.LinkFault.TheVariants.{Closed, OutOfMemory}
 use Rattle.oram_wire.specs.HostMessages.{done_answer, refusal_answer, store_body}
 use Rattle.oram_wire.specs.declared.host_messages.HostAnswer.TheVariants.{Done}
-use Rattle.oram_rounds.specs.Batches.{BatchOutcome, IsBatch, answered}
+use Rattle.oram_rounds.specs.Batches.{BatchOutcome, BreaksOff, IsBatch, answered}
 use Rattle.oram_rounds.specs.CatchUp.{IsPlainCall, PlainRun, left_by as records_left}
 use Rattle.oram_rounds.specs.Law.{AreBatches}
 use Rattle.oram_rounds.specs.Rounds.{AreDone, refused_with}
 use Rattle.oram_rounds.proofs.Sent.{answered_among}
 use Rattle.oram_rounds.proofs.Tries.{answered_join}
+use Rattle.oram_near.specs.ComingAnswers.{Coming}
 use Rattle.oram_near.specs.Completion.{ClientRecords, left_by}
 use Rattle.oram_near.specs.Law.{AreWhole, CompletesHost, CompletesPaths, HasFarLevels}
 use Rattle.oram_near.specs.LevelsHost.{IsLevelsCall, LevelsRun}
 use Rattle.oram_near.specs.Near.{Near}
-use Rattle.oram_near.specs.NearCalls.{IsOneOf, AreAnswered, Declines, FitsTogether, GivesWhole, Idles, IsRefusal, NearBatch, NearValue, Sends, SendsAgain, TakesNear, client_of, far_messages, is_in_order, path_exchanges, store_answer, store_answers, store_tries, stores_among, unsure_with}
+use Rattle.oram_near.specs.NearCalls.{IsOneOf, AreAnswered, Declines, FitsTogether, GivesWhole, Idles, IsRefusal, NearBatch, NearValue, Sends, SendsAgain, StopsShort, TakesNear, client_of, far_messages, is_in_order, only_fetches, path_exchanges, store_answer, store_answers, store_tries, stores_among, unsure_with}
 use Rattle.oram_near.specs.PathRequests.{IsFarStore, IsOfDevice, PathRequest, StorePath, far_of, first_far, path_body}
-use Rattle.oram_near.proofs.Blocks.{acks_are, acks_step, batch_acks, full_block, full_by, order_block, tries_step}
+use Rattle.oram_near.specs.StreamsEnd.{host_count}
+use Rattle.oram_near.proofs.Blocks.{acks_are, acks_step, batch_acks, fetch_block, full_block, full_by, order_block, tries_step}
 use Rattle.oram_near.proofs.FarAnswers.{acks_carried, batch_carried}
 use Rattle.oram_near.proofs.Kernel.{left_append, one_left, one_right}
 use Rattle.oram_near.proofs.PathHost.{store_bodies, tried, twice}
 use Rattle.oram_near.proofs.Paths.{whole_far, whole_near}
 use Rattle.oram_near.proofs.Resumed.{without_old}
-use Rattle.oram_near.proofs.RequestLists.{all_join}
+use Rattle.oram_near.proofs.RequestLists.{all_first, all_join}
 use Rattle.oram_near.proofs.Sent.{stores_are}
+use Rattle.oram_near.proofs.StreamSteps.{answered_front}
 use Rattle.oram_near.proofs.Told.{store_told}
 
 -- once all unsure STOREs are carried out, none needs to be laid over
@@ -73,10 +76,10 @@ done_second : (xs ys : List (List ℕ)) → AreDone (xs ++ ys) → AreDone ys
 done_second [] ys done = done
 done_second (x ∷ xs) ys done = done_second xs ys done.1
 
-module _ {B E : Type 0} (record_at : E → ℕ → ℕ → ℕ → List ℕ) (device_of : E → Sizes) (len_of : E → ℕ) (may_lie : Bool) (v : Scheme) (inner : B) (maker : E) (near : Near) (unsure : List LevelsMessage)
+module _ {B E : Type 0} (record_at : E → ℕ → ℕ → ℕ → List ℕ) (device_of : E → Sizes) (len_of : E → ℕ) (may_lie : Bool) (v : Scheme) (inner : B) (maker : E) (coming : Coming) (near : Near) (unsure : List LevelsMessage)
     (m : NearValue B E) (below : List Exchange) (far after whole : Host) (e_len : near.record_len ≡ record_len v) where
   abbrev before : NearValue B E
-  before = record { inner = inner; empty = maker; device = v.device; near = near; unsure = unsure }
+  before = record { inner = inner; empty = maker; device = v.device; near = near; unsure = unsure; coming = coming }
 
   abbrev Concluded : List Exchange → Type 0
   Concluded exchanges = (later : Host) × PlainRun may_lie v whole exchanges later × CompletesHost v (client_of record_at m) after later × FitsTogether device_of len_of m
@@ -186,6 +189,36 @@ module _ {B E : Type 0} (record_at : E → ℕ → ℕ → ℕ → List ℕ) (de
 
     pub lost : (fault : LinkFault) → AreAmong (bodies_of below) sent → m.unsure ≡ all_unsure → Concluded (store_tries fault requests)
     lost fault among same = faulted fault same (after_tries below far after among run (all_tried fault).3)
+
+    -- the batch breaks off once the first requests, which are FETCHes, have been given their answers
+    pub broke : (fault : LinkFault) (front rest : List PathRequest) → requests ≡ front ++ rest → only_fetches front ≡ true → (answers given : List (List ℕ)) → BreaksOff (map levels_body messages_now) answers below
+        → AreAnswered (client all_unsure) None front answers given → m.unsure ≡ all_unsure → Concluded (store_tries fault requests ++ answered (map path_body front) given)
+    broke fault front rest split only answers given b are same =
+        let t = all_tried fault in
+        let R : Host → Exchange → Host → Type 0 = λ h e g. IsLevelsCall v (record_at maker) may_lie h e.0 e.1 g in
+        let Plain : Host → Exchange → Host → Type 0 = λ h e g. IsPlainCall may_lie v h e.0 e.1 g in
+        let firsts : List Exchange = answered (map levels_body (map (far_of v.device m.near.levels (record_len v)) front)) answers in
+        let count = host_count (client all_unsure) None front answers given are in
+        let front_is : answered (map levels_body messages_now) answers ≡ firsts =
+        ap (λ (rs : List PathRequest). answered (map levels_body (map (far_of v.device m.near.levels (record_len v)) rs)) answers) split
+        ∙ ap (λ (ms : List LevelsMessage). answered (map levels_body ms) answers) (map-append (far_of v.device m.near.levels (record_len v)) front rest)
+        ∙ ap (λ (bs : List (List ℕ)). answered bs answers) (map-append levels_body (map (far_of v.device m.near.levels (record_len v)) front) (map (far_of v.device m.near.levels (record_len v)) rest))
+        ∙ answered_front (map levels_body (map (far_of v.device m.near.levels (record_len v)) front)) (map levels_body (map (far_of v.device m.near.levels (record_len v)) rest)) answers
+        (count ∙ sym (length-map front (far_of v.device m.near.levels (record_len v))) ∙ sym (length-map (map (far_of v.device m.near.levels (record_len v)) front) levels_body)) in
+        let all : LevelsRun v (record_at maker) may_lie far ((b.0 ++ firsts) ++ b.1) after =
+        subst (λ (es : List Exchange). LevelsRun v (record_at maker) may_lie far ((b.0 ++ es) ++ b.1) after) front_is (subst (λ (es : List Exchange). LevelsRun v (record_at maker) may_lie far es after) b.4 run) in
+        let last = folds_split R far after (b.0 ++ firsts) b.1 all in
+        let first = folds_split R far last.0 b.0 firsts last.1 in
+        let step = λ (exchanges : List Exchange) (from to : Host) (among : AreAmong (bodies_of exchanges) (map levels_body messages_now)) (ran : LevelsRun v (record_at maker) may_lie from exchanges to) (w : AreWhole v (client all_unsure) from left).
+        tries_step v m.near all_unsure (record_at maker) len_now shallow_now are_stores left may_lie [] requests exchanges from to (λ x one. absurd one) are_of all_inside among ran w in
+        let w = step b.0 far first.0 b.2 first.1 t.3 in
+        let block = fetch_block v m.near all_unsure (record_at maker) len_now shallow_now are_stores left may_lie None front answers given first.0 last.0 t.0 only
+        (all_first (IsOfDevice v.device (record_len v)) front rest (subst (AllByRecursion (IsOfDevice v.device (record_len v))) split are_of)) first.2 are w t.2 in (
+          t.0,
+          folds_join Plain whole t.0 t.0 (store_tries fault requests) (answered (map path_body front) given) t.1 block.0,
+          completes_so all_unsure t.0 same (step b.1 last.0 after b.3 last.2 block.1) t.2,
+          fits_so all_unsure same are_stores,
+        )
 
     -- the batch has answers
     module _ (answers : List (List ℕ)) (tries : List Exchange) (count : length answers ≡ length sent) (among : AreAmong (bodies_of tries) sent) (is : below ≡ tries ++ answered sent answers) where
@@ -306,15 +339,15 @@ module _ {B E : Type 0} (batches : B → List (List ℕ) → BatchOutcome → Li
   Claim l = l.near.record_len ≡ record_len v → FitsTogether device_of len_of l → CompletesHost v (client_of record_at l) far whole → NearBatch batches record_at l bodies o exchanges below m
       → LevelsRun v (record_at l.empty) may_lie far below after → Conclusion
 
-  module _ (inner : B) (maker : E) (near : Near) (unsure : List LevelsMessage) where
+  module _ (inner : B) (maker : E) (coming : Coming) (near : Near) (unsure : List LevelsMessage) where
     abbrev link : NearValue B E
-    link = record { inner = inner; empty = maker; device = v.device; near = near; unsure = unsure }
+    link = record { inner = inner; empty = maker; device = v.device; near = near; unsure = unsure; coming = coming }
 
     module _ (e_len : near.record_len ≡ record_len v) (fits : FitsTogether device_of len_of link)
         (run : LevelsRun v (record_at maker) may_lie far below after) (m_device : m.device ≡ v.device) (m_empty : m.empty ≡ maker) where
       -- the batch is sent
       module _ (s : Sends batches record_at link bodies o exchanges below m) (r : ℕ → ℕ → List ℕ)
-          (all_tried : (fault : LinkFault) → IsTried record_at device_of len_of may_lie v inner maker near unsure m below far after whole e_len s.requests r fault) where
+          (all_tried : (fault : LinkFault) → IsTried record_at device_of len_of may_lie v inner maker coming near unsure m below far after whole e_len s.requests r fault) where
         abbrev Paths : BatchOutcome → Type 0
         Paths outcome = (later : Host) × PlainRun may_lie v whole (path_exchanges s.requests outcome) later × CompletesHost v (client_of record_at m) after later × FitsTogether device_of len_of m
 
@@ -322,10 +355,10 @@ module _ {B E : Type 0} (batches : B → List (List ℕ) → BatchOutcome → Li
         stores = unsure ++ stores_among (map (far_of v.device near.levels (record_len v)) s.requests)
 
         same_unsure : unsure_with batches record_at link s.requests ≡ stores
-        same_unsure = unsure_so record_at device_of len_of may_lie v inner maker near unsure m below far after whole e_len fits run m_device m_empty s.requests s.paths s.in_order r all_tried
+        same_unsure = unsure_so record_at device_of len_of may_lie v inner maker coming near unsure m below far after whole e_len fits run m_device m_empty s.requests s.paths s.in_order r all_tried
 
         same_sent : map levels_body (unsure ++ far_messages batches record_at link s.requests) ≡ map levels_body (unsure ++ map (far_of v.device m.near.levels (record_len v)) s.requests)
-        same_sent = sent_is record_at device_of len_of may_lie v inner maker near unsure m below far after whole e_len fits run m_device m_empty s.requests s.paths s.in_order r all_tried
+        same_sent = sent_is record_at device_of len_of may_lie v inner maker coming near unsure m below far after whole e_len fits run m_device m_empty s.requests s.paths s.in_order r all_tried
 
         batch_of : (outcome : BatchOutcome) → batches inner (map levels_body (unsure ++ far_messages batches record_at link s.requests)) outcome below m.inner
             → IsBatch (map levels_body (unsure ++ map (far_of v.device m.near.levels (record_len v)) s.requests)) outcome below
@@ -339,12 +372,12 @@ module _ {B E : Type 0} (batches : B → List (List ℕ) → BatchOutcome → Li
             → Paths o
         gives_paths (Err fault) batch gives =
             subst Paths (sym gives.0)
-            (lost record_at device_of len_of may_lie v inner maker near unsure m below far after whole e_len fits run m_device m_empty s.requests s.paths s.in_order r all_tried fault (batch_of (Err fault) batch)
+            (lost record_at device_of len_of may_lie v inner maker coming near unsure m below far after whole e_len fits run m_device m_empty s.requests s.paths s.in_order r all_tried fault (batch_of (Err fault) batch)
             (gives.1 ∙ same_unsure))
         gives_paths (Ok answers) batch (inr memory) =
             let b = batch_of (Ok answers) batch in
             subst Paths (sym memory.0)
-            (starved record_at device_of len_of may_lie v inner maker near unsure m below far after whole e_len fits run m_device m_empty s.requests s.paths s.in_order r all_tried answers b.1 b.0 b.2 b.3
+            (starved record_at device_of len_of may_lie v inner maker coming near unsure m below far after whole e_len fits run m_device m_empty s.requests s.paths s.in_order r all_tried answers b.1 b.0 b.2 b.3
             (memory.1 ∙ same_unsure))
         gives_paths (Ok answers) batch (inl gives) =
             let b = batch_of (Ok answers) batch in
@@ -354,7 +387,7 @@ module _ {B E : Type 0} (batches : B → List (List ℕ) → BatchOutcome → Li
             (subst (λ (u : List LevelsMessage). AreAnswered (client v.device u m.empty) gives.refusal s.requests rest gives.given) same_unsure
             (subst (λ (d : Sizes). AreAnswered (client d (unsure_with batches record_at link s.requests) m.empty) gives.refusal s.requests rest gives.given) m_device gives.are)) in
             subst Paths (sym gives.reported)
-            (told record_at device_of len_of may_lie v inner maker near unsure m below far after whole e_len fits run m_device m_empty s.requests s.paths s.in_order r all_tried answers b.1 b.0 b.2 b.3
+            (told record_at device_of len_of may_lie v inner maker coming near unsure m below far after whole e_len fits run m_device m_empty s.requests s.paths s.in_order r all_tried answers b.1 b.0 b.2 b.3
             gives.refusal gives.given gives.refused are (gives.unsure ∙ ap (λ (u : List LevelsMessage). if is_some gives.refusal then u else []) same_unsure))
 
         pub sends : Conclusion
@@ -363,36 +396,58 @@ module _ {B E : Type 0} (batches : B → List (List ℕ) → BatchOutcome → Li
             (gives_paths s.outcome s.sent s.gives)
 
   -- by the STOREs that are unsure
-  module _ (inner : B) (maker : E) (near : Near) (unsure : List LevelsMessage) where
-    module _ (e_len : near.record_len ≡ record_len v) (fits : FitsTogether device_of len_of (link inner maker near unsure)) (c : CompletesHost v (client_of record_at (link inner maker near unsure)) far whole)
+  module _ (inner : B) (maker : E) (coming : Coming) (near : Near) (unsure : List LevelsMessage) where
+    module _ (e_len : near.record_len ≡ record_len v) (fits : FitsTogether device_of len_of (link inner maker coming near unsure)) (c : CompletesHost v (client_of record_at (link inner maker coming near unsure)) far whole)
         (run : LevelsRun v (record_at maker) may_lie far below after) (m_device : m.device ≡ v.device) (m_empty : m.empty ≡ maker) where
       -- the host of whole paths receives the STOREs
       all_tried : (requests : List PathRequest) → AllByRecursion (IsOfDevice v.device near.record_len) requests → FoldsTo {P = Near} (TakesNear v.device) near requests m.near → (fault : LinkFault)
-          → IsTried record_at device_of len_of may_lie v inner maker near unsure m below far after whole e_len requests c.records fault
+          → IsTried record_at device_of len_of may_lie v inner maker coming near unsure m below far after whole e_len requests c.records fault
       all_tried requests paths stored fault =
           tried v (record_at maker) far near.levels fits.leaves_far may_lie fault requests near m.near unsure c.records whole (subst (λ (n : ℕ). AllByRecursion (IsOfDevice v.device n) requests) e_len paths) refl e_len stored c.are c.keeps
 
-      sends_all : Sends batches record_at (link inner maker near unsure) bodies o exchanges below m → Conclusion
-      sends_all s = sends inner maker near unsure e_len fits run m_device m_empty s c.records (all_tried s.requests s.paths s.stored)
+      sends_all : Sends batches record_at (link inner maker coming near unsure) bodies o exchanges below m → Conclusion
+      sends_all s = sends inner maker coming near unsure e_len fits run m_device m_empty s c.records (all_tried s.requests s.paths s.stored)
 
       -- the unsure STOREs are in the batch again
-      sends_again : SendsAgain batches record_at (link inner maker near unsure) bodies o exchanges below m → Conclusion
+      sends_again : SendsAgain batches record_at (link inner maker coming near unsure) bodies o exchanges below m → Conclusion
       sends_again a =
           let s = a.sends in
           let messages : List LevelsMessage = stores_among (map (far_of v.device near.levels (record_len v)) s.requests) in
           let inside : (message : LevelsMessage) → IsOneOf message unsure → IsOneOf message messages =
           λ message one. subst (λ (n : ℕ). IsOneOf message (stores_among (map (far_of v.device near.levels n) s.requests))) e_len (a.again message one) in
-          let fit : FitsTogether device_of len_of (link inner maker near []) = record { same_device = fits.same_device; same_len = fits.same_len; leaves_far = fits.leaves_far; are_stores = tt } in
-          sends inner maker near [] e_len fit run m_device m_empty s c.records
+          let fit : FitsTogether device_of len_of (link inner maker coming near []) = record { same_device = fits.same_device; same_len = fits.same_len; leaves_far = fits.leaves_far; are_stores = tt } in
+          sends inner maker coming near [] e_len fit run m_device m_empty s c.records
           (λ fault. let t = all_tried s.requests s.paths s.stored fault in
           (t.0, t.1, t.2, without_old v m.near (record_at maker) (records_left v c.records (store_bodies s.requests)) unsure messages far inside t.3, t.4, t.5))
 
+      -- a batch whose answers are taken one by one breaks off
+      stops_short : StopsShort batches record_at (link inner maker coming near unsure) bodies o exchanges below m → Conclusion
+      stops_short s =
+          let messages : List LevelsMessage = stores_among (map (far_of v.device near.levels (record_len v)) s.requests) in
+          let inside : (message : LevelsMessage) → IsOneOf message unsure → IsOneOf message messages =
+          λ message one. subst (λ (n : ℕ). IsOneOf message (stores_among (map (far_of v.device near.levels n) s.requests))) e_len (s.again message one) in
+          let fit : FitsTogether device_of len_of (link inner maker coming near []) = record { same_device = fits.same_device; same_len = fits.same_len; leaves_far = fits.leaves_far; are_stores = tt } in
+          let tried_so : (fault : LinkFault) → IsTried record_at device_of len_of may_lie v inner maker coming near [] m below far after whole e_len s.requests c.records fault =
+          λ fault. let t = all_tried s.requests s.paths s.stored fault in
+          (t.0, t.1, t.2, without_old v m.near (record_at maker) (records_left v c.records (store_bodies s.requests)) unsure messages far inside t.3, t.4, t.5) in
+          let same_sent = sent_is record_at device_of len_of may_lie v inner maker coming near [] m below far after whole e_len fit run m_device m_empty s.requests s.paths s.in_order c.records tried_so in
+          let same_unsure = unsure_so record_at device_of len_of may_lie v inner maker coming near [] m below far after whole e_len fit run m_device m_empty s.requests s.paths s.in_order c.records tried_so in
+          let unsure_now : m.unsure ≡ messages = s.unsure ∙ same_unsure in
+          let broke_so : BreaksOff (map levels_body (map (far_of v.device m.near.levels (record_len v)) s.requests)) s.answers below = subst (λ (bs : List (List ℕ)). BreaksOff bs s.answers below) same_sent s.broke in
+          let client = λ (d : Sizes) (u : List LevelsMessage) (e : E). let x : ClientRecords = record { device = d; near = m.near; unsure = u; empty = record_at e } in x in
+          let are = subst (λ (e : E). AreAnswered (client v.device messages e) None s.front s.answers s.given) m_empty
+          (subst (λ (u : List LevelsMessage). AreAnswered (client v.device u m.empty) None s.front s.answers s.given) unsure_now
+          (subst (λ (d : Sizes). AreAnswered (client d m.unsure m.empty) None s.front s.answers s.given) m_device s.are)) in
+          subst (λ (es : List Exchange). (later : Host) × PlainRun may_lie v whole es later × CompletesHost v (client_of record_at m) after later × FitsTogether device_of len_of m) (sym s.as_paths)
+          (broke record_at device_of len_of may_lie v inner maker coming near [] m below far after whole e_len fit run m_device m_empty s.requests s.paths s.in_order c.records tried_so s.fault s.front s.rest s.split s.fetches s.answers s.given
+          broke_so are unsure_now)
+
       -- nothing is sent, and the link is as it was but for the link below
-      idles : exchanges ≡ [] → below ≡ [] → m ≡ record (link inner maker near unsure) { inner = m.inner; near = record near { noted = m.near.noted } } → Conclusion
+      idles : exchanges ≡ [] → below ≡ [] → m ≡ record (link inner maker coming near unsure) { inner = m.inner; near = record near { noted = m.near.noted } } → Conclusion
       idles none none_below same =
           let still : far ≡ after = subst (λ (es : List Exchange). LevelsRun v (record_at maker) may_lie far es after) none_below run in
-          let here : CompletesHost v (client_of record_at (link inner maker near unsure)) after whole = subst (λ (h : Host). CompletesHost v (client_of record_at (link inner maker near unsure)) h whole) still c in
-          let moved : NearValue B E = record (link inner maker near unsure) { inner = m.inner; near = record near { noted = m.near.noted } } in
+          let here : CompletesHost v (client_of record_at (link inner maker coming near unsure)) after whole = subst (λ (h : Host). CompletesHost v (client_of record_at (link inner maker coming near unsure)) h whole) still c in
+          let moved : NearValue B E = record (link inner maker coming near unsure) { inner = m.inner; near = record near { noted = m.near.noted } } in
           let there : CompletesHost v (client_of record_at moved) after whole =
           record { records = here.records; are = record { has = here.are.has; long = here.are.long; each = here.are.each }; keeps = here.keeps } in
           let now : CompletesHost v (client_of record_at m) after whole = subst (λ (x : NearValue B E). CompletesHost v (client_of record_at x) after whole) (sym same) there in
@@ -400,16 +455,18 @@ module _ {B E : Type 0} (batches : B → List (List ℕ) → BatchOutcome → Li
           record { same_device = fits.same_device; same_len = fits.same_len; leaves_far = fits.leaves_far; are_stores = fits.are_stores } in
           (whole, subst (λ (es : List Exchange). PlainRun may_lie v whole es whole) (sym none) refl, now, subst (FitsTogether device_of len_of) (sym same) fit)
 
-      any_batch : Sends batches record_at (link inner maker near unsure) bodies o exchanges below m
-          ⊎ (SendsAgain batches record_at (link inner maker near unsure) bodies o exchanges below m
-          ⊎ (Declines batches record_at (link inner maker near unsure) bodies o exchanges below m ⊎ Idles batches record_at (link inner maker near unsure) bodies o exchanges below m)) → Conclusion
+      any_batch : Sends batches record_at (link inner maker coming near unsure) bodies o exchanges below m
+          ⊎ (SendsAgain batches record_at (link inner maker coming near unsure) bodies o exchanges below m
+          ⊎ (Declines batches record_at (link inner maker coming near unsure) bodies o exchanges below m
+          ⊎ (Idles batches record_at (link inner maker coming near unsure) bodies o exchanges below m ⊎ StopsShort batches record_at (link inner maker coming near unsure) bodies o exchanges below m))) → Conclusion
       any_batch (inl s) = sends_all s
       any_batch (inr (inl a)) = sends_again a
       any_batch (inr (inr (inl d))) = idles d.none d.none_below
-          (d.same ∙ ap (λ (x : NearValue B E). let y : NearValue B E = record (link inner maker near unsure) { inner = x.inner; near = record near { noted = x.near.noted } } in y) (sym d.same))
-      any_batch (inr (inr (inr i))) = idles i.none i.none_below i.same
+          (d.same ∙ ap (λ (x : NearValue B E). let y : NearValue B E = record (link inner maker coming near unsure) { inner = x.inner; near = record near { noted = x.near.noted } } in y) (sym d.same))
+      any_batch (inr (inr (inr (inl i)))) = idles i.none i.none_below i.same
+      any_batch (inr (inr (inr (inr s)))) = stops_short s
 
-    claimed : Claim (link inner maker near unsure)
+    claimed : Claim (link inner maker coming near unsure)
     claimed e_len fits c batch run = any_batch e_len fits c run batch.0 batch.1 batch.2
 
 pub completes_paths : {B E : Type 0} (batches : B → List (List ℕ) → BatchOutcome → List Exchange → B → Type 0) (record_at : E → ℕ → ℕ → ℕ → List ℕ) (device_of : E → Sizes) (len_of : E → ℕ)
@@ -417,4 +474,4 @@ pub completes_paths : {B E : Type 0} (batches : B → List (List ℕ) → BatchO
 completes_paths {B} {E} batches record_at device_of len_of are_batches may_lie v l m bodies o exchanges below far after whole device len fits c batch run =
     let same : l ≡ record l { device = v.device } = ap (λ (d : Sizes). let x : NearValue B E = record l { device = d } in x) device in
     subst (Claim batches record_at device_of len_of are_batches may_lie v m bodies o exchanges below far after whole) (sym same)
-    (claimed batches record_at device_of len_of are_batches may_lie v m bodies o exchanges below far after whole l.inner l.empty l.near l.unsure) len fits c batch run
+    (claimed batches record_at device_of len_of are_batches may_lie v m bodies o exchanges below far after whole l.inner l.empty l.coming l.near l.unsure) len fits c batch run

@@ -29,7 +29,7 @@ use Rattle.oram_near.specs.PathRequests.{FetchPath, StorePath, store_in}
 use Rattle.oram_near.proofs.FarHeard.{stored_is}
 use Rattle.oram_near.proofs.FarStores.{store_in-body}
 
-abbrev deep : ℕ
+abbrev pub deep : ℕ
 deep = depth_of one_block.device 0
 
 abbrev bare : Kept
@@ -75,7 +75,7 @@ no_records = record {
   ends = λ more. refl;
 }
 
-serves_nothing : ServesLevels no_record (fetch_levels_body 0 0 deep 0) (Payload (levels_payload 0 [])) no_record
+pub serves_nothing : ServesLevels no_record (fetch_levels_body 0 0 deep 0) (Payload (levels_payload 0 [])) no_record
 serves_nothing = record {
   levels = only_fetch (λ message. AnswersLevels no_record message (Payload (levels_payload 0 [])) no_record) 0 0 deep 0 (omega arith) (no_records, refl);
   misfit = λ m. absurd (let both : true ≡ false = m.1 in cc);
@@ -111,7 +111,7 @@ ones_kept = record {
   };
 }
 
-serves_store : ServesLevels no_record (store_levels_body 0 0 0 ones) Done ones_there
+pub serves_store : ServesLevels no_record (store_levels_body 0 0 0 ones) Done ones_there
 serves_store = record {
   levels = only_store (λ message. AnswersLevels no_record message Done ones_there) 0 0 0 ones (omega arith) ones_kept;
   misfit = λ m. absurd (let both : true ≡ false = m.1 in cc);
@@ -141,7 +141,7 @@ serves_ones = record {
   other = λ e. absurd (let both : true ≡ false = e in cc);
 }
 
-nothing_run : (may_lie : Bool) → LevelsRun one_block (zero_records (maker_with [])) may_lie no_record nothing_below no_record
+pub nothing_run : (may_lie : Bool) → LevelsRun one_block (zero_records (maker_with [])) may_lie no_record nothing_below no_record
 nothing_run may_lie = (no_record, inl (Payload (levels_payload 0 []), omega arith, refl, serves_nothing), refl)
 
 ones_run : (may_lie : Bool) → LevelsRun one_block (zero_records (maker_with [])) may_lie no_record ones_below ones_there
@@ -152,7 +152,7 @@ ones_run may_lie = (ones_there, inl (Done, tt, refl, serves_store), (ones_there,
 abbrev before : ClientRecords
 before = client_of zero_records (link_over no_record)
 
-none_given : gives_records 88 (deep + 1 - 0) (payload_answer (levels_payload 0 [])) ≡ true
+pub none_given : gives_records 88 (deep + 1 - 0) (payload_answer (levels_payload 0 [])) ≡ true
 none_given = let P : ℕ → Type 0 = λ d. gives_records 88 (d + 1 - 0) (payload_answer (levels_payload 0 [])) ≡ true in subst P no_depth refl
 
 zeros_whole : IsWholePath (client_of zero_records (link_over no_record)) 0 0 0 [] zeros
@@ -188,7 +188,7 @@ zeros_batch = (
 
 -- the link gives the ones
 
-abbrev unsure_ones : ClientRecords
+abbrev pub unsure_ones : ClientRecords
 unsure_ones = record (client_of zero_records (link_over no_record)) { unsure = StoreLevels 0 0 0 ones ∷ [] }
 
 one_given : gives_records 88 (deep + 1 - 0) (payload_answer (levels_payload 1 ones)) ≡ true
@@ -213,7 +213,7 @@ ones_completed =
     subst (λ (b : Bool). MatchBool b ((path : List ℕ) × IsWholePath unsure_ones 0 0 1 ones path × (payload_answer ones ≡ payload_answer path)) (payload_answer ones ≡ []))
     (sym one_given) (ones, ones_whole, refl)
 
-no_change : StoresNear deep 0 ones (link_over no_record).near (link_over no_record).near
+pub no_change : StoresNear deep 0 ones (link_over no_record).near (link_over no_record).near
 no_change = record {
   levels = refl;
   record_len = refl;
@@ -288,7 +288,7 @@ are_zeros = record {
       zeros_there tree leaf level is_tree (omega (arith, few)) (omega (arith, top, no_depth));
 }
 
-completes_nothing : CompletesHost one_block before no_record new_host
+pub completes_nothing : CompletesHost one_block before no_record new_host
 completes_nothing = record { records = λ i n. zeros; are = are_zeros; keeps = keeps_zeros }
 
 pub near_example : NearExample

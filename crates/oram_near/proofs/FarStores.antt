@@ -7,6 +7,7 @@ use Rattle.std.proofs.lemmas.Nat.{from_be_bytes-to_be_bytes_4}
 use Rattle.oram_geometry.specs.declared.Sizes.{Sizes}
 use Rattle.oram_levels.specs.Messages.{FetchLevels, HasNumbers, LevelsMessage, StoreLevels, levels_body, store_levels_body}
 use Rattle.oram_geometry.specs.Sizes.{depth_of}
+use Rattle.oram_near.specs.ComingAnswers.{Coming}
 use Rattle.oram_near.specs.EmptyRecords.{AreEmptyRecords}
 use Rattle.oram_near.specs.Near.{Near}
 use Rattle.oram_near.specs.NearCalls.{FitsTogether, NearValue}
@@ -38,10 +39,10 @@ module _ (d : Sizes) (levels len : ℕ) where
   same_bodies (body ∷ bodies) are = ap (λ (b : List ℕ). b ∷ map levels_body (map store_in bodies)) (sym are.0.1) ∙ ap (λ (bs : List (List ℕ)). body ∷ bs) (same_bodies bodies are.1)
 
 -- the parts of a link fit together
-pub fits_by : {B E : Type 0} (device_of : E → Sizes) (len_of : E → ℕ) (inner : B) (empty : E) (d : Sizes) (near : Near) (bodies : List (List ℕ)) → device_of empty ≡ d
+pub fits_by : {B E : Type 0} (device_of : E → Sizes) (len_of : E → ℕ) (inner : B) (empty : E) (d : Sizes) (near : Near) (bodies : List (List ℕ)) (coming : Coming) → device_of empty ≡ d
     → len_of empty ≡ near.record_len → near.levels ≤ depth_of d 0 → AllByRecursion (IsFarStoreBody d near.levels near.record_len) bodies
-    → FitsTogether device_of len_of (record { inner = inner; empty = empty; device = d; near = near; unsure = map store_in bodies })
-fits_by device_of len_of inner empty d near bodies same_device same_len deep are =
+    → FitsTogether device_of len_of (record { inner = inner; empty = empty; device = d; near = near; unsure = map store_in bodies; coming = coming })
+fits_by device_of len_of inner empty d near bodies coming same_device same_len deep are =
     record { same_device = same_device; same_len = same_len; leaves_far = deep; are_stores = far_stores d near.levels near.record_len bodies are }
 
 -- so the records of the formatting are those of the link's device

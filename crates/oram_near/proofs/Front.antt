@@ -9,6 +9,7 @@ use Rattle.oram_link_laws.specs.Repair.{IsAmong}
 use Rattle.oram_link_laws.specs.Runs.{Exchange}
 use Rattle.oram_link_laws.proofs.Put.{first}
 use Rattle.oram_rounds.specs.Batches.{BatchOutcome, texts}
+use Rattle.oram_near.specs.ComingAnswers.{Coming}
 use Rattle.oram_near.specs.Near.{Near}
 use Rattle.oram_near.specs.NearCalls.{AreAgain, IsOneMissing, IsOneOf, NearValue, stores_among}
 use Rattle.oram_near.specs.PathRequests.{FetchPath, IsFarStore, IsFarStoreBody, IsOfDevice, PathRequest, StorePath, far_of, store_in}
@@ -59,15 +60,15 @@ module _ (d : Sizes) (levels len : ℕ) where
           | inr fetch ↦ absurd (let six : 7 ≡ 6 = ap first (sym is.1 ∙ found.2 ∙ ap levels_body fetch.4) in omega (arith, six))
         ]
 
-    all_again : (old : List (List ℕ)) → AllByRecursion (IsFarStoreBody d levels len) old → AreAgain (map levels_body messages) old → (m : LevelsMessage) → IsOneOf m (map store_in old) → IsOneOf m (stores_among messages)
+    pub all_again : (old : List (List ℕ)) → AllByRecursion (IsFarStoreBody d levels len) old → AreAgain (map levels_body messages) old → (m : LevelsMessage) → IsOneOf m (map store_in old) → IsOneOf m (stores_among messages)
     all_again [] are among m one = absurd one
     all_again (body ∷ old) are among m (inl here) = subst (λ (n : LevelsMessage). IsOneOf n (stores_among messages)) (sym here) (one_again body are.0 among.0)
     all_again (body ∷ old) are among m (inr later) = all_again old are.1 among.1 m later
 
-module _ {B E : Type 0} (batches : B → List (List ℕ) → BatchOutcome → List Exchange → B → Type 0) (record_at : E → ℕ → ℕ → ℕ → List ℕ) (inner : B) (empty : E) (d : Sizes) (near : Near)
+module _ {B E : Type 0} (batches : B → List (List ℕ) → BatchOutcome → List Exchange → B → Type 0) (record_at : E → ℕ → ℕ → ℕ → List ℕ) (inner : B) (empty : E) (d : Sizes) (near : Near) (coming : Coming)
     (m : NearValue B E) (bodies old front sent : List (List ℕ)) (requests : List PathRequest) (o : BatchOutcome) where
   abbrev pub link : List (List ℕ) → NearValue B E
-  link stores = record { inner = inner; empty = empty; device = d; near = near; unsure = map store_in stores }
+  link stores = record { inner = inner; empty = empty; device = d; near = near; unsure = map store_in stores; coming = coming }
 
   pub front_sent : near.levels ≤ depth_of d 0 → AllByRecursion (IsOfDevice d near.record_len) requests → AllByRecursion (IsFarStoreBody d near.levels near.record_len) old
       → sent ≡ map levels_body (map (far_of d near.levels near.record_len) requests) → IsFront front old sent → HasSent batches record_at (link front) bodies requests o m

@@ -3,10 +3,13 @@ pub mod Nodes
 pub mod Laid
 pub mod FarStores
 pub mod RequestLists
+pub mod HeardAnswers
 pub mod Paths
 pub mod Sent
 pub mod Kernel
 pub mod Front
+pub mod StreamSteps
+pub mod StreamCalls
 pub mod FarHeard
 pub mod OneStore
 pub mod FarAnswers
@@ -16,6 +19,7 @@ pub mod Blocks
 pub mod Resumed
 pub mod Completed
 pub mod Example
+pub mod OneByOneExample
 pub mod TwoLevels
 pub mod WorkedRows
 pub mod Formatted

@@ -13,6 +13,7 @@ use Rattle.oram_session.specs.Outcome.{Outcome}
 use Rattle.oram_session.specs.declared.link.LinkFault.TheVariants.{Closed}
 use Rattle.oram_link_laws.specs.Runs.{Exchange, bodies_of}
 use Rattle.oram_rounds.specs.CatchUp.{PlainRun, left_by as records_left}
+use Rattle.oram_near.specs.ComingAnswers.{Coming}
 use Rattle.oram_near.specs.Completion.{ClientRecords, left_by}
 use Rattle.oram_near.specs.Law.{AreWhole, CompletesHost, HaveSameRecords, IsBodyOf, IsFetchOrOneOf, ResumesPaths}
 use Rattle.oram_near.specs.LevelsHost.{IsLevelsCall, LevelsRun}
@@ -96,9 +97,9 @@ module _ {B E : Type 0} (record_at : E → ℕ → ℕ → ℕ → List ℕ) (de
       → (later : Host) × PlainRun may_lie v whole (store_tries Closed takes.requests) later × CompletesHost v (client_of record_at m) after later × FitsTogether device_of len_of m
 
   module _ (complete : CompletesHost v c far whole) (inside : (message : LevelsMessage) → IsOneOf message c.unsure → IsOneOf message m.unsure)
-      (bodies_heard : AllByRecursion (IsBodyOf m.unsure) (bodies_of below)) (inner : B) (maker : E) (near : Near) where
+      (bodies_heard : AllByRecursion (IsBodyOf m.unsure) (bodies_of below)) (inner : B) (maker : E) (coming : Coming) (near : Near) where
     abbrev link : NearValue B E
-    link = record { inner = inner; empty = maker; device = v.device; near = near; unsure = [] }
+    link = record { inner = inner; empty = maker; device = v.device; near = near; unsure = []; coming = coming }
 
     claimed : Claim link
     claimed e_len fits same takes run =
@@ -119,9 +120,9 @@ module _ {B E : Type 0} (record_at : E → ℕ → ℕ → ℕ → List ℕ) (de
         let now : AreWhole v (record { device = v.device; near = m.near; unsure = stores; empty = record_at maker }) after r =
         all_heard v m.near (record_at maker) r t.5 shallow may_lie stores are_stores below far after (subst (λ (u : List LevelsMessage). AllByRecursion (IsBodyOf u) (bodies_of below)) stores_is bodies_heard) run new in
         let whole_now : CompletesHost v (record { device = v.device; near = m.near; unsure = stores; empty = record_at maker }) after t.0 = record { records = r; are = now; keeps = t.2 } in
-        let m_is : m ≡ record { inner = inner; empty = maker; device = v.device; near = m.near; unsure = stores } =
-        takes.same ∙ ap (λ (n : ℕ). let x : NearValue B E = record { inner = inner; empty = maker; device = v.device; near = m.near; unsure = stores_among (map (far_of v.device near.levels n) requests) } in x) e_len in
-        let fit : FitsTogether device_of len_of (let x : NearValue B E = record { inner = inner; empty = maker; device = v.device; near = m.near; unsure = stores } in x) = record {
+        let m_is : m ≡ record { inner = inner; empty = maker; device = v.device; near = m.near; unsure = stores; coming = coming } =
+        takes.same ∙ ap (λ (n : ℕ). let x : NearValue B E = record { inner = inner; empty = maker; device = v.device; near = m.near; unsure = stores_among (map (far_of v.device near.levels n) requests); coming = coming } in x) e_len in
+        let fit : FitsTogether device_of len_of (let x : NearValue B E = record { inner = inner; empty = maker; device = v.device; near = m.near; unsure = stores; coming = coming } in x) = record {
           same_device = fits.same_device;
           same_len = fits.same_len ∙ e_len ∙ sym t.5;
           leaves_far = shallow;
@@ -134,4 +135,4 @@ resumes_paths {B} {E} record_at device_of len_of may_lie v c l m bodies below fa
     let is : l ≡ record l { device = v.device; unsure = [] } =
     ap (λ (d : Sizes). let x : NearValue B E = record l { device = d } in x) device ∙ ap (λ (u : List LevelsMessage). let x : NearValue B E = record l { device = v.device; unsure = u } in x) none in
     subst (Claim record_at device_of len_of may_lie v c m bodies below far after whole) (sym is)
-    (claimed record_at device_of len_of may_lie v c m bodies below far after whole complete inside bodies_heard l.inner l.empty l.near) len fits same takes run
+    (claimed record_at device_of len_of may_lie v c m bodies below far after whole complete inside bodies_heard l.inner l.empty l.coming l.near) len fits same takes run

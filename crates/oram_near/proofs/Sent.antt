@@ -10,6 +10,7 @@ use Rattle.oram_session.specs.declared.link.LinkFault.TheVariants.{Closed, OutOf
 use Rattle.oram_link_laws.specs.Runs.{Exchange}
 use Rattle.oram_rounds.specs.Batches.{BatchOutcome}
 use Rattle.oram_rounds.proofs.KeptPaths.{leaf_fits}
+use Rattle.oram_near.specs.ComingAnswers.{Coming}
 use Rattle.oram_near.specs.Near.{Near}
 use Rattle.oram_near.specs.NearCalls.{AreAnswered, ArePathBodies, GivesWhole, IsRefusal, NearBatch, NearValue, Sends, StandsBetween, TakesNear, begins_as_store, client_of, far_messages, is_in_order, path_exchanges, store_answers, stores_among, unsure_with}
 use Rattle.oram_near.specs.PathRequests.{FetchPath, IsFarStore, IsFarStoreBody, IsOfDevice, PathRequest, StorePath, far_of, first_far, path_body, request_of, store_in}
@@ -149,16 +150,16 @@ module _ {B E : Type 0} (batches : B → List (List ℕ) → BatchOutcome → Li
     )
 
   -- by the parts of the link before the batch, and of the link once the STOREs are in place
-  module _ (inner inner' : B) (empty : E) (d : Sizes) (near near' : Near) (old held sent bodies : List (List ℕ)) (requests : List PathRequest) (below : List Exchange)
+  module _ (inner inner' : B) (empty : E) (d : Sizes) (near near' : Near) (coming : Coming) (old held sent bodies : List (List ℕ)) (requests : List PathRequest) (below : List Exchange)
       (deep : near.levels ≤ depth_of d 0) (named : bodies ≡ map path_body requests) (paths : AllByRecursion (IsOfDevice d near.record_len) requests)
       (in_order : is_in_order requests ≡ true) (stored : FoldsTo {P = Near} (TakesNear d) near requests near') (are : AllByRecursion (IsFarStoreBody d near.levels near.record_len) old)
       (messages : sent ≡ map levels_body (map (far_of d near.levels near.record_len) requests))
       (holds : held ≡ old ++ map levels_body (stores_among (map (far_of d near.levels near.record_len) requests))) where
     abbrev pub link_before : NearValue B E
-    link_before = record { inner = inner; empty = empty; device = d; near = near; unsure = map store_in old }
+    link_before = record { inner = inner; empty = empty; device = d; near = near; unsure = map store_in old; coming = coming }
 
     abbrev pub link_meanwhile : NearValue B E
-    link_meanwhile = record { inner = inner'; empty = empty; device = d; near = near'; unsure = map store_in held }
+    link_meanwhile = record { inner = inner'; empty = empty; device = d; near = near'; unsure = map store_in held; coming = coming }
 
     unsure_now : map store_in held ≡ unsure_with batches record_at link_before requests
     unsure_now = held_in d near.levels near.record_len old held sent requests deep paths are messages holds

@@ -13,6 +13,7 @@ use Rattle.oram_link_laws.specs.Examples.{new_host, one_block}
 use Rattle.oram_link_laws.specs.Runs.{Exchange, bodies_of}
 use Rattle.oram_rounds.specs.Batches.{BatchOutcome, IsBatch}
 use Rattle.oram_rounds.specs.Law.{AreBatches}
+use Rattle.oram_near.specs.ComingAnswers.{no_coming}
 use Rattle.oram_near.specs.Law.{CompletesHost, HaveSameRecords, IsBodyOf}
 use Rattle.oram_near.specs.EmptyRecords.{WithRest, made_with}
 use Rattle.oram_near.specs.LevelsHost.{LevelsRun}
@@ -61,6 +62,7 @@ link_over far = record {
   device = one_block.device;
   near = record { levels = 0; record_len = 88; bytes = []; noted = nothing_noted };
   unsure = [];
+  coming = no_coming;
 }
 
 -- A FETCH is sent, and answered without a record. So the link gives the formatting's.
@@ -120,6 +122,7 @@ near_root far root nodes = record {
   device = two_blocks.device;
   near = record { levels = 1; record_len = 88; bytes = root ++ nine; noted = record { any = false; nodes = nodes } };
   unsure = [];
+  coming = no_coming;
 }
 
 -- A STORE of the left leaf's path is sent, and a FETCH of the right one's behind it. The host has no record of the right leaf.

@@ -4,9 +4,13 @@ pub mod PathRequests
 pub mod EmptyRecords
 pub mod FormattedRecords
 pub mod Completion
+pub mod ComingAnswers
 pub mod NearCalls
+pub mod NearStreams
 pub mod NotedRecords
 pub mod BatchExchanges
+pub mod StreamsEnd
 pub mod LevelsHost
 pub mod Law
 pub mod Examples
+pub mod StreamExample

@@ -10,8 +10,9 @@ use Rattle.oram_session.specs.declared.link.LinkFault.{LinkFault}
 use Rattle.oram_session.specs.declared.link.LinkFault.TheVariants.{Closed, OutOfMemory}
 use Rattle.oram_link_laws.specs.Repair.{IsAmong}
 use Rattle.oram_link_laws.specs.Runs.{Exchange}
-use Rattle.oram_rounds.specs.Batches.{BatchOutcome, SendsNothing, answered}
+use Rattle.oram_rounds.specs.Batches.{BatchOutcome, BreaksOff, SendsNothing, answered}
 use Rattle.oram_rounds.specs.Rounds.{AreDone, refused_with}
+use Rattle.oram_near.specs.ComingAnswers.{Coming}
 use Rattle.oram_near.specs.Completion.{ClientRecords, IsCompleted}
 use Rattle.oram_near.specs.Near.{Near, StoresNear}
 use Rattle.oram_near.specs.declared.requests.Phase.{Phase}
@@ -25,6 +26,7 @@ pub record NearValue (B E : Type 0) : Type 0 where
   pub device : Sizes
   pub near : Near
   pub unsure : List LevelsMessage  -- the STOREs that the host may or may not have carried out, the oldest first
+  pub coming : Coming  -- of a batch whose answers are taken one by one
 
 abbrev pub client_of : {B E : Type 0} → (E → ℕ → ℕ → ℕ → List ℕ) → NearValue B E → ClientRecords
 client_of record_at l = record { device = l.device; near = l.near; unsure = l.unsure; empty = record_at l.empty }
@@ -158,8 +160,8 @@ module _ {B E : Type 0} (batches : B → List (List ℕ) → BatchOutcome → Li
   abbrev pub unsure_with : NearValue B E → List PathRequest → List LevelsMessage
   unsure_with l requests = l.unsure ++ stores_among (far_messages l requests)
 
-  -- The host has answered. Each FETCH is completed by what the client has once all STOREs of the batch are among the near records and the
-  -- unsure STOREs. If the host has refused a STORE, each STORE of the batch is answered with that refusal, and all stay unsure.
+  -- The host has answered, at once or one message after the other. Each FETCH is completed by what the client has once all STOREs of the batch
+  -- are among the near records and the unsure STOREs. If the host has refused a STORE, each STORE of the batch is answered with that refusal, and all stay unsure.
   pub record GivesWhole (l : NearValue B E) (requests : List PathRequest) (answers : List (List ℕ)) (o : BatchOutcome) (m : NearValue B E) : Type 0 where
     pub refusal : Option (List ℕ)
     pub refused : IsRefusal (take (length l.unsure) answers ++ store_answers requests (drop (length l.unsure) answers)) refusal
@@ -213,11 +215,35 @@ module _ {B E : Type 0} (batches : B → List (List ℕ) → BatchOutcome → Li
     pub idles : SendsNothing batches l.inner m.inner
     pub same : m ≡ record l { inner = m.inner; near = record l.near { noted = m.near.noted } }
 
+  -- A batch whose answers were to be taken one by one broke off, or couldn't be begun. Then all its STOREs are unsure, and the first requests,
+  -- which are FETCHes, have been given their answers. As a host of whole paths tells it, each STORE was sent in a try without an answer, and
+  -- then these FETCHes were answered. The STOREs that were unsure before are in the batch again.
+  pub record StopsShort (l : NearValue B E) (bodies : List (List ℕ)) (o : BatchOutcome) (exchanges below : List Exchange) (m : NearValue B E) : Type 0 where
+    pub requests : List PathRequest
+    pub named : bodies ≡ map path_body requests
+    pub paths : AllByRecursion (IsOfDevice l.device l.near.record_len) requests
+    pub in_order : is_in_order requests ≡ true
+    pub again : (message : LevelsMessage) → IsOneOf message l.unsure → IsOneOf message (stores_among (far_messages l requests))
+    pub stored : FoldsTo {P = Near} (TakesNear l.device) l.near requests m.near
+    pub sent : ((m.inner ≡ l.inner) × (below ≡ [])) ⊎ ((outcome : BatchOutcome) × batches l.inner (map levels_body (far_messages l requests)) outcome below m.inner)
+    pub front : List PathRequest
+    pub rest : List PathRequest
+    pub split : requests ≡ front ++ rest
+    pub fetches : only_fetches front ≡ true
+    pub answers : List (List ℕ)  -- the answers of the host to the messages for these FETCHes
+    pub given : List (List ℕ)  -- and what was made of them
+    pub broke : BreaksOff (map levels_body (far_messages l requests)) answers below
+    pub are : AreAnswered (client_of record_at m) None front answers given
+    pub unsure : m.unsure ≡ stores_among (far_messages l requests)
+    pub fault : LinkFault
+    pub reported : o ≡ Err fault
+    pub as_paths : exchanges ≡ store_tries fault requests ++ answered (map path_body front) given
+
   -- A batch of the link: its bodies and its outcome, its exchanges as a host of whole paths tells them, and those of the link below.
   abbrev pub NearBatch : NearValue B E → List (List ℕ) → BatchOutcome → List Exchange → List Exchange → NearValue B E → Type 0
   NearBatch l bodies o exchanges below m =
       (m.device ≡ l.device) × (m.empty ≡ l.empty)
-      × (Sends l bodies o exchanges below m ⊎ (SendsAgain l bodies o exchanges below m ⊎ (Declines l bodies o exchanges below m ⊎ Idles l bodies o exchanges below m)))
+      × (Sends l bodies o exchanges below m ⊎ (SendsAgain l bodies o exchanges below m ⊎ (Declines l bodies o exchanges below m ⊎ (Idles l bodies o exchanges below m ⊎ StopsShort l bodies o exchanges below m))))
 
 -- The near records of STOREs are put in place, and these STOREs count as unsure.
 pub record TakesUnsure {B E : Type 0} (l : NearValue B E) (bodies : List (List ℕ)) (m : NearValue B E) : Type 0 where

@@ -3,6 +3,7 @@ ghost use Rattle.oram_near.specs.EmptyRecords.{made_with, of_maker};
 ghost use Rattle.oram_near.specs.Examples.{NearExample, ResumedExample, TwoLevelsExample};
 ghost use Rattle.oram_near.specs.FormattedRecords.{CollectedBytesAreOfFormatting, CollectedExample};
 ghost use Rattle.oram_near.specs.Law.{CompletesPaths, ResumesPaths};
+ghost use Rattle.oram_near.specs.StreamExample.{StreamExample};
 
 use crate::empty_records::EmptyRecords;
 use oram_rounds::BatchLink;
@@ -31,6 +32,12 @@ pub fn near_example()
 /// changes that record, and a FETCH of the other leaf's is answered with it, and with the leaf's record that the formatting makes.
 pub fn two_levels_example()
     ensures { TwoLevelsExample }
+{}
+
+/// A FETCH and a STORE whose answers are taken one by one, over a device of one block whose host has no record: the FETCH is answered with what the
+/// STORE has. That batch meets the premises of [`completes_paths`] if it breaks off before the STORE's answer, and else it ends as any other.
+pub fn stream_example()
+    ensures { StreamExample }
 {}
 
 /// A process that ended after it had sent a STORE meets the premises of [`resumes_paths`].

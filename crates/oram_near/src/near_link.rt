@@ -10,17 +10,25 @@ ghost use Rattle.oram_near.specs.Completion.{IsCompleted, IsUnlaidPath, IsWholeP
 ghost use Rattle.oram_near.specs.EmptyRecords.{made_with, of_maker, records_from};
 ghost use Rattle.oram_near.specs.Near.{AreTold, Near, nothing_noted, records_on, rest_of};
 ghost use Rattle.oram_rounds.specs.LinkNotes.{AreRecordsTold};
+ghost use Rattle.oram_near.specs.ComingAnswers.{no_coming};
 ghost use Rattle.oram_near.specs.NearCalls.{AreAnswered, ArePathBodies, FitsTogether, IsAnswered, IsRefusal, NearBatch, NearValue, TakesUnsure, client_of, store_answers};
 ghost use Rattle.oram_near.specs.NearLevels.{near_len};
-ghost use Rattle.oram_near.specs.PathRequests.{IsOfDevice, first_far, request_of};
+ghost use Rattle.oram_near.specs.NearStreams.{HearsStores, NearBatches, NearStreams, fault_of};
+ghost use Rattle.oram_near.specs.PathRequests.{FetchPath, IsOfDevice, StorePath, first_far, path_body, request_of};
+ghost use Rattle.oram_rounds.specs.Streams.{BeginsBatch, GivesNext};
+ghost use Rattle.oram_session.specs.Outcome.{outcome_of};
 
 use crate::answers::{far_records, refusal_in, refused_with, store_answer};
+use crate::coming_answers::ComingAnswers;
 use crate::empty_records::EmptyRecords;
+use crate::hearing::{hear, pass_over, store_answers};
 use crate::near_changes::NearChanges;
 use crate::near_records::NearRecords;
 use crate::overlay::lay_over;
 use crate::path_message::{PathMessage, first_far, path_len};
-use crate::requests::{encode_each, forget_repeated, hold, is_in_order, read_all, store_each};
+use crate::requests::{
+    encode_each, forget_repeated, hold, is_in_order, read_all, read_batch, store_each,
+};
 use oram_geometry::Device;
 use oram_rounds::{BatchLink, LinkRecords, RecordChanges};
 use oram_session::LinkFault;
@@ -33,12 +41,14 @@ use std::marker::Model;
 /// The client keeps the near records itself, and makes those records anew that the host doesn't have.
 #[derive(Drop)]
 pub struct NearLink<B, E: EmptyRecords> {
-    inner: B,
+    pub(crate) inner: B,
     empty: E,
-    device: Device,
-    near: NearRecords,
+    pub(crate) device: Device,
+    pub(crate) near: NearRecords,
     /// The STOREs of levels that the host may or may not have carried out, the oldest first.
-    unsure: Vec<Vec<u8>>,
+    pub(crate) unsure: Vec<Vec<u8>>,
+    /// How far a batch has come whose answers are taken one by one.
+    pub(crate) coming: ComingAnswers,
 }
 
 /// What a link for whole paths consists of: the link below, what makes the records of the formatting, the device and the near records.
@@ -62,7 +72,7 @@ impl<B, E: EmptyRecords> Model for NearLink<B, E> {
 
     ghost Value = { NearValue B (WithRest E) };
 
-    ghost view = { λ l. record { inner = l.inner; empty = record { maker = l.empty; rest = rest_of l.near }; device = l.device; near = l.near; unsure = map store_in (texts l.unsure.items) } };
+    ghost view = { λ l. record { inner = l.inner; empty = record { maker = l.empty; rest = rest_of l.near }; device = l.device; near = l.near; unsure = map store_in (texts l.unsure.items); coming = l.coming } };
 
     ghost invariant = { λ l. (E.device l.empty ≡ l.device) × (E.record_len l.empty ≡ l.near.record_len) × (l.near.levels ≤ depth_of l.device 0)
         × AllByRecursion (IsFarStoreBody l.device l.near.levels l.near.record_len) (texts l.unsure.items) × (length (rest_of l.near) ≡ E.rest_len l.empty) };
@@ -98,7 +108,7 @@ impl<B, E: EmptyRecords> NearLink<B, E> {
         requires record_len { E.record_len empty ≡ near.record_len }
         requires levels { near.levels ≤ depth_of device 0 }
         requires rest { length (rest_of near) ≡ E.rest_len empty }
-        ensures { result ≡ record { inner = inner; empty = record { maker = empty; rest = rest_of near }; device = device; near = near; unsure = [] } }
+        ensures { result ≡ record { inner = inner; empty = record { maker = empty; rest = rest_of near }; device = device; near = near; unsure = []; coming = no_coming } }
     {
         NearLink {
             inner,
@@ -106,6 +116,7 @@ impl<B, E: EmptyRecords> NearLink<B, E> {
             device,
             near,
             unsure: Vec::new(alloc),
+            coming: ComingAnswers::none(alloc),
         }
     }
 
@@ -127,7 +138,7 @@ impl<B, E: EmptyRecords> NearLink<B, E> {
         requires record_len { E.record_len empty ≡ near.record_len }
         requires levels { near.levels ≤ depth_of device 0 }
         requires rest { length (rest_of near) ≡ E.rest_len empty }
-        ensures ok { IfOk result (λ l. TakesUnsure (record { inner = inner; empty = record { maker = empty; rest = rest_of near }; device = device; near = near; unsure = [] }) (texts stores.now) l) }
+        ensures ok { IfOk result (λ l. TakesUnsure (record { inner = inner; empty = record { maker = empty; rest = rest_of near }; device = device; near = near; unsure = []; coming = no_coming }) (texts stores.now) l) }
         ensures err { IfErr result (λ fault. (fault ≡ LinkFault.OutOfMemory) ⊎ ((fault ≡ LinkFault.Closed) × ¬ ArePathBodies device near.record_len (texts stores.now))) }
     {
         let mut link = NearLink::new(alloc, inner, empty, device, near);
@@ -291,7 +302,7 @@ impl<B, E: EmptyRecords> NearLink<B, E> {
 
     /// Returns the answer to the FETCH of a whole path, given the host's answer to the FETCH of its far levels. Fails only if memory
     /// runs out.
-    fn complete(
+    pub(crate) fn complete(
         &self,
         alloc: Global,
         tree: u8,
@@ -348,7 +359,7 @@ impl<B, E: EmptyRecords> NearLink<B, E> {
     }
 
     /// Forgets the unsure STOREs, unless the host has refused one of them.
-    fn settle(&mut self, refused: bool)
+    pub(crate) fn settle(&mut self, refused: bool)
         ensures { self.new ≡ record self.old { unsure = (if refused then self.old.unsure else []) } }
     {
         if refused {
@@ -421,8 +432,12 @@ impl<B: BatchLink, E: EmptyRecords> BatchLink for NearLink<B, E> {
     ghost use Rattle.oram_near.specs.BatchExchanges.{counts_anew, goes_on_telling, learnt_nothing_sent, near_are_batches};
     ghost use Rattle.oram_near.specs.Near.{AreNoted, nothing_noted};
     ghost use Rattle.oram_near.specs.NearCalls.{NearBatch};
+    ghost use Rattle.oram_near.specs.NearStreams.{NearStreams};
+    ghost use Rattle.oram_near.specs.StreamsEnd.{streams_end};
 
     ghost batches = { λ l bodies o exchanges m. (below : List Exchange) × NearBatch B.batches (made_with E.record_at) l bodies o exchanges below m };
+
+    ghost streams = { λ l bodies answers k. NearStreams B.batches B.streams (made_with E.record_at) l bodies answers k };
 
     ghost notes = { λ l. record { text = (B.notes l.inner).text; records = l.near.bytes } };
 
@@ -437,6 +452,21 @@ impl<B: BatchLink, E: EmptyRecords> BatchLink for NearLink<B, E> {
         last: &[Vec<u8>],
     ) -> Result<Vec<Vec<u8>>, LinkFault> {
         self.send(alloc, first, last)
+    }
+
+    /// Begins a batch only if `first` has FETCHes of whole paths and `last` has STOREs, and no other STOREs are unsure.
+    fn begin(&mut self, alloc: Global, first: &[Vec<u8>], last: &[Vec<u8>]) -> bool {
+        self.begin_batch(alloc, first, last)
+    }
+
+    /// Completes the host's answer to a FETCH. When the first STORE's answer is asked for, it takes the host's answers to all STOREs: if the host
+    /// has refused one of them, each is answered with that refusal, and all stay unsure.
+    fn next_answer(&mut self, alloc: Global, body: &[u8]) -> Result<Vec<u8>, LinkFault> {
+        match PathMessage::read(&self.device, self.near.record_len(), body) {
+            Some(PathMessage::Fetch { tree, leaf }) => self.next_fetched(alloc, tree, leaf),
+            Some(PathMessage::Store { .. }) => self.next_stored(alloc),
+            None => Err(LinkFault::Closed),
+        }
     }
 
     /// Returns the note of the link below.
@@ -460,6 +490,8 @@ impl<B: BatchLink, E: EmptyRecords> BatchLink for NearLink<B, E> {
     }
 
     ghost are_batches = { λ l m bodies o exchanges h. near_are_batches B.batches (made_with E.record_at) l m bodies o exchanges h };
+
+    ghost ends_as_batch = { λ l m bodies answers h count. streams_end B.batches B.streams (made_with E.record_at) B.ends_as_batch l m bodies answers h count };
 
     ghost learning_sends_nothing = { λ l m check learnt.
         learnt_nothing_sent B.batches (made_with E.record_at) l m (B.learning_sends_nothing l.inner m.inner check learnt.0) learnt.1 };

@@ -1,5 +1,5 @@
 //! The requests of a batch, and the messages that go to the host for them.
-ghost use Rattle.std.specs.Prelude.{◌≡◌, ◌⊎◌, ◌≤◌, ◌<◌, ◌^◌, ◌+◌, ◌++◌, [], IfOk, MatchBool, MatchResult, filter, map, vec_capacity, vec_len};
+ghost use Rattle.std.specs.Prelude.{◌≡◌, ◌⊎◌, ◌≤◌, ◌<◌, ◌^◌, ◌+◌, ◌++◌, [], IfOk, IsTrue, MatchBool, MatchResult, filter, map, vec_capacity, vec_len};
 ghost use Rattle.std.specs.List.{AllByRecursion, FoldsTo};
 ghost use Rattle.oram_geometry.specs.Sizes.{depth_of};
 ghost use Rattle.oram_levels.specs.Messages.{levels_body};
@@ -7,6 +7,7 @@ ghost use Rattle.oram_link_laws.specs.Repair.{IsAmong};
 ghost use Rattle.oram_rounds.specs.Batches.{texts};
 ghost use Rattle.oram_near.specs.Near.{Near, rest_of};
 ghost use Rattle.oram_near.specs.NearCalls.{AreAgain, ArePathBodies, IsNoneOf, IsOneMissing, TakesNear, begins_as_store, is_in_order, phase_after};
+ghost use Rattle.oram_near.specs.NearStreams.{IsFetch, IsReadBatch, IsStore};
 ghost use Rattle.oram_near.specs.PathRequests.{IsOfDevice, far_of, path_body, request_of};
 
 use crate::near_records::NearRecords;
@@ -111,6 +112,69 @@ pub(crate) fn encode_each(
         messages.push(request.encode_far(alloc, device, record_len, levels)?)?;
     }
     Ok(messages)
+}
+
+/// Returns whether all requests are FETCHes.
+fn are_fetches(requests: &[PathMessage<'_>]) -> bool
+    ensures { IsTrue result → AllByRecursion IsFetch (map request_of requests.now) }
+{
+    for request in requests {
+        if let PathMessage::Store { .. } = request {
+            return false;
+        }
+    }
+    true
+}
+
+/// Returns whether all requests are STOREs.
+fn are_stores(requests: &[PathMessage<'_>]) -> bool
+    ensures { IsTrue result → AllByRecursion IsStore (map request_of requests.now) }
+{
+    for request in requests {
+        if let PathMessage::Fetch { .. } = request {
+            return false;
+        }
+    }
+    true
+}
+
+/// FETCHes, and STOREs behind them, that go to the host in one batch.
+#[derive(Drop)]
+pub(crate) struct FetchesAndStores<'a> {
+    /// The messages about levels for the FETCHes.
+    pub(crate) fetches: Vec<Vec<u8>>,
+    /// The messages about levels for the STOREs.
+    pub(crate) stores: Vec<Vec<u8>>,
+    /// The STOREs.
+    pub(crate) requests: Vec<PathMessage<'a>>,
+}
+
+/// Reads the bodies of `first` as FETCHes of whole paths and those of `last` as STOREs, and encodes the messages about levels. Fails with
+/// `Closed` if one of them is no such message.
+pub(crate) fn read_batch<'a>(
+    alloc: Global,
+    device: &Device,
+    record_len: usize,
+    levels: u8,
+    first: &[Vec<u8>],
+    last: &'a [Vec<u8>],
+) -> Result<FetchesAndStores<'a>, LinkFault>
+    requires few { record_len < 2 ^ 32 }
+    requires levels { levels ≤ depth_of device.now 0 }
+    ensures { IfOk result (λ batch. IsReadBatch device.now levels record_len (texts first.now) (texts last.now) (texts batch.fetches.items) (texts batch.stores.items) (map request_of batch.requests.items)) }
+{
+    let fetches = read_each(alloc, device, record_len, first)?;
+    let requests = read_each(alloc, device, record_len, last)?;
+    if are_fetches(&fetches) && are_stores(&requests) {
+        let fetches = encode_each(alloc, device, record_len, levels, &fetches)?;
+        let stores = encode_each(alloc, device, record_len, levels, &requests)?;
+        return Ok(FetchesAndStores {
+            fetches,
+            stores,
+            requests,
+        });
+    }
+    Err(LinkFault::Closed)
 }
 
 /// Replaces the near records of a STORE's path, if it is one to tree 0.

@@ -51,7 +51,7 @@ went may_lie =
         paths = (path, tt);
         outcome = Ok (answer ∷ []);
         batch = (nothing_below, near_example.3, near_example.4 may_lie);
-        gives = record { given = answer ∷ []; acks = []; all = refl; count = refl; either = inl (tt, refl, answer ∷ [], ((path, unchanged), (refl, refl)), refl) };
+        gives = record { given = answer ∷ []; acks = []; all = refl; count = refl; either = inl (tt, refl, answer ∷ [], ((path, unchanged), (refl, refl)), 1, refl) };
       });
     })
 
@@ -89,7 +89,7 @@ reading_over_levels_example = (
   (
     file,
     safe,
-    λ may_lie. (let on = reading_process_example.5 may_lie in (on.0, on.1, on.2, record { each = tt; alone = inl refl })),
+    λ may_lie. (let on = reading_process_example.5 may_lie in (on.0, on.1, on.2, inl refl)),
     λ may_lie. (ahead, ((went may_lie, refl), refl), (now, ((fetch_body 0 0, awaits, called may_lie, refl), refl), refl)),
   ),
 )

@@ -1,6 +1,7 @@
--- What is ahead is the end of the core's next FETCHes.
-use Rattle.std.proofs.Common.{◌≡◌, ◌⊎◌, ℕ, ◌<◌, arith, zero, suc, Bool, true, false, List, [], ◌∷◌, ◌++◌, length, slice_index, Option, Some, None, Ok, Err, refl, sym, ap, ◌∙◌, subst, inl, inr, append_assoc, append-nil}
+-- What is ahead stands in the core's next FETCHes, one behind the other.
+use Rattle.std.proofs.Common.{◌≡◌, ◌⊎◌, ℕ, ◌<◌, arith, zero, suc, Bool, true, false, List, [], ◌∷◌, ◌++◌, length, slice_index, take, drop, Option, Some, None, Ok, Err, refl, sym, ap, ◌∙◌, subst, inl, inr, append_assoc}
 use Rattle.std.specs.Prelude.{MatchResult}
+use Rattle.std.proofs.lemmas.List.{map-append, take-append-drop}
 use Rattle.std.specs.List.{flat_map}
 use Rattle.oram_geometry.specs.declared.Sizes.{Sizes}
 use Rattle.oram_geometry.specs.Sizes.{IsDevice}
@@ -33,10 +34,9 @@ use Rattle.oram_rounds.specs.AheadInTurn.{AheadIsNotSent, AheadStaysInTurn, IsAh
 use Rattle.oram_rounds.specs.Batches.{BatchOutcome, answered}
 use Rattle.oram_rounds.specs.CatchUp.{IsPlainCall, PlainRun}
 use Rattle.oram_rounds.specs.Law.{AreBatches}
-use Rattle.oram_rounds.specs.Overlay.{AreOverlaid}
 use Rattle.oram_rounds.specs.Process.{Act, Does, DoesAll, IsGoingOn, Process, exchanges_of, next_bodies}
 use Rattle.oram_rounds.specs.Process.Act.{Calls, GoesAhead, Hears, Keeps, Misses}
-use Rattle.oram_rounds.specs.Rounds.{GivesAhead, IsFirstAhead, Round, RoundCall, WentAhead}
+use Rattle.oram_rounds.specs.Rounds.{BreaksAhead, GivesAhead, LeavesAhead, IsFirstAhead, Round, RoundCall, WentAhead}
 use Rattle.oram_rounds.proofs.Replies.{goes_on, same_device, stays_failed}
 use Rattle.oram_rounds.proofs.Safety.{called}
 use Rattle.oram_rounds.proofs.Steps.{step_in_turn}
@@ -47,29 +47,26 @@ named_fetch [] m rest is = absurd (let both : [] ≡ m ∷ rest = is in cc)
 named_fetch (e ∷ fetches) m rest is = (e, let both : fetch_body e.tree e.leaf ∷ fetch_bodies fetches ≡ m ∷ rest = is in cc)
 
 -- no FETCH is a STORE
-fetch_or_store : (i l j k : ℕ) (records : List ℕ) → fetch_body i l ≡ store_body j k records → ⊥
+pub fetch_or_store : (i l j k : ℕ) (records : List ℕ) → fetch_body i l ≡ store_body j k records → ⊥
 fetch_or_store i l j k records same = let numbers : 1 ≡ 2 = ap (λ (b : List ℕ). slice_index b 0) same in omega (arith, numbers)
 
 first_ahead : (ahead : List Exchange) (m : List ℕ) (rest : List (List ℕ)) → bodies_of ahead ≡ m ∷ rest → IsFirstAhead ahead m
 first_ahead [] m rest is = absurd (let both : [] ≡ m ∷ rest = is in cc)
 first_ahead (e ∷ ahead) m rest is = let both : e.0 ∷ bodies_of ahead ≡ m ∷ rest = is in cc
 
-overlaid_bodies : (d : Sizes) (len : ℕ) (stores fetches answers given : List (List ℕ)) → AreOverlaid d len stores fetches answers given → bodies_of (answered fetches given) ≡ fetches
-overlaid_bodies d len stores [] answers given over = refl
-overlaid_bodies d len stores (f ∷ fetches) [] given over = absurd over
-overlaid_bodies d len stores (f ∷ fetches) (a ∷ answers) [] over = absurd over
-overlaid_bodies d len stores (f ∷ fetches) (a ∷ answers) (x ∷ given) over = ap (λ (rest : List (List ℕ)). f ∷ rest) (overlaid_bodies d len stores fetches answers given over.1)
+-- Messages that stand one behind the other in a list of messages, and what becomes of them when the first message of the list has gone.
+abbrev Stand : List (List ℕ) → List (List ℕ) → Type 0
+Stand all some = (before behind : List (List ℕ)) × (all ≡ before ++ (some ++ behind))
 
--- Messages that are the end of a list of messages, and what becomes of them when the first message of the list has gone.
-abbrev Ends : List (List ℕ) → List (List ℕ) → Type 0
-Ends all end = (before : List (List ℕ)) × (all ≡ before ++ end)
+first_gone : (before some behind rest : List (List ℕ)) (b : List ℕ) → b ∷ rest ≡ before ++ (some ++ behind) → (before ≡ [] → Stand rest some) → Stand rest some
+first_gone [] some behind rest b same none = none refl
+first_gone (x ∷ before) some behind rest b same none = (before, behind, let both : b ∷ rest ≡ x ∷ (before ++ (some ++ behind)) = same in cc)
 
-first_gone : (before end rest : List (List ℕ)) (b : List ℕ) → b ∷ rest ≡ before ++ end → (before ≡ [] → Ends rest end) → Ends rest end
-first_gone [] end rest b same none = none refl
-first_gone (x ∷ before) end rest b same none = (before, let both : b ∷ rest ≡ x ∷ (before ++ end) = same in cc)
+one_less : (all before some behind : List (List ℕ)) (b : List ℕ) → all ≡ before ++ ((b ∷ some) ++ behind) → Stand all some
+one_less all before some behind b same = (before ++ b ∷ [], behind, same ∙ sym (append_assoc before (b ∷ []) (some ++ behind)))
 
-one_less : (all before end : List (List ℕ)) (b : List ℕ) → all ≡ before ++ b ∷ end → Ends all end
-one_less all before end b same = (before ++ b ∷ [], same ∙ sym (append_assoc before (b ∷ []) end))
+none_stand : (all : List (List ℕ)) → Stand all []
+none_stand all = ([], all, refl)
 
 queue_waits : (f : Option Reason) (queue : List Submission) (lost : Bool) → status_by f queue lost ≡ Waiting → 0 < length queue
 queue_waits (Some e) queue lost waits = absurd (let both : Over ≡ Waiting = waits in cc)
@@ -113,9 +110,20 @@ module _ {B : Type 0} (batches : B → List (List ℕ) → BatchOutcome → List
       let first = asks.first (queue_waits s.failure s.queue s.lost waits) none in
       (first.0, first.1 ∙ ap (λ (b : List ℕ). b ∷ first.0) (sym is))
 
-  -- where all of them are ahead, it is the first one ahead
-  first_of_all : s.entry_number ≡ 0 → next_bodies d s ≡ bodies_of l.ahead → IsFirstAhead l.ahead message
-  first_of_all none all = let first = outstanding_first none in first_ahead l.ahead message first.0 (sym all ∙ first.1)
+  -- where they begin with what is ahead, it is the first one ahead
+  first_of_all : s.entry_number ≡ 0 → (a : Exchange) (ahead : List Exchange) (behind : List (List ℕ)) → l.ahead ≡ a ∷ ahead → next_bodies d s ≡ bodies_of l.ahead ++ behind → IsFirstAhead l.ahead message
+  first_of_all none a ahead behind some all =
+      let first = outstanding_first none in
+      let both : message ∷ first.0 ≡ a.0 ∷ (bodies_of ahead ++ behind) = sym first.1 ∙ all ∙ ap (λ (es : List Exchange). bodies_of es ++ behind) some in
+      subst (λ (es : List Exchange). IsFirstAhead es message) (sym some) (let same : a.0 ≡ message = cc in same)
+
+  -- one of them is ahead, or none
+  some_or_none : (P : Type 0) → (l.ahead ≡ [] → P) → ((a : Exchange) (ahead : List Exchange) → l.ahead ≡ a ∷ ahead → P) → P
+  some_or_none P none some = by l.ahead refl
+    where
+      by : (es : List Exchange) → l.ahead ≡ es → P
+      by [] is = none is
+      by (a ∷ ahead) is = some a ahead is
 
   no_store : s.entry_number ≡ 0 → (j k : ℕ) (records : List ℕ) → message ≡ store_body j k records → ⊥
   no_store none j k records named =
@@ -123,86 +131,109 @@ module _ {B : Type 0} (batches : B → List (List ℕ) → BatchOutcome → List
       let e = named_fetch (next_fetches d s) message first.0 first.1 in
       fetch_or_store e.0.tree e.0.leaf j k records (sym e.1 ∙ named)
 
+  all_ahead : s.entry_number ≡ 0 → next_bodies d s ≡ bodies_of l.ahead → IsFirstAhead l.ahead message
+  all_ahead none all = let first = outstanding_first none in first_ahead l.ahead message first.0 (sym all ∙ first.1)
+
   pub not_sent : s.entry_number ≡ 0 → next_bodies d s ≡ bodies_of l.ahead → exchanges ≡ []
   not_sent none all = elim call.does [
     | inl holds ↦ holds.none
-    | inr (inl f) ↦ absurd (f.not_ahead (first_of_all none all))
+    | inr (inl f) ↦ absurd (f.not_ahead (all_ahead none all))
     | inr (inr (inl declines)) ↦ declines.none
     | inr (inr (inr takes)) ↦ takes.none
   ]
 
-  -- what was the end of the messages before the call is the end of those that are left
+  -- what stood in the messages before the call stands in those that are left
 
-  same_end : (all before : List (List ℕ)) → all ≡ before ++ bodies_of l.ahead → m.ahead ≡ l.ahead → Ends all (bodies_of m.ahead)
-  same_end all before next same = (before, next ∙ ap (λ (ahead : List Exchange). before ++ bodies_of ahead) (sym same))
+  same_stand : (all before behind : List (List ℕ)) → all ≡ before ++ (bodies_of l.ahead ++ behind) → m.ahead ≡ l.ahead → Stand all (bodies_of m.ahead)
+  same_stand all before behind next same = (before, behind, next ∙ ap (λ (ahead : List Exchange). before ++ (bodies_of ahead ++ behind)) (sym same))
 
-  taken_end : (all before : List (List ℕ)) (answer : List ℕ) → all ≡ before ++ bodies_of l.ahead → l.ahead ≡ (message, Ok answer) ∷ m.ahead → Ends all (bodies_of m.ahead)
-  taken_end all before answer next taken = one_less all before (bodies_of m.ahead) message (next ∙ ap (λ (ahead : List Exchange). before ++ bodies_of ahead) taken)
+  taken_stand : (all before behind : List (List ℕ)) (answer : List ℕ) → all ≡ before ++ (bodies_of l.ahead ++ behind) → l.ahead ≡ (message, Ok answer) ∷ m.ahead → Stand all (bodies_of m.ahead)
+  taken_stand all before behind answer next taken =
+      one_less all before (bodies_of m.ahead) behind message (next ∙ ap (λ (ahead : List Exchange). before ++ (bodies_of ahead ++ behind)) taken)
 
   -- the core doesn't hear of it, or its next FETCHes stay
-  pub end_stays : (all before : List (List ℕ)) → all ≡ before ++ bodies_of l.ahead → Ends all (bodies_of m.ahead)
-  end_stays all before next = elim call.does [
-    | inl holds ↦ same_end all before next holds.ahead
-    | inr (inl f) ↦ same_end all before next f.ahead
-    | inr (inr (inl declines)) ↦ same_end all before next declines.ahead
-    | inr (inr (inr takes)) ↦ taken_end all before takes.answer next takes.next
+  pub stand_still : (all before behind : List (List ℕ)) → all ≡ before ++ (bodies_of l.ahead ++ behind) → Stand all (bodies_of m.ahead)
+  stand_still all before behind next = elim call.does [
+    | inl holds ↦ same_stand all before behind next holds.ahead
+    | inr (inl f) ↦ same_stand all before behind next f.ahead
+    | inr (inr (inl declines)) ↦ same_stand all before behind next declines.ahead
+    | inr (inr (inr takes)) ↦ taken_stand all before behind takes.answer next takes.next
   ]
 
   -- the first of them has its answer
 
-  unsent_end : (before rest : List (List ℕ)) (b : List ℕ) → next_bodies d s ≡ before ++ bodies_of l.ahead → next_bodies d s ≡ b ∷ rest → m.ahead ≡ l.ahead
-      → (next_bodies d s ≡ bodies_of l.ahead → ⊥) → Ends rest (bodies_of m.ahead)
-  unsent_end before rest b next gone same apart =
-      let still : b ∷ rest ≡ before ++ bodies_of m.ahead = sym gone ∙ next ∙ ap (λ (ahead : List Exchange). before ++ bodies_of ahead) (sym same) in
-      first_gone before (bodies_of m.ahead) rest b still (λ none. absurd (apart (next ∙ ap (λ (k : List (List ℕ)). k ++ bodies_of l.ahead) none)))
+  unsent_stand : (before behind rest : List (List ℕ)) (b : List ℕ) → next_bodies d s ≡ before ++ (bodies_of l.ahead ++ behind) → next_bodies d s ≡ b ∷ rest → m.ahead ≡ l.ahead
+      → ((a : Exchange) (ahead : List Exchange) → l.ahead ≡ a ∷ ahead → next_bodies d s ≡ bodies_of l.ahead ++ behind → ⊥) → Stand rest (bodies_of m.ahead)
+  unsent_stand before behind rest b next gone same apart =
+      let still : b ∷ rest ≡ before ++ (bodies_of m.ahead ++ behind) = sym gone ∙ next ∙ ap (λ (ahead : List Exchange). before ++ (bodies_of ahead ++ behind)) (sym same) in
+      first_gone before (bodies_of m.ahead) behind rest b still (λ none.
+      some_or_none (Stand rest (bodies_of m.ahead))
+      (λ nothing. subst (λ (es : List Exchange). Stand rest (bodies_of es)) (sym (same ∙ nothing)) (none_stand rest))
+      (λ a ahead some. absurd (apart a ahead some (next ∙ ap (λ (k : List (List ℕ)). k ++ (bodies_of l.ahead ++ behind)) none))))
 
-  pub end_moves : (before rest : List (List ℕ)) (b : List ℕ) → is_stall o ≡ false → s.entry_number ≡ 0 → next_bodies d s ≡ before ++ bodies_of l.ahead → next_bodies d s ≡ b ∷ rest
-      → Ends rest (bodies_of m.ahead)
-  end_moves before rest b heard none next gone = elim call.does [
+  pub stand_moved : (before behind rest : List (List ℕ)) (b : List ℕ) → is_stall o ≡ false → s.entry_number ≡ 0 → next_bodies d s ≡ before ++ (bodies_of l.ahead ++ behind) → next_bodies d s ≡ b ∷ rest
+      → Stand rest (bodies_of m.ahead)
+  stand_moved before behind rest b heard none next gone = elim call.does [
     | inl holds ↦ absurd (no_store none holds.path.tree holds.path.leaf holds.path.records holds.path.named)
-    | inr (inl f) ↦ unsent_end before rest b next gone f.ahead (λ all. f.not_ahead (first_of_all none all))
+    | inr (inl f) ↦ unsent_stand before behind rest b next gone f.ahead (λ a ahead some all. f.not_ahead (first_of_all none a ahead behind some all))
     | inr (inr (inl declines)) ↦ absurd (let both : true ≡ false = ap is_stall (sym declines.answer) ∙ heard in cc)
     | inr (inr (inr takes)) ↦
-        let still : b ∷ rest ≡ before ++ message ∷ bodies_of m.ahead =
-        sym gone ∙ next ∙ ap (λ (ahead : List Exchange). before ++ bodies_of ahead) takes.next in
-        (let left : (k : List (List ℕ)) × (rest ≡ k ++ bodies_of m.ahead) = by before still in left)
+        let still : b ∷ rest ≡ before ++ ((message ∷ bodies_of m.ahead) ++ behind) =
+        sym gone ∙ next ∙ ap (λ (ahead : List Exchange). before ++ (bodies_of ahead ++ behind)) takes.next in
+        (let left : Stand rest (bodies_of m.ahead) = by before still in left)
   ]
     where
-      by : (front : List (List ℕ)) → b ∷ rest ≡ front ++ message ∷ bodies_of m.ahead → Ends rest (bodies_of m.ahead)
-      by [] same = ([], let both : b ∷ rest ≡ message ∷ bodies_of m.ahead = same in cc)
+      by : (front : List (List ℕ)) → b ∷ rest ≡ front ++ ((message ∷ bodies_of m.ahead) ++ behind) → Stand rest (bodies_of m.ahead)
+      by [] same = ([], behind, let both : b ∷ rest ≡ message ∷ (bodies_of m.ahead ++ behind) = same in cc)
       by (x ∷ front) same =
-          let both : b ∷ rest ≡ x ∷ (front ++ message ∷ bodies_of m.ahead) = same in
-          let tail : rest ≡ front ++ message ∷ bodies_of m.ahead = cc in
-          one_less rest front (bodies_of m.ahead) message tail
+          let both : b ∷ rest ≡ x ∷ (front ++ ((message ∷ bodies_of m.ahead) ++ behind)) = same in
+          let tail : rest ≡ front ++ ((message ∷ bodies_of m.ahead) ++ behind) = cc in
+          one_less rest front (bodies_of m.ahead) behind message tail
 
 -- what goes ahead
 
+-- the messages of the first few exchanges, and the others
+pub bodies_apart : (count : ℕ) (xs : List Exchange) → bodies_of xs ≡ bodies_of (take count xs) ++ bodies_of (drop count xs)
+bodies_apart count xs = ap bodies_of (sym (take-append-drop count xs)) ∙ map-append (λ (e : Exchange). e.0) (take count xs) (drop count xs)
+
+-- FETCHes of which the first have answers
+first_bodies : (fetches laid : List (List ℕ)) → (behind : List (List ℕ)) × (fetches ≡ bodies_of (answered fetches laid) ++ behind)
+first_bodies [] laid = ([], refl)
+first_bodies (f ∷ fetches) [] = (f ∷ fetches, refl)
+first_bodies (f ∷ fetches) (x ∷ laid) = let rest = first_bodies fetches laid in (rest.0, ap (λ (bs : List (List ℕ)). f ∷ bs) rest.1)
+
 module _ {B : Type 0} (batches : B → List (List ℕ) → BatchOutcome → List Exchange → B → Type 0) (l m : Round B) (fetches : List (List ℕ)) (exchanges : List Exchange) where
-  none_ends : m.ahead ≡ [] → Ends fetches (bodies_of m.ahead)
-  none_ends none = (fetches, sym (append-nil fetches) ∙ ap (λ (ahead : List Exchange). fetches ++ bodies_of ahead) (sym none))
+  no_stand : m.ahead ≡ [] → Stand fetches (bodies_of m.ahead)
+  no_stand none = subst (λ (es : List Exchange). Stand fetches (bodies_of es)) (sym none) (none_stand fetches)
 
-  all_end : (answers : List (List ℕ)) → GivesAhead batches l.device l.record_len l fetches answers m → Ends fetches (bodies_of m.ahead)
-  all_end answers g = elim g.either [
-    | inl done ↦ ([], sym (ap bodies_of done.4 ∙ overlaid_bodies l.device l.record_len l.kept fetches g.given done.2 done.3))
-    | inr refused ↦ none_ends refused.2
-  ]
+  first_stand : (laid : List (List ℕ)) (count : ℕ) → m.ahead ≡ take count (answered fetches laid) → Stand fetches (bodies_of m.ahead)
+  first_stand laid count is =
+      let answers = answered fetches laid in
+      let rest = first_bodies fetches laid in
+      let apart : fetches ≡ bodies_of (take count answers) ++ (bodies_of (drop count answers) ++ rest.0) =
+      rest.1 ∙ ap (λ (bs : List (List ℕ)). bs ++ rest.0) (bodies_apart count answers) ∙ append_assoc (bodies_of (take count answers)) (bodies_of (drop count answers)) rest.0 in
+      ([], bodies_of (drop count answers) ++ rest.0, apart ∙ ap (λ (es : List Exchange). bodies_of es ++ (bodies_of (drop count answers) ++ rest.0)) (sym is))
 
-  pub gone_ends : WentAhead batches l fetches exchanges m → Ends fetches (bodies_of m.ahead)
-  gone_ends went = elim went.does [
+  left_stand : (given : List (List ℕ)) → LeavesAhead batches l.device l.record_len l fetches given m → Stand fetches (bodies_of m.ahead)
+  left_stand given g = elim g.either [ inl none ↦ no_stand none | inr laid ↦ first_stand laid.1 laid.3 laid.4 ]
+
+  pub gone_stand : WentAhead batches l fetches exchanges m → Stand fetches (bodies_of m.ahead)
+  gone_stand went = elim went.does [
     | inl s ↦ by s.outcome s.gives
-    | inr none ↦ none_ends none.ahead
+    | inr none ↦ no_stand none.ahead
   ]
     where
       by : (outcome : BatchOutcome)
-          → MatchResult outcome (λ answers. GivesAhead batches l.device l.record_len l fetches answers m) (λ fault. (m.kept ≡ l.kept) × (m.ahead ≡ [])) → Ends fetches (bodies_of m.ahead)
-      by (Err fault) g = none_ends g.1
-      by (Ok answers) g = all_end answers g
+          → MatchResult outcome (λ answers. GivesAhead batches l.device l.record_len l fetches answers m) (λ fault. BreaksAhead batches l.device l.record_len l fetches exchanges m)
+          → Stand fetches (bodies_of m.ahead)
+      by (Err fault) g = left_stand g.given g.leaves
+      by (Ok answers) g = elim g.either [ inl done ↦ first_stand done.2 done.4 done.5 | inr refused ↦ left_stand g.given refused.1 ]
 
 -- an event that changes no more than whether the outstanding message is lost
 
 module _ {B : Type 0} (d : Sizes) (s : State) (l : Round B) (a : IsAheadInTurn d s l) where
   with_lost : (lost : Bool) → IsAheadInTurn d (record s { lost = lost }) l
-  with_lost lost = record { asks = record { first = a.asks.first; later = a.asks.later }; before = a.before; next = a.next }
+  with_lost lost = record { asks = record { first = a.asks.first; later = a.asks.later }; before = a.before; behind = a.behind; next = a.next }
 
   lost_in_turn : (now : Status) → IsAheadInTurn d (lost_by s now).state l
   lost_in_turn Waiting = with_lost true
@@ -231,19 +262,19 @@ module _ {B K : Type 0} (batches : B → List (List ℕ) → BatchOutcome → Li
   abbrev Stays : Process B K → Type 0
   Stays q = IsAheadInTurn v.device q.core q.link ⊎ ((may_lie ≡ true) × HasFailed q.core)
 
-  same_core : (s t : State) (l m : Round B) → t ≡ s → AsksInTurn v.device s → Ends (next_bodies v.device s) (bodies_of m.ahead) → IsAheadInTurn v.device t m
-  same_core s t l m same asks ends =
-      subst (λ (u : State). IsAheadInTurn v.device u m) (sym same) (record { asks = asks; before = ends.0; next = ends.1 })
+  same_core : (s t : State) (l m : Round B) → t ≡ s → AsksInTurn v.device s → Stand (next_bodies v.device s) (bodies_of m.ahead) → IsAheadInTurn v.device t m
+  same_core s t l m same asks stand =
+      subst (λ (u : State). IsAheadInTurn v.device u m) (sym same) (record { asks = asks; before = stand.0; behind = stand.1; next = stand.2 })
 
   heard_in_turn : (s t : State) (l m : Round B) (message : List ℕ) (o : Outcome) (exchanges : List Exchange) (x : Shown) → status_in s ≡ Waiting → message ≡ s.message
       → RoundCall batches l message o exchanges m → Steps v s (event_of o) x t → IsAheadInTurn v.device s l → t.failure ≡ None → StepsInTurn v.device s x t → IsAheadInTurn v.device t m
   heard_in_turn s t l m message o exchanges x waits is call step a alive turn = elim (moved_by v s t o x (is_stall o) refl waits step alive turn) [
     | inl same ↦
-        let ends = end_stays batches v.device s l m message o exchanges waits is a.asks call (next_bodies v.device t) a.before (same ∙ a.next) in
-        record { asks = turn.asks a.asks; before = ends.0; next = ends.1 }
+        let stand = stand_still batches v.device s l m message o exchanges waits is a.asks call (next_bodies v.device t) a.before a.behind (same ∙ a.next) in
+        record { asks = turn.asks a.asks; before = stand.0; behind = stand.1; next = stand.2 }
     | inr first ↦
-        let ends = end_moves batches v.device s l m message o exchanges waits is a.asks call a.before (next_bodies v.device t) first.2 first.0 first.1 a.next first.3 in
-        record { asks = turn.asks a.asks; before = ends.0; next = ends.1 }
+        let stand = stand_moved batches v.device s l m message o exchanges waits is a.asks call a.before a.behind (next_bodies v.device t) first.2 first.0 first.1 a.next first.3 in
+        record { asks = turn.asks a.asks; before = stand.0; behind = stand.1; next = stand.2 }
   ]
 
   one_act : (act : Act) (p q : Process B K) (host after : Host) (array : ℕ → List ℕ) → p.link.device ≡ v.device → p.link.record_len ≡ record_len v → IsGoingOn may_lie v p host array
@@ -260,13 +291,13 @@ module _ {B K : Type 0} (batches : B → List (List ℕ) → BatchOutcome → Li
   one_act (Misses o exchanges) p q host after array dev len on a does run =
       let out = waits_by p.core (status_in p.core) does.0.0 refl does.0.1 in
       inl (same_core p.core q.core p.link q.link does.0.3 a.asks
-      (end_stays batches v.device p.core p.link q.link does.0.0 o exchanges out.0 out.1 a.asks does.0.2 (next_bodies v.device p.core) a.before a.next))
+      (stand_still batches v.device p.core p.link q.link does.0.0 o exchanges out.0 out.1 a.asks does.0.2 (next_bodies v.device p.core) a.before a.behind a.next))
   one_act (GoesAhead exchanges) p q host after array dev len on a does run =
-      inl (same_core p.core q.core p.link q.link does.0.1 a.asks (gone_ends batches p.link q.link (next_bodies v.device p.core) exchanges does.0.0))
+      inl (same_core p.core q.core p.link q.link does.0.1 a.asks (gone_stand batches p.link q.link (next_bodies v.device p.core) exchanges does.0.0))
   one_act (Keeps true) p q host after array dev len on a does run =
-      inl (same_core p.core q.core p.link q.link does.1 a.asks (none_ends batches p.link q.link (next_bodies v.device p.core) [] (ap (λ (l : Round B). l.ahead) does.2)))
+      inl (same_core p.core q.core p.link q.link does.1 a.asks (no_stand batches p.link q.link (next_bodies v.device p.core) [] (ap (λ (l : Round B). l.ahead) does.2)))
   one_act (Keeps false) p q host after array dev len on a does run =
-      inl (subst (λ (l : Round B). IsAheadInTurn v.device q.core l) (sym does.2) (same_core p.core q.core p.link p.link does.1 a.asks (a.before, a.next)))
+      inl (subst (λ (l : Round B). IsAheadInTurn v.device q.core l) (sym does.2) (same_core p.core q.core p.link p.link does.1 a.asks (a.before, a.behind, a.next)))
 
   all_acts : (acts : List Act) (p q : Process B K) (host after : Host) (array : ℕ → List ℕ) → p.link.device ≡ v.device → p.link.record_len ≡ record_len v → IsGoingOn may_lie v p host array
       → IsAheadInTurn v.device p.core p.link → DoesAll v batches reads_back p acts q → PlainRun may_lie v host (flat_map exchanges_of acts) after → Stays q
@@ -294,6 +325,7 @@ ahead_is_not_sent batches v s t l m o exchanges x asks none all talks =
 pub nothing_ahead_is_in_turn : (B : Type 0) → NothingAheadIsInTurn B
 nothing_ahead_is_in_turn B d overhead core l sound none = record {
   asks = (sound_cores_are_in_turn d overhead core sound).asks;
-  before = next_bodies d core;
-  next = sym (append-nil (next_bodies d core)) ∙ ap (λ (ahead : List Exchange). next_bodies d core ++ bodies_of ahead) (sym none);
+  before = [];
+  behind = next_bodies d core;
+  next = ap (λ (ahead : List Exchange). bodies_of ahead ++ next_bodies d core) (sym none);
 }

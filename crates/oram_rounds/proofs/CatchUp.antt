@@ -1,14 +1,15 @@
 -- A host that hears what waits, and one that has carried it out, catch up.
-use Rattle.std.proofs.Common.{◌≡◌, ◌⊎◌, ℕ, ◌+◌, ◌*◌, ◌^◌, ◌<◌, arith, Bool, true, false, List, [], ◌∷◌, ◌++◌, length, drop, Ok, Err, refl, sym, ap, ◌∙◌, subst, inl, inr}
+use Rattle.std.proofs.Common.{◌≡◌, ◌⊎◌, ℕ, ◌+◌, ◌*◌, ◌^◌, ◌<◌, arith, Bool, true, false, List, [], ◌∷◌, ◌++◌, length, drop, Option, Some, Ok, Err, refl, sym, ap, ◌∙◌, subst, inl, inr}
 use Rattle.std.specs.List.{AllByRecursion}
-use Rattle.oram_geometry.specs.Sizes.{depth_of}
+use Rattle.oram_geometry.specs.Sizes.{depth_of, trees_of}
 use Rattle.oram_trace.specs.declared.entries.Entry.{Entry}
 use Rattle.oram_wire.specs.HostMessages.{answer_body, done_answer}
 use Rattle.oram_wire.specs.HostBodies.{IsAnswer}
 use Rattle.oram_wire.specs.declared.host_messages.HostAnswer.{HostAnswer}
 use Rattle.oram_wire.specs.declared.host_messages.HostAnswer.TheVariants.{Done, Payload, Refused}
-use Rattle.oram_host.specs.Host.{Host}
+use Rattle.oram_host.specs.Host.{Host, Kept, record_of, tree_at}
 use Rattle.oram_host.specs.Service.{Serves}
+use Rattle.oram_tree.specs.Content.{node_count}
 use Rattle.oram_semantics.proofs.Bounds.{depth_small}
 use Rattle.oram_semantics.specs.Messages.{IsMessage}
 use Rattle.oram_semantics.specs.Moves.{records_after}
@@ -26,7 +27,7 @@ use Rattle.oram_rounds.specs.CatchUp.{CatchesUp, IsPlainCall, PlainRun, left_by}
 use Rattle.oram_rounds.specs.PathMessages.{ArePathStores, IsPathFetch, IsPathStore}
 use Rattle.oram_rounds.specs.Rounds.{AreDone}
 use Rattle.oram_rounds.proofs.KeptPaths.{leaf_small}
-use Rattle.oram_rounds.proofs.LeftRecords.{absorbed, left_append}
+use Rattle.oram_rounds.proofs.LeftRecords.{absorbed, left_append, left_same}
 
 -- what a host that keeps these records does with a STORE or a FETCH of a path
 
@@ -177,3 +178,33 @@ put_catches v stores body host later s c =
     let ahead : KeepsAll v (left_by v c.records (stores ++ body ∷ [])) next =
     subst (λ (q : ℕ → ℕ → List ℕ). KeepsAll v q next) (sym (left_append v stores (body ∷ []) c.records)) keeps in
     (next, record { records = c.records; keeps = c.keeps; paths = paths_more v stores body c.paths s; ahead = ahead }, takes)
+
+-- two lists of records that one host keeps are the same at each node
+
+kept_once : {A : Type 0} (x y : A) (o : Option A) → o ≡ Some x → o ≡ Some y → x ≡ y
+kept_once x y o first second = let both : Some x ≡ Some y = sym first ∙ second in cc
+
+same_kept : (v : Scheme) (r q : ℕ → ℕ → List ℕ) (host : Host) → KeepsAll v r host → KeepsAll v q host → (i n : ℕ) → i < trees_of v.device → n < node_count (depth_of v.device i) → r i n ≡ q i n
+same_kept v r q host first second i n tree node =
+    let one = first i tree in
+    let two = second i tree in
+    let same : one.kept ≡ two.kept = kept_once one.kept two.kept (tree_at host i) one.there two.there in
+    kept_once (r i n) (q i n) (record_of one.kept n) (one.each n node) (subst (λ (k : Kept). record_of k n ≡ Some (q i n)) (sym same) (two.each n node))
+
+-- One host catches up by some STOREs to a second one, and by these and others to a third one. Then the second one catches up by the others to
+-- the third one.
+pub catches_apart : (v : Scheme) (kept held : List (List ℕ)) (host reached later : Host) → CatchesUp v host (kept ++ held) later → CatchesUp v host kept reached → CatchesUp v reached held later
+catches_apart v kept held host reached later c first = record {
+  records = left_by v c.records kept;
+  keeps = λ i tree.
+      let t = first.ahead i tree in
+      record {
+        kept = t.kept;
+        there = t.there;
+        depth = t.depth;
+        record_len = t.record_len;
+        each = λ n node. t.each n node ∙ ap Some (left_same v kept first.records c.records i n (same_kept v first.records c.records host first.keeps c.keeps i n tree node));
+      };
+  paths = (paths_split v kept held c.paths).1;
+  ahead = subst (λ (q : ℕ → ℕ → List ℕ). KeepsAll v q later) (left_append v kept held c.records) c.ahead;
+}

@@ -1,5 +1,5 @@
 -- A STORE of ones waits, and the server keeps zeros.
-use Rattle.std.proofs.Common.{◌≡◌, ℕ, ◌+◌, ◌*◌, ◌^◌, ◌<◌, arith, Bool, true, false, ◌==◌, ◌&&◌, Some, List, [], ◌∷◌, length, replicate, Ok, refl, sym, ap, ◌∙◌, subst, inl, inr}
+use Rattle.std.proofs.Common.{◌≡◌, ℕ, ◌+◌, ◌*◌, ◌^◌, ◌<◌, arith, Bool, true, false, ◌==◌, ◌&&◌, Some, List, [], ◌∷◌, length, replicate, Ok, refl, sym, ap, ◌∙◌, subst, inl, inr, Err}
 use Rattle.std.specs.Prelude.{MatchBool}
 use Rattle.oram_geometry.specs.Path.{node_on}
 use Rattle.oram_geometry.specs.Sizes.{depth_of, trees_of}
@@ -16,10 +16,11 @@ use Rattle.oram_semantics.specs.Scheme.{record_len}
 use Rattle.oram_host_laws.specs.Honest.{Takes}
 use Rattle.oram_session.specs.Links.{ToServer}
 use Rattle.oram_tree.specs.Content.{node_count}
+use Rattle.oram_session.specs.declared.link.LinkFault.TheVariants.{Closed}
 use Rattle.oram_link_laws.specs.Examples.{new_host, new_server, one_block}
 use Rattle.oram_link_laws.proofs.Device.{eighty_eight, no_depth, one_tree, session_example}
 use Rattle.oram_link_laws.specs.Overlay.{IsLaidOver}
-use Rattle.oram_rounds.specs.Examples.{DirectBatches, OneWaitsExample, one_ahead, one_kept, one_waits, ones_ahead, stored_behind, zeros_fetched}
+use Rattle.oram_rounds.specs.Examples.{DirectBatches, OneWaitsExample, one_ahead, one_kept, one_waits, ones_ahead, ones_unsettled, stored_behind, zeros_fetched}
 use Rattle.oram_rounds.specs.Rounds.{RoundCall, WentAhead}
 use Rattle.oram_rounds.specs.CatchUp.{CatchesUp, left_by}
 use Rattle.oram_rounds.specs.Law.{AreAhead, IsStocked}
@@ -169,12 +170,12 @@ went = record {
     paths = (fetches, tt);
     outcome = Ok (payload_answer zeros ∷ []);
     batch = ((new_server, record { answer = (Payload zeros, gives, omega arith, refl); faults = refl }, refl), (refl, [], tt, refl));
-    gives = record { given = payload_answer zeros ∷ []; acks = []; all = refl; count = refl; either = inl (tt, refl, payload_answer zeros ∷ [], ((fetches, unlaid 88 (holds_path one_block.device 88 0 0 (payload_answer zeros)) zeros), (refl, refl)), refl) };
+    gives = record { given = payload_answer zeros ∷ []; acks = []; all = refl; count = refl; either = inl (tt, refl, payload_answer zeros ∷ [], ((fetches, unlaid 88 (holds_path one_block.device 88 0 0 (payload_answer zeros)) zeros), (refl, refl)), 1, refl) };
   });
 }
 
 are_ahead : (may_lie : Bool) → AreAhead may_lie one_block new_host one_ahead
-are_ahead may_lie = record { each = ((fetches, (new_host, inl (Payload zeros, omega arith, refl, gives))), tt); alone = inr refl }
+are_ahead may_lie = inr (new_host, now_caught, ((fetches, (new_host, inl (Payload zeros, omega arith, refl, gives))), tt))
 
 taken : RoundCall DirectBatches one_ahead (fetch_body 0 0) (Ok (payload_answer ones)) [] one_waits
 taken = record {
@@ -221,7 +222,30 @@ went_over = record {
       acks = done_answer ∷ [];
       all = refl;
       count = refl;
-      either = inl ((refl, tt), refl, payload_answer ones ∷ [], ((fetches, overlaid), (refl, refl)), refl);
+      either = inl ((refl, tt), refl, payload_answer ones ∷ [], ((fetches, overlaid), (refl, refl)), 1, refl);
+    };
+  });
+}
+
+-- the FETCH has its answer, and then the connection breaks
+
+went_broken : WentAhead DirectBatches one_kept (fetch_body 0 0 ∷ []) zeros_fetched ones_unsettled
+went_broken = record {
+  device = refl;
+  record_len = refl;
+  held = refl;
+  does = inl (record {
+    some = λ none. absurd (let both : fetch_body 0 0 ∷ [] ≡ [] = none in cc);
+    paths = (fetches, tt);
+    outcome = Err Closed;
+    batch = ((new_server, record { answer = (Payload zeros, gives, omega arith, refl); faults = refl }, refl), (inl refl, tt));
+    gives = record {
+      given = payload_answer zeros ∷ [];
+      acks = [];
+      few = omega arith;
+      breaks = ([], [], tt, tt, refl);
+      in_turn = inl refl;
+      leaves = record { kept = refl; either = inr (refl, payload_answer ones ∷ [], ((fetches, overlaid), (refl, refl)), 1, refl) };
     };
   });
 }
@@ -233,7 +257,8 @@ one_waits_example = (
   call,
   λ may_lie. (new_host, inl (Payload zeros, omega arith, refl, gives), refl),
   went,
-  λ may_lie. (record { each = tt; alone = inl refl }, are_ahead may_lie),
+  λ may_lie. (inl refl, are_ahead may_lie),
   taken,
   (stored_server, went_over, λ may_lie. (new_host, inl (Payload zeros, omega arith, refl, gives), (put.0, inl (Done, tt, refl, put.2), refl))),
+  went_broken,
 )

@@ -9,7 +9,7 @@ use Rattle.oram_rounds.specs.CatchUp.{left_by}
 
 module _ (v : Scheme) where
   -- what is left at a node depends only on what was there
-  left_same : (stores : List (List ℕ)) (r q : ℕ → ℕ → List ℕ) (i n : ℕ) → r i n ≡ q i n → left_by v r stores i n ≡ left_by v q stores i n
+  pub left_same : (stores : List (List ℕ)) (r q : ℕ → ℕ → List ℕ) (i n : ℕ) → r i n ≡ q i n → left_by v r stores i n ≡ left_by v q stores i n
   left_same [] r q i n same = same
   left_same (body ∷ stores) r q i n same =
       left_same stores (records_after v r (body ∷ [])) (records_after v q (body ∷ [])) i n (ap (λ (x : List ℕ). unwrap_or (written v body i n) x) same)

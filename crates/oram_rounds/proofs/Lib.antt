@@ -10,7 +10,11 @@ pub mod Calls
 pub mod Round
 pub mod LaidRecords
 pub mod Tries
+pub mod NextAnswers
 pub mod GoneAhead
+pub mod Arriving
+pub mod Meanwhile
+pub mod Begun
 pub mod SentBodies
 pub mod Turned
 pub mod Example

@@ -14,7 +14,7 @@ new_process_example =
       session_example.0,
       held,
       λ may_lie. held_is_safe ToServer is_new_file may_lie one_block new_server new_core tt new_host zero_array held (λ bytes back. back),
-      λ may_lie. (new_host, on.0, on.1, record { each = tt; alone = inl refl }),
+      λ may_lie. (new_host, on.0, on.1, inl refl),
       (new_process, (λ bytes back. back, refl, refl, inl refl), refl),
       λ may_lie. refl,
     )

@@ -122,7 +122,7 @@ went =
         paths = (path, tt);
         outcome = Ok (answer ∷ []);
         batch = (ran, (refl, [], tt, refl));
-        gives = record { given = answer ∷ []; acks = []; all = refl; count = refl; either = inl (tt, refl, answer ∷ [], ((path, unchanged), (refl, refl)), refl) };
+        gives = record { given = answer ∷ []; acks = []; all = refl; count = refl; either = inl (tt, refl, answer ∷ [], ((path, unchanged), (refl, refl)), 1, refl) };
       });
     })
 
@@ -174,7 +174,7 @@ reading_process_example = (
   (reading_core, (refl, ap (λ (n : ℕ). replicate (2 * n) 0) (sym one_tree), accepts), refl),
   (process_with reading_core new_core, (accepts, refl, refl), refl),
   λ may_lie. held_is_safe ToServer reads_kept may_lie one_block new_server new_core ([], new_core) new_host zero_array session_example.1 (λ bytes back. back),
-  λ may_lie. (new_host, caught, served, record { each = tt; alone = inl refl }),
+  λ may_lie. (new_host, caught, served, inl refl),
   sound,
   nothing_ahead_is_in_turn ToServer one_block.device 0 reading_core (process_with reading_core new_core).link sound refl,
   acts_done,

@@ -1,5 +1,5 @@
 -- Each call of a link that holds STOREs back is one of the host as it will be.
-use Rattle.std.proofs.Common.{◌≡◌, ◌≢◌, ℕ, arith, Bool, true, false, if◌then◌else◌, ◌==◌, ◌&&◌, List, [], ◌∷◌, ◌++◌, length, slice_index, Ok, Err, refl, sym, ap, ◌∙◌, subst, inl, inr, append_assoc}
+use Rattle.std.proofs.Common.{◌≡◌, ◌≢◌, ℕ, arith, Bool, true, false, if◌then◌else◌, ◌==◌, ◌&&◌, List, [], ◌∷◌, ◌++◌, length, slice_index, Ok, Err, refl, sym, ap, ◌∙◌, subst, inl, inr, append-nil, append_assoc}
 use Rattle.std.specs.Prelude.{MatchResult}
 use Rattle.std.specs.List.{AllByRecursion}
 use Rattle.std.proofs.lemmas.Bool.Decides.{nat_tests}
@@ -25,12 +25,12 @@ use Rattle.oram_rounds.specs.CatchUp.{CatchesUp, IsPlainCall, IsPlainLie, PlainR
 use Rattle.oram_rounds.specs.Law.{AreAhead, AreBatches, CallsAreOfTheHostLater, IsFetchNow, IsStocked}
 use Rattle.oram_rounds.specs.PathMessages.{IsPathFetch, IsPathStore}
 use Rattle.oram_rounds.specs.Overlay.{IsOverlaid, holds_path}
-use Rattle.oram_rounds.specs.Rounds.{Declines, Does, Fetches, Gives, HoldsBack, Round, TakesAhead, is_refusal_body, refused_with, waiting}
+use Rattle.oram_rounds.specs.Rounds.{AreDone, Declines, Does, Fetches, Gives, HoldsBack, Round, TakesAhead, is_refusal_body, refused_with, waiting}
 use Rattle.oram_rounds.proofs.Calls.{honest_later, lie_later, pathless_lie, refuses_later}
 use Rattle.oram_rounds.proofs.KeptPaths.{leaf_small}
-use Rattle.oram_rounds.proofs.Sent.{all_among, batch_among}
-use Rattle.oram_rounds.proofs.Unchanged.{ahead_on, run_same}
-use Rattle.oram_rounds.proofs.CatchUp.{IsWaitingOrFetch, acked_catches, heard_catches, hears, path_among, put_catches, run_catches}
+use Rattle.oram_rounds.proofs.Sent.{batch_among}
+use Rattle.oram_rounds.proofs.Unchanged.{ahead_on}
+use Rattle.oram_rounds.proofs.CatchUp.{IsWaitingOrFetch, acked_catches, catches_apart, heard_catches, hears, path_among, put_catches, run_catches}
 
 second_true : (a b : Bool) → (a && b) ≡ true → b ≡ true
 second_true true b e = e
@@ -178,7 +178,7 @@ module _ {B : Type 0} (batches : B → List (List ℕ) → BatchOutcome → List
             subst (λ (r : List ℕ). IsHeardCall may_lie v later body (Ok (refused_with r)) later) (sym full)
             (inl (Refused 8, (omega arith, omega arith), refl, refuses_later v host later (waiting l) c body f))
 
-  module _ (f : IsPathFetch v.device body) (stocked : IsStocked v later) (answers : List (List ℕ)) (gives : Gives batches v.device (record_len v) l f answers o m) (held : m.held ≡ l.held) (count : length answers ≡ length (l.kept ++ body ∷ [])) (tries : List Exchange) (among : AreAmong (bodies_of tries) (l.kept ++ body ∷ [])) (split : exchanges ≡ tries ++ answered (l.kept ++ body ∷ []) answers) where
+  module _ (f : IsPathFetch v.device body) (answers : List (List ℕ)) (gives : Gives batches v.device (record_len v) l f answers o m) (count : length answers ≡ length (l.kept ++ body ∷ [])) (tries : List Exchange) (among : AreAmong (bodies_of tries) (l.kept ++ body ∷ [])) (split : exchanges ≡ tries ++ answered (l.kept ++ body ∷ []) answers) where
     few : length gives.acks ≡ length l.kept
     few = count_acks l.kept gives.acks body gives.answer (sym (ap length gives.all) ∙ count)
 
@@ -191,8 +191,8 @@ module _ {B : Type 0} (batches : B → List (List ℕ) → BatchOutcome → List
     abbrev Call : Host → Exchange → Host → Type 0
     Call h e g = IsPlainCall may_lie v h e.0 e.1 g
 
-    answered_fetch : Becomes
-    answered_fetch =
+    answered_fetch : IsStocked v later → m.held ≡ l.held → Becomes
+    answered_fetch stocked held =
         let first = folds_split {P = Host} {A = Exchange} Call host after tries (answered l.kept gives.acks ++ (body, Ok gives.answer) ∷ []) ran in
         let second = folds_split {P = Host} {A = Exchange} Call first.0 after (answered l.kept gives.acks) ((body, Ok gives.answer) ∷ []) first.2 in
         let tried = run_catches v (waiting l) later may_lie tries host first.0 (each_sent v l.kept l.held body f (bodies_of tries) among) first.1 c in
@@ -218,31 +218,73 @@ module _ {B : Type 0} (batches : B → List (List ℕ) → BatchOutcome → List
               )
         ]
 
+    -- the STOREs that were kept are carried out
+    answered_caught : (reached : Host) → CatchesUp v host l.kept reached → AreDone gives.acks → m.kept ≡ [] → CatchesUp v after m.kept reached
+    answered_caught reached caught done none =
+        let first = folds_split {P = Host} {A = Exchange} Call host after tries (answered l.kept gives.acks ++ (body, Ok gives.answer) ∷ []) ran in
+        let second = folds_split {P = Host} {A = Exchange} Call first.0 after (answered l.kept gives.acks) ((body, Ok gives.answer) ∷ []) first.2 in
+        let last : HeardOrNot body second.0 after =
+        subst (λ (g : Host). HeardOrNot body second.0 g) second.2.2 (hears may_lie v second.0 second.2.0 body (Ok gives.answer) second.2.1) in
+        let start : CatchesUp v host (l.kept ++ []) reached = subst (λ (x : List (List ℕ)). CatchesUp v host x reached) (sym (append-nil l.kept)) caught in
+        let tried = run_catches v (l.kept ++ []) reached may_lie tries host first.0 (each_sent v l.kept [] body f (bodies_of tries) among) first.1 start in
+        let acked = acked_catches may_lie v l.kept [] gives.acks first.0 second.0 reached few done second.1 tried in
+        subst (λ (k : List (List ℕ)). CatchesUp v after k reached) (sym none) (heard_catches v [] reached second.0 after body (inr f) last acked)
+
   fetched : (IsPathFetch v.device body → IsStocked v later) → Fetches batches v.device (record_len v) l body o exchanges m → Becomes
   fetched stocked h = by h.outcome (are l.inner m.inner (l.kept ++ body ∷ []) h.outcome exchanges h.batch) h.gives
     where
       by : (outcome : BatchOutcome) → IsBatch (l.kept ++ body ∷ []) outcome exchanges
           → MatchResult outcome (λ answers. Gives batches v.device (record_len v) l h.path answers o m) (λ fault. (o ≡ Err fault) × (m.kept ≡ l.kept)) → Becomes
       by (Err fault) among g = unanswered h.path (stocked h.path) fault among g.0 g.1 h.held
-      by (Ok answers) batch g = answered_fetch h.path (stocked h.path) answers g h.held batch.0 batch.1 batch.2 batch.3
+      by (Ok answers) batch g = answered_fetch h.path answers g batch.0 batch.1 batch.2 batch.3 (stocked h.path) h.held
+
+  -- what the host has carried out of the STOREs that are kept, after a call
+
+  stays_caught : m.kept ≡ l.kept → exchanges ≡ [] → (reached : Host) → CatchesUp v host l.kept reached → CatchesUp v after m.kept reached
+  stays_caught kept none reached caught =
+      subst (λ (g : Host). CatchesUp v g m.kept reached) (sym (unsent none)) (subst (λ (k : List (List ℕ)). CatchesUp v host k reached) (sym kept) caught)
+
+  -- STOREs that are kept, and no others
+  alone : (k : List (List ℕ)) (g reached : Host) → CatchesUp v g k reached → CatchesUp v g (k ++ []) reached
+  alone k g reached caught = subst (λ (x : List (List ℕ)). CatchesUp v g x reached) (sym (append-nil k)) caught
+
+  module _ (f : IsPathFetch v.device body) (reached : Host) (caught : CatchesUp v host l.kept reached) where
+    tried_caught : (tries : List Exchange) (mid : Host) → AreAmong (bodies_of tries) (l.kept ++ body ∷ []) → PlainRun may_lie v host tries mid → CatchesUp v mid (l.kept ++ []) reached
+    tried_caught tries mid among ran = run_catches v (l.kept ++ []) reached may_lie tries host mid (each_sent v l.kept [] body f (bodies_of tries) among) ran (alone l.kept host reached caught)
+
+    all_caught : AreAmong (bodies_of exchanges) (l.kept ++ body ∷ []) → m.kept ≡ l.kept → CatchesUp v after m.kept reached
+    all_caught among kept = subst (λ (k : List (List ℕ)). CatchesUp v after k reached) (append-nil l.kept ∙ sym kept) (tried_caught exchanges after among run)
+
+  fetched_caught : Fetches batches v.device (record_len v) l body o exchanges m → (reached : Host) → CatchesUp v host l.kept reached → CatchesUp v after m.kept reached
+  fetched_caught h reached caught = by h.outcome (are l.inner m.inner (l.kept ++ body ∷ []) h.outcome exchanges h.batch) h.path h.gives
+    where
+      by : (outcome : BatchOutcome) → IsBatch (l.kept ++ body ∷ []) outcome exchanges → (path : IsPathFetch v.device body)
+          → MatchResult outcome (λ answers. Gives batches v.device (record_len v) l path answers o m) (λ fault. (o ≡ Err fault) × (m.kept ≡ l.kept)) → CatchesUp v after m.kept reached
+      by (Err fault) among path g = all_caught path reached caught among g.1
+      by (Ok answers) batch path g = elim g.either [
+        | inl done ↦ answered_caught path answers g batch.0 batch.1 batch.2 batch.3 reached caught done.0 done.1
+        | inr refused ↦ all_caught path reached caught (batch_among (l.kept ++ body ∷ []) (Ok answers) exchanges batch) refused.0
+      ]
 
   module _ (a : AreAhead may_lie v host l) where
-    -- the answer that is taken is the one that the host gives now, and no STORE is kept
+    -- the answer that is taken is the one that the host gives once it has carried out the STOREs that are kept
 
-    unkept : TakesAhead batches v.device (record_len v) l body o exchanges m → l.kept ≡ []
-    unkept t = elim a.alone [ inl none ↦ absurd (let both : [] ≡ (body, Ok t.answer) ∷ m.ahead = sym none ∙ t.next in cc) | inr none ↦ none ]
-
-    each_now : (t : TakesAhead batches v.device (record_len v) l body o exchanges m) → AllByRecursion (IsFetchNow may_lie v host) ((body, Ok t.answer) ∷ m.ahead)
-    each_now t = subst (AllByRecursion (IsFetchNow may_lie v host)) t.next a.each
+    some_ahead : (t : TakesAhead batches v.device (record_len v) l body o exchanges m)
+        → (reached : Host) × CatchesUp v host l.kept reached × AllByRecursion (IsFetchNow may_lie v reached) ((body, Ok t.answer) ∷ m.ahead)
+    some_ahead t = elim a [
+      | inl none ↦ absurd (let both : [] ≡ (body, Ok t.answer) ∷ m.ahead = sym none ∙ t.next in cc)
+      | inr some ↦ (some.0, some.1, subst (AllByRecursion (IsFetchNow may_lie v some.0)) t.next some.2)
+    ]
 
     taken_ahead : (IsPathFetch v.device body → IsStocked v later) → TakesAhead batches v.device (record_len v) l body o exchanges m → Becomes
     taken_ahead stocked t =
-        let now : IsFetchNow may_lie v host (body, Ok t.answer) = (each_now t).0 in
-        let caught : CatchesUp v host l.held later = subst (λ (k : List (List ℕ)). CatchesUp v host (k ++ l.held) later) (unkept t) c in (
+        let some = some_ahead t in
+        let now : IsFetchNow may_lie v some.0 (body, Ok t.answer) = some.2.0 in
+        let caught : CatchesUp v some.0 l.held later = catches_apart v l.kept l.held host some.0 later c some.1 in (
           later,
           subst (λ (g : Host). CatchesUp v g (waiting m) later) (sym (unsent t.none)) (subst (λ (k : List (List ℕ)). CatchesUp v host k later) (sym (same_waiting t.kept t.held)) c),
           subst (λ (x : Outcome). IsHeardCall may_lie v later body x later) (sym t.reported)
-              (given_to t.path (stocked t.path) host caught t.answer t.given now.1.0 now.1.1 t.over),
+              (given_to t.path (stocked t.path) some.0 caught t.answer t.given now.1.0 now.1.1 t.over),
         )
 
     becomes : (IsPathFetch v.device body → IsStocked v later) → Does batches v.device (record_len v) l body o exchanges m → Becomes
@@ -251,31 +293,11 @@ module _ {B : Type 0} (batches : B → List (List ℕ) → BatchOutcome → List
     becomes stocked (inr (inr (inl d))) = declined d
     becomes stocked (inr (inr (inr t))) = taken_ahead stocked t
 
-    -- if no STORE is kept, a FETCH leaves the host as it is
-
-    still_unkept : Fetches batches v.device (record_len v) l body o exchanges m → l.kept ≡ [] → m.kept ≡ []
-    still_unkept h none = by h.outcome h.path h.gives
-      where
-        by : (outcome : BatchOutcome) (path : IsPathFetch v.device body)
-            → MatchResult outcome (λ answers. Gives batches v.device (record_len v) l path answers o m) (λ fault. (o ≡ Err fault) × (m.kept ≡ l.kept)) → m.kept ≡ []
-        by (Err fault) path g = g.1 ∙ none
-        by (Ok answers) path g = elim g.either [ inl done ↦ done.1 | inr refused ↦ refused.0 ∙ none ]
-
-    still : Fetches batches v.device (record_len v) l body o exchanges m → l.kept ≡ [] → after ≡ host
-    still h none =
-        let among : AreAmong (bodies_of exchanges) (l.kept ++ body ∷ []) =
-        batch_among (l.kept ++ body ∷ []) h.outcome exchanges (are l.inner m.inner (l.kept ++ body ∷ []) h.outcome exchanges h.batch) in
-        let one : AreAmong (bodies_of exchanges) (body ∷ []) = subst (λ (k : List (List ℕ)). AreAmong (bodies_of exchanges) (k ++ body ∷ [])) none among in
-        run_same may_lie v exchanges host after (all_among (IsPathFetch v.device) (body ∷ []) (bodies_of exchanges) (h.path, tt) one) run
-
     ahead_after : Does batches v.device (record_len v) l body o exchanges m → AreAhead may_lie v after m
-    ahead_after (inl h) = ahead_on may_lie v l m host after h.ahead (λ none. (h.kept ∙ none, unsent h.none)) a
-    ahead_after (inr (inl h)) = ahead_on may_lie v l m host after h.ahead (λ none. (still_unkept h none, still h none)) a
-    ahead_after (inr (inr (inl d))) = ahead_on may_lie v l m host after d.ahead (λ none. (d.kept ∙ none, unsent d.none)) a
-    ahead_after (inr (inr (inr t))) = record {
-      each = subst (λ (h : Host). AllByRecursion (IsFetchNow may_lie v h) m.ahead) (sym (unsent t.none)) (each_now t).1;
-      alone = inr (t.kept ∙ unkept t);
-    }
+    ahead_after (inl h) = ahead_on may_lie v l m host after h.ahead (stays_caught h.kept h.none) a
+    ahead_after (inr (inl h)) = ahead_on may_lie v l m host after h.ahead (fetched_caught h) a
+    ahead_after (inr (inr (inl d))) = ahead_on may_lie v l m host after d.ahead (stays_caught d.kept d.none) a
+    ahead_after (inr (inr (inr t))) = let some = some_ahead t in inr (some.0, stays_caught t.kept t.none some.0 some.1, some.2.1)
 
     abbrev pub AllOf : Type 0
     AllOf = (next : Host) × CatchesUp v after (waiting m) next × IsHeardCall may_lie v later body o next × AreAhead may_lie v after m

@@ -411,5 +411,5 @@ begun_is_safe B {K} reads_back may_lie v inner stores core keeper bytes host bef
             covers = λ b among. subst (IsAmong b) (sym stores_are) among;
             holds = inl will;
           };
-          ahead = record { each = tt; alone = inl refl };
+          ahead = inl refl;
         }

@@ -1,18 +1,22 @@
 -- What a FETCH of a link that holds STOREs back does, by what the batch gave.
-use Rattle.std.proofs.Common.{◌≡◌, ◌≢◌, ◌⊎◌, ℕ, ◌+◌, true, List, [], ◌∷◌, ◌++◌, length, Result, Ok, Err, refl, sym, ap, ◌∙◌, subst, inl, inr}
+use Rattle.std.proofs.Common.{◌≡◌, ◌≢◌, ◌⊎◌, ℕ, arith, ◌+◌, Bool, false, true, List, [], ◌∷◌, ◌++◌, length, Result, Ok, Err, refl, sym, ap, ◌∙◌, subst, inl, inr, append-nil}
 use Rattle.oram_wire.specs.HostMessages.{done_answer}
 use Rattle.std.specs.Global.{Vec}
 use Rattle.std.specs.Prelude.{MatchResult, is_err, min}
 use Rattle.std.specs.List.{AllByRecursion}
+use Rattle.std.proofs.Math.Seq.{take-length}
 use Rattle.oram_session.specs.Outcome.{Outcome, outcome_of}
 use Rattle.oram_session.specs.declared.link.LinkFault.{LinkFault}
 use Rattle.oram_session.specs.declared.link.LinkFault.TheVariants.{Closed, OutOfMemory}
-use Rattle.oram_link_laws.specs.Repair.{IsAmong}
-use Rattle.oram_link_laws.specs.Runs.{Exchange}
-use Rattle.oram_rounds.specs.Batches.{BatchOutcome, answered}
+use Rattle.oram_link_laws.specs.Repair.{AreAmong, IsAmong}
+use Rattle.oram_link_laws.specs.Runs.{Exchange, bodies_of}
+use Rattle.oram_rounds.specs.Batches.{BatchOutcome, BreaksOff, answered}
+use Rattle.oram_rounds.specs.Law.{AreBatches}
+use Rattle.oram_rounds.specs.Streams.{BeginsBatch}
 use Rattle.oram_rounds.specs.Overlay.{AreOverlaid, IsOverlaid}
 use Rattle.oram_rounds.specs.PathMessages.{IsPathFetch, IsPathStore}
 use Rattle.oram_rounds.specs.Rounds.{AreDone, Does, Fetches, Gives, IsCounted, IsFirstAhead, Round, WentAhead, refused_with}
+use Rattle.oram_rounds.proofs.NextAnswers.{answered_none}
 
 -- of a link before (i, which is l) and after
 module _ {B : Type 0} (batches : B → List (List ℕ) → BatchOutcome → List Exchange → B → Type 0) (i l m : Round B) (is : i ≡ l) (body : List ℕ) (f : IsPathFetch l.device body) (apart : ¬ IsFirstAhead l.ahead body) (exchanges : List Exchange) where
@@ -113,7 +117,7 @@ module _ {B : Type 0} (batches : B → List (List ℕ) → BatchOutcome → List
     device = refl;
     record_len = refl;
     held = refl;
-    does = inl (record { some = some; paths = paths; outcome = Ok answers; batch = batch; gives = record { given = given; acks = acks; all = all; count = count; either = inr (refused, refl, none) } });
+    does = inl (record { some = some; paths = paths; outcome = Ok answers; batch = batch; gives = record { given = given; acks = acks; all = all; count = count; either = inr (refused, record { kept = refl; either = inl none }) } });
   })
 
   -- each was
@@ -125,20 +129,53 @@ module _ {B : Type 0} (batches : B → List (List ℕ) → BatchOutcome → List
         device = refl;
         record_len = refl;
         held = refl;
-        does = inl (record { some = some; paths = paths; outcome = Ok answers; batch = batch; gives = record { given = given; acks = acks; all = all; count = count; either = inl (done, refl, laid, over, refl) } });
+        does = inl (record { some = some; paths = paths; outcome = Ok answers; batch = batch; gives = record { given = given; acks = acks; all = all; count = count; either = inl (done, refl, laid, over, length (answered fetches laid), sym (take-length (answered fetches laid))) } });
       }))
 
+-- a batch that broke off before any answer came
+pub none_came : (bodies : List (List ℕ)) (exchanges : List Exchange) → AreAmong (bodies_of exchanges) bodies → BreaksOff bodies [] exchanges
+none_came bodies exchanges among = (
+  exchanges,
+  [],
+  among,
+  tt,
+  sym (append-nil (exchanges ++ answered bodies []) ∙ ap (λ (es : List Exchange). exchanges ++ es) (answered_none bodies) ∙ append-nil exchanges),
+)
+
 -- the batch had no answers
-pub goes_lost : {B : Type 0} (batches : B → List (List ℕ) → BatchOutcome → List Exchange → B → Type 0) (i l : Round B) (is : i ≡ l) (fetches : List (List ℕ)) (inner : B) (exchanges : List Exchange)
+pub goes_lost : {B : Type 0} (batches : B → List (List ℕ) → BatchOutcome → List Exchange → B → Type 0) → AreBatches batches → (i l : Round B) (is : i ≡ l) (fetches : List (List ℕ)) (inner : B) (exchanges : List Exchange)
     (fault : LinkFault) → fetches ≢ [] → AllByRecursion (IsPathFetch i.device) fetches → batches i.inner (fetches ++ i.kept) (Err fault) exchanges inner → (nothing : List Exchange) → nothing ≡ []
     → WentAhead batches l fetches exchanges (record i { inner = inner; ahead = nothing })
-goes_lost {B} batches i l is fetches inner exchanges fault some paths batch nothing none =
+goes_lost {B} batches are i l is fetches inner exchanges fault some paths batch nothing none =
     subst (λ (r : Round B). WentAhead batches r fetches exchanges (record i { inner = inner; ahead = nothing })) is (record {
       device = refl;
       record_len = refl;
       held = refl;
-      does = inl (record { some = some; paths = paths; outcome = Err fault; batch = batch; gives = (refl, none) });
+      does = inl (record {
+        some = some;
+        paths = paths;
+        outcome = Err fault;
+        batch = batch;
+        gives = record {
+          given = [];
+          acks = [];
+          few = omega arith;
+          breaks = none_came (fetches ++ i.kept) exchanges (are i.inner inner (fetches ++ i.kept) (Err fault) exchanges batch);
+          in_turn = inr refl;
+          leaves = record { kept = refl; either = inl none };
+        };
+      });
     })
+
+-- no batch was begun: nothing has happened, or the batch had no answers
+pub not_begun : {B : Type 0} (batches : B → List (List ℕ) → BatchOutcome → List Exchange → B → Type 0) (streams : B → List (List ℕ) → List (List ℕ) → B → Type 0) → AreBatches batches → (i l : Round B) (is : i ≡ l)
+    (fetches : List (List ℕ)) (inner : B) → fetches ≢ [] → AllByRecursion (IsPathFetch i.device) fetches → l.ahead ≡ [] → (begun : Bool) → BeginsBatch batches streams i.inner (fetches ++ i.kept) begun inner → ¬ (begun ≡ true)
+    → (let m : Round B = record i { inner = inner } in (m ≡ l) ⊎ ((exchanges : List Exchange) × WentAhead batches l fetches exchanges m))
+not_begun batches streams are i l is fetches inner some paths none true begins apart = absurd (apart refl)
+not_begun {B} batches streams are i l is fetches inner some paths none false begins apart = elim begins [
+  | inl same ↦ inl (ap (λ (b : B). let r : Round B = record i { inner = b } in r) same ∙ is)
+  | inr lost ↦ inr (lost.1, goes_lost batches are i l is fetches inner lost.1 lost.0 some paths lost.2 i.ahead (ap (λ (r : Round B). r.ahead) is ∙ none))
+]
 
 -- a FETCH that went ahead is answered from there
 pub taken_does : {B : Type 0} (batches : B → List (List ℕ) → BatchOutcome → List Exchange → B → Type 0) (l m : Round B) (body answer given : List ℕ) (f : IsPathFetch l.device body)

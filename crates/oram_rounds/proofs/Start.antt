@@ -151,5 +151,5 @@ held_is_safe B {K} reads_back may_lie v inner core keeper host array held files 
       record_len_is = refl;
       live = will;
       kept = λ bytes back. record { stores = []; core = core; file = files bytes back; covers = λ b among. among; holds = inl will };
-      ahead = record { each = tt; alone = inl refl };
+      ahead = inl refl;
     }

@@ -10,7 +10,7 @@ use Rattle.oram_host.specs.Service.{Serves}
 use Rattle.oram_semantics.specs.Scheme.{Scheme}
 use Rattle.oram_session.specs.Outcome.{Outcome}
 use Rattle.oram_link_laws.specs.Runs.{Exchange, bodies_of}
-use Rattle.oram_rounds.specs.CatchUp.{IsPlainCall, PlainRun}
+use Rattle.oram_rounds.specs.CatchUp.{CatchesUp, IsPlainCall, PlainRun}
 use Rattle.oram_rounds.specs.Law.{AreAhead, IsFetchNow}
 use Rattle.oram_rounds.specs.PathMessages.{IsPathFetch}
 use Rattle.oram_rounds.specs.Rounds.{Round}
@@ -37,17 +37,10 @@ module _ (may_lie : Bool) (v : Scheme) where
   run_same (e ∷ exchanges) host after are run = run_same exchanges run.0 after are.1 run.2 ∙ fetch_same host run.0 e.0 e.1 are.0 run.1
 
   module _ {B : Type 0} (l m : Round B) (host after : Host) where
-    -- while the host stays as it is, unless nothing is ahead
-    pub ahead_on : m.ahead ≡ l.ahead → (l.kept ≡ [] → (m.kept ≡ []) × (after ≡ host)) → AreAhead may_lie v host l → AreAhead may_lie v after m
-    ahead_on same still a = elim a.alone [
-      | inl none ↦ record { each = subst (AllByRecursion (IsFetchNow may_lie v after)) (sym (same ∙ none)) tt; alone = inl (same ∙ none) }
-      | inr none ↦
-          let on = still none in
-          record {
-            each = subst (λ (h : Host). AllByRecursion (IsFetchNow may_lie v h) m.ahead) (sym on.1) (subst (AllByRecursion (IsFetchNow may_lie v host)) (sym same) a.each);
-            alone = inr on.0;
-          }
-    ]
+    -- while the host gives what it will have given once it has carried out the STOREs that are kept
+    pub ahead_on : m.ahead ≡ l.ahead → ((reached : Host) → CatchesUp v host l.kept reached → CatchesUp v after m.kept reached) → AreAhead may_lie v host l → AreAhead may_lie v after m
+    ahead_on same still (inl none) = inl (same ∙ none)
+    ahead_on same still (inr a) = inr (a.0, still a.0 a.1, subst (AllByRecursion (IsFetchNow may_lie v a.0)) (sym same) a.2)
 
     pub none_ahead : m.ahead ≡ [] → AreAhead may_lie v after m
-    none_ahead none = record { each = subst (AllByRecursion (IsFetchNow may_lie v after)) (sym none) tt; alone = inl none }
+    none_ahead none = inl none

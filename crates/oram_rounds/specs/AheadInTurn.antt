@@ -19,12 +19,13 @@ use Rattle.oram_rounds.specs.Process.{Act, DoesAll, IsGoingOn, Process, Talks, e
 use Rattle.oram_rounds.specs.Process.Act.{Calls}
 use Rattle.oram_rounds.specs.Rounds.{Round}
 
--- The core asks for its next FETCHes in turn. What is ahead is the end of their list: all of them, or those after the first
--- few, or none.
+-- The core asks for its next FETCHes in turn. What is ahead are some of their list that follow one another there: all of them, those after the
+-- first few, those before the last few, or none.
 pub record IsAheadInTurn {B : Type 0} (d : Sizes) (core : State) (l : Round B) : Type 0 where
   pub asks : AsksInTurn d core
   pub before : List (List ℕ)
-  pub next : next_bodies d core ≡ before ++ bodies_of l.ahead
+  pub behind : List (List ℕ)
+  pub next : next_bodies d core ≡ before ++ (bodies_of l.ahead ++ behind)
 
 -- That holds of every core while nothing is ahead, even of one that was read back.
 abbrev pub NothingAheadIsInTurn : Type 0 → Type 0

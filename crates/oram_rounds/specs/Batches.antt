@@ -33,3 +33,9 @@ abbrev pub IsBatch : List (List ℕ) → BatchOutcome → List Exchange → Type
 IsBatch bodies (Ok answers) exchanges =
     (length answers ≡ length bodies) × (tries : List Exchange) × AreAmong (bodies_of tries) bodies × (exchanges ≡ tries ++ answered bodies answers)
 IsBatch bodies (Err fault) exchanges = AreAmong (bodies_of exchanges) bodies
+
+-- A batch that broke off once its first messages had these answers: tries of its messages, with any outcomes; then the first messages, each
+-- with its answer; then tries again.
+abbrev pub BreaksOff : List (List ℕ) → List (List ℕ) → List Exchange → Type 0
+BreaksOff bodies answers exchanges =
+    (tries more : List Exchange) × AreAmong (bodies_of tries) bodies × AreAmong (bodies_of more) bodies × (exchanges ≡ tries ++ answered bodies answers ++ more)

@@ -50,6 +50,10 @@ stored_behind = (fetch_body 0 0, Ok (payload_answer (replicate 88 0))) ∷ (stor
 abbrev pub ones_ahead : ToServer → Round ToServer
 ones_ahead after = record one_kept { inner = after; kept = []; ahead = (fetch_body 0 0, Ok (payload_answer (replicate 88 1))) ∷ [] }
 
+-- the connection breaks before the server answers the STORE: the ones are ahead then, too, and the STORE is still kept
+abbrev pub ones_unsettled : Round ToServer
+ones_unsettled = record one_kept { ahead = (fetch_body 0 0, Ok (payload_answer (replicate 88 1))) ∷ [] }
+
 -- Once the STORE is carried out, the host keeps the ones; so the FETCH is answered with the ones, even if it went ahead.
 abbrev pub OneWaitsExample : Type 0
 OneWaitsExample = AreBatches DirectBatches
@@ -61,6 +65,7 @@ OneWaitsExample = AreBatches DirectBatches
     × RoundCall DirectBatches one_ahead (fetch_body 0 0) (Ok (payload_answer (replicate 88 1))) [] one_waits
     × ((after : ToServer) × WentAhead DirectBatches one_kept (fetch_body 0 0 ∷ []) stored_behind (ones_ahead after)
     × ((may_lie : Bool) → PlainRun may_lie one_block new_host stored_behind after.host))
+    × WentAhead DirectBatches one_kept (fetch_body 0 0 ∷ []) zeros_fetched ones_unsettled
 
 -- what may be read back is a file of the new core
 abbrev pub is_new_file : ⊤ → List ℕ → Type 0

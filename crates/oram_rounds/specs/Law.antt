@@ -31,10 +31,9 @@ IsStocked v host = (records : ℕ → ℕ → List ℕ) × KeepsAll v records ho
 abbrev pub IsFetchNow : Bool → Scheme → Host → Exchange → Type 0
 IsFetchNow may_lie v host e = IsPathFetch v.device e.0 × ((after : Host) × IsPlainCall may_lie v host e.0 e.1 after)
 
--- Each FETCH that went ahead has the answer that the host gives now. No STORE is kept meanwhile, so none leaves.
-pub record AreAhead (may_lie : Bool) (v : Scheme) (host : Host) {B : Type 0} (l : Round B) : Type 0 where
-  pub each : AllByRecursion (IsFetchNow may_lie v host) l.ahead
-  pub alone : (l.ahead ≡ []) ⊎ (l.kept ≡ [])
+-- Each FETCH that is ahead has the answer that the host gives once it has carried out the STOREs that are kept.
+abbrev pub AreAhead : Bool → Scheme → Host → {B : Type 0} → Round B → Type 0
+AreAhead may_lie v host l = (l.ahead ≡ []) ⊎ ((reached : Host) × CatchesUp v host l.kept reached × AllByRecursion (IsFetchNow may_lie v reached) l.ahead)
 
 -- A host goes through the exchanges of a call, and is honest or may lie. It catches up by the STOREs that wait, and gives the
 -- answers to the FETCHes that went ahead. Then the call is one of the host as it will be: that host gives the answer, or tells
@@ -47,7 +46,7 @@ CallsAreOfTheHostLater {B} batches = AreBatches batches
     → (next : Host) × CatchesUp v after (waiting m) next × IsHeardCall may_lie v later body o next × AreAhead may_lie v after m
 
 -- FETCHes are sent ahead, and the STOREs that are kept behind them. Then the host beside the link catches up to what it would have
--- caught up to before, and gives the answers that are ahead now, since it has carried out the STOREs that are laid over them.
+-- caught up to before, and it gives the answers that are ahead now once it has carried out the STOREs that are laid over them.
 abbrev pub AheadIsOfTheHost : {B : Type 0} → (B → List (List ℕ) → BatchOutcome → List Exchange → B → Type 0) → Type 0
 AheadIsOfTheHost {B} batches = AreBatches batches
     → (may_lie : Bool) (v : Scheme) (l m : Round B) (fetches : List (List ℕ)) (exchanges : List Exchange) (host after later : Host)

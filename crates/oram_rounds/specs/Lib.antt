@@ -2,6 +2,7 @@ pub mod PathMessages
 pub mod Overlay
 pub mod CatchUp
 pub mod Batches
+pub mod Streams
 pub mod Rounds
 pub mod Law
 pub mod LinkNotes
@@ -11,6 +12,7 @@ pub mod Files
 pub mod Process
 pub mod Keeping
 pub mod AheadInTurn
+pub mod Arrivals
 pub mod Start
 pub mod ProcessSteps
 pub mod ReadingExample

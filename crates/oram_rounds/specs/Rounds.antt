@@ -1,5 +1,5 @@
 -- A link that holds STOREs back until they are kept.
-use Rattle.std.specs.Prelude.{◌≡◌, ◌≢◌, ◌⊎◌, ℕ, ◌==◌, ◌&&◌, Bool, if◌then◌else◌, List, [], ◌∷◌, ◌++◌, length, slice_index, Ok, Err, MatchResult}
+use Rattle.std.specs.Prelude.{◌≡◌, ◌≢◌, ◌⊎◌, ◌≤◌, ℕ, ◌==◌, ◌&&◌, Bool, if◌then◌else◌, List, [], ◌∷◌, ◌++◌, length, slice_index, take, Ok, Err, MatchResult}
 use Rattle.std.specs.List.{AllByRecursion}
 use Rattle.oram_geometry.specs.declared.Sizes.{Sizes}
 use Rattle.oram_wire.specs.HostMessages.{done_answer}
@@ -9,7 +9,7 @@ use Rattle.oram_session.specs.declared.link.LinkFault.{LinkFault}
 use Rattle.oram_session.specs.declared.link.LinkFault.TheVariants.{Closed, OutOfMemory}
 use Rattle.oram_link_laws.specs.Repair.{IsAmong}
 use Rattle.oram_link_laws.specs.Runs.{Exchange}
-use Rattle.oram_rounds.specs.Batches.{BatchOutcome, answered}
+use Rattle.oram_rounds.specs.Batches.{BatchOutcome, BreaksOff, answered}
 use Rattle.oram_rounds.specs.Overlay.{AreOverlaid, IsOverlaid}
 use Rattle.oram_rounds.specs.PathMessages.{IsPathFetch, IsPathStore}
 
@@ -103,16 +103,34 @@ module _ {B : Type 0} (batches : B → List (List ℕ) → BatchOutcome → List
   abbrev pub Does : Round B → List ℕ → Outcome → List Exchange → Round B → Type 0
   Does l body o exchanges m = HoldsBack l body o exchanges m ⊎ (Fetches l body o exchanges m ⊎ (Declines l body o exchanges m ⊎ TakesAhead l body o exchanges m))
 
-  -- The answers to the FETCHes, and those to the STOREs that were kept. If each STORE was carried out, each FETCH is ahead, with the
-  -- records of these STOREs laid over its answer. Otherwise nothing is ahead.
+  -- The first of the FETCHes have these answers, and the host may not have carried out all STOREs that are kept: these stay. Nothing is ahead.
+  -- Or no other STOREs are held back, and the first few of the FETCHes with an answer are ahead, with the records of these STOREs laid over it.
+  pub record LeavesAhead (l : Round B) (fetches given : List (List ℕ)) (m : Round B) : Type 0 where
+    pub kept : m.kept ≡ l.kept
+    pub either : (m.ahead ≡ [])
+        ⊎ ((l.held ≡ []) × (laid : List (List ℕ)) × AreOverlaid d record_len l.kept (take (length given) fetches) given laid
+        × (count : ℕ) × (m.ahead ≡ take count (answered fetches laid)))
+
+  -- The answers to the FETCHes, and those to the STOREs that were kept. If each STORE was carried out, the first few of the FETCHes are ahead,
+  -- with the records of these STOREs laid over their answers: all of them, unless memory ran out.
   pub record GivesAhead (l : Round B) (fetches answers : List (List ℕ)) (m : Round B) : Type 0 where
     pub given : List (List ℕ)
     pub acks : List (List ℕ)
     pub all : answers ≡ given ++ acks
     pub count : length given ≡ length fetches
     pub either :
-        (AreDone acks × (m.kept ≡ []) × (laid : List (List ℕ)) × AreOverlaid d record_len l.kept fetches given laid × (m.ahead ≡ answered fetches laid))
-        ⊎ ((¬ AreDone acks) × (m.kept ≡ l.kept) × (m.ahead ≡ []))
+        (AreDone acks × (m.kept ≡ []) × (laid : List (List ℕ)) × AreOverlaid d record_len l.kept fetches given laid
+        × (count : ℕ) × (m.ahead ≡ take count (answered fetches laid)))
+        ⊎ ((¬ AreDone acks) × LeavesAhead l fetches given m)
+
+  -- the batch has a fault, and the first of the FETCHes had answers before it
+  pub record BreaksAhead (l : Round B) (fetches : List (List ℕ)) (exchanges : List Exchange) (m : Round B) : Type 0 where
+    pub given : List (List ℕ)
+    pub acks : List (List ℕ)
+    pub few : length given ≤ length fetches
+    pub breaks : BreaksOff (fetches ++ l.kept) (given ++ acks) exchanges
+    pub in_turn : (length given ≡ length fetches) ⊎ (acks ≡ [])
+    pub leaves : LeavesAhead l fetches given m
 
   -- one or more FETCHes go to the host before the core asks for them, and the STOREs that are kept go behind them
   pub record SendsAhead (l : Round B) (fetches : List (List ℕ)) (exchanges : List Exchange) (m : Round B) : Type 0 where
@@ -120,7 +138,7 @@ module _ {B : Type 0} (batches : B → List (List ℕ) → BatchOutcome → List
     pub paths : AllByRecursion (IsPathFetch d) fetches
     pub outcome : BatchOutcome
     pub batch : batches l.inner (fetches ++ l.kept) outcome exchanges m.inner
-    pub gives : MatchResult outcome (λ answers. GivesAhead l fetches answers m) (λ fault. (m.kept ≡ l.kept) × (m.ahead ≡ []))
+    pub gives : MatchResult outcome (λ answers. GivesAhead l fetches answers m) (λ fault. BreaksAhead l fetches exchanges m)
 
   -- nothing goes ahead: there are no FETCHes, or one of these messages is no FETCH of a path of the device
   pub record SendsNone (l : Round B) (fetches : List (List ℕ)) (exchanges : List Exchange) (m : Round B) : Type 0 where

@@ -1,9 +1,9 @@
 //! Answers that have come before the core asks for them.
-ghost use Rattle.std.specs.Prelude.{◌≡◌, ◌∷◌, [], MatchOption, Ok};
+ghost use Rattle.std.specs.Prelude.{◌≡◌, ◌↔◌, ◌∷◌, ◌++◌, [], IsTrue, MatchOption, Ok, OnErr, OnOk, length};
 ghost use Rattle.oram_rounds.specs.Batches.{answered, texts};
 ghost use Rattle.oram_rounds.specs.Rounds.{IsFirstAhead};
 
-use std::alloc::Global;
+use std::alloc::{AllocError, Global};
 use std::collections::VecDeque;
 use std::marker::Model;
 
@@ -15,13 +15,15 @@ pub struct FetchedAhead {
 }
 
 impl Model for FetchedAhead {
-    ghost use Rattle.std.specs.Prelude.{List};
+    ghost use Rattle.std.specs.Prelude.{◌≡◌, List, length};
     ghost use Rattle.oram_link_laws.specs.Runs.{Exchange};
     ghost use Rattle.oram_rounds.specs.Batches.{answered, texts};
 
     ghost Value = { List Exchange };
 
     ghost view = { λ a. answered (texts a.fetches.items) (texts a.answers.items) };
+
+    ghost invariant = { λ a. length a.fetches.items ≡ length a.answers.items };
 }
 
 impl FetchedAhead {
@@ -37,6 +39,7 @@ impl FetchedAhead {
 
     /// Returns these FETCHes with their answers.
     pub fn of(fetches: Vec<Vec<u8>>, answers: Vec<Vec<u8>>) -> FetchedAhead
+        requires { length fetches.items ≡ length answers.items }
         ensures { result ≡ answered (texts fetches.items) (texts answers.items) }
     {
         FetchedAhead {
@@ -55,5 +58,27 @@ impl FetchedAhead {
         let answer = self.answers.pop_front()?;
         self.fetches.pop_front();
         Some(answer)
+    }
+
+    /// Adds a FETCH with its answer behind the others. If memory runs out, the list stays as it is.
+    pub fn push(&mut self, fetch: Vec<u8>, answer: Vec<u8>) -> Result<(), AllocError>
+        ensures ok { OnOk result (self.new ≡ self.old ++ (fetch.items, Ok answer.items) ∷ []) }
+        ensures err { OnErr result (self.new ≡ self.old) }
+    {
+        self.fetches.reserve(1)?;
+        self.answers.reserve(1)?;
+        self.fetches.push_back_reserved(fetch);
+        self.answers.push_back_reserved(answer);
+        Ok(())
+    }
+
+    /// Returns whether the next FETCH is this one.
+    pub fn is_first(&self, fetch: &[u8]) -> bool
+        ensures { IsTrue result ↔ IsFirstAhead self.now fetch.now }
+    {
+        match self.fetches.front() {
+            Some(first) => first.as_slice() == fetch,
+            None => false,
+        }
     }
 }

@@ -1,9 +1,11 @@
 //! Links that carry several messages at once.
 ghost use Rattle.std.specs.Prelude.{◌≡◌, ℕ, List, ◌++◌, IfOk};
+ghost use Rattle.oram_session.specs.Outcome.{outcome_of};
 ghost use Rattle.oram_link_laws.specs.Runs.{Exchange};
 ghost use Rattle.oram_rounds.specs.Batches.{BatchOutcome, batch_outcome_of, texts};
 ghost use Rattle.oram_rounds.specs.Law.{AreBatches, LearningSendsNothing};
 ghost use Rattle.oram_rounds.specs.LinkNotes.{AreRecordsTold, BatchesAreTold, LearningCountsAnew, LinkNote};
+ghost use Rattle.oram_rounds.specs.Streams.{BeginsBatch, EndsAsBatch, GivesNext};
 
 use crate::keeper::LinkRecords;
 use oram_session::LinkFault;
@@ -17,6 +19,10 @@ pub trait BatchLink {
     /// Whether a batch of these bodies, from the first value, may have this outcome and these exchanges with the host, and
     /// lead to the second value.
     ghost batches: { Self → List (List ℕ) → BatchOutcome → List Exchange → Self → Type 0 };
+
+    /// Whether the first value may have sent these bodies in one batch, given these answers to the first of them, and be the second value
+    /// now.
+    ghost streams: { Self → List (List ℕ) → List (List ℕ) → Self → Type 0 };
 
     /// What the link wants to have kept with its process.
     ghost notes: { Self → LinkNote };
@@ -39,6 +45,18 @@ pub trait BatchLink {
     ) -> Result<Vec<Vec<u8>>, LinkFault>
         ensures { (exchanges : List Exchange) × batches self.old (texts first.now ++ texts last.now) (batch_outcome_of result) exchanges self.new };
 
+    /// Sends the bodies of `first` and then those of `last` to the host, as [`call_all`](BatchLink::call_all) does, if that can be done at
+    /// once, and returns whether it was. It doesn't wait for their answers: [`next_answer`](BatchLink::next_answer) has to be called for each of
+    /// them, before anything else is done with the link, until it fails or all are given. If it returns `false`, nothing is awaited. The host
+    /// may have received some of the bodies even then.
+    fn begin(&mut self, alloc: Global, first: &[Vec<u8>], last: &[Vec<u8>]) -> bool
+        ensures { BeginsBatch batches streams self.old (texts first.now ++ texts last.now) result self.new };
+
+    /// Returns the answer to the next body of the batch that was begun, which is `body`. Fails if it doesn't come. Then the answers to the
+    /// bodies behind it don't come either, and the batch isn't sent again: the host may have received any of its bodies.
+    fn next_answer(&mut self, alloc: Global, body: &[u8]) -> Result<Vec<u8>, LinkFault>
+        ensures { GivesNext batches streams self.old body.now (outcome_of result) self.new };
+
     /// Returns the link's note, which may be empty.
     fn note(&self, alloc: Global) -> Result<Vec<u8>, AllocError>
         ensures { IfOk result (λ note. note.items ≡ (notes self.now).text) };
@@ -54,6 +72,9 @@ pub trait BatchLink {
 
     // The exchanges are those of the bodies, and the last ones have the answers.
     ghost are_batches: { AreBatches batches };
+
+    // A batch whose answers were all given one by one is a batch as any other.
+    ghost ends_as_batch: { EndsAsBatch batches streams };
 
     // When the link learns that the process was kept, it does no more than in a batch of no messages.
     ghost learning_sends_nothing: { LearningSendsNothing batches learns };

@@ -18,13 +18,13 @@ pub fn calls_are_of_the_host_later<B: BatchLink>()
 {}
 
 /// A law about definitions: sending FETCHes ahead doesn't change what the host will hold, and each answer that is ahead, with the
-/// records of the STOREs behind it, is what the host would give now. So [`calls_are_of_the_host_later`] holds of the calls that are
+/// records of the STOREs behind it, is what the host gives once it has carried these out. So [`calls_are_of_the_host_later`] holds of the calls that are
 /// answered from them.
 pub fn ahead_is_of_the_host<B: BatchLink>()
     ensures { AheadIsOfTheHost B.batches }
 {}
 
-/// A law about definitions: what is ahead at the link of a process is the end of the FETCHes that its core asks for next,
+/// A law about definitions: what is ahead at the link of a process are some of the FETCHes that its core asks for next, one behind the other,
 /// whatever the process does, over a host that is honest or may lie. So a FETCH is ahead only if the core will ask for
 /// it. It rests on `cores_ask_in_turn` in `oram_semantics`.
 pub fn ahead_stays_in_turn<B: BatchLink, K: Keeper>()

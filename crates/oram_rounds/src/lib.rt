@@ -14,6 +14,8 @@
 #![tactic(auto)]
 
 mod ahead;
+mod answers;
+mod arrivals;
 mod batch;
 mod delivery;
 mod exchanges;
@@ -23,6 +25,7 @@ mod law;
 mod lists;
 mod one_by_one;
 mod overlay;
+mod path_messages;
 mod records;
 mod round_fault;
 mod round_link;

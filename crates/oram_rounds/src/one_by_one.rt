@@ -11,7 +11,8 @@ use oram_session::{Link, LinkFault};
 use std::alloc::{AllocError, Global};
 
 /// Sends each message of a batch over a link once the one before it is answered. It saves no round trip. It stops at the
-/// first fault, and doesn't send the messages after it.
+/// first fault, and doesn't send the messages after it. If a batch's answers are taken one by one, each message is sent when its answer is
+/// asked for.
 #[derive(Debug, Drop)]
 pub struct OneByOne<L> {
     pub link: L,
@@ -38,12 +39,14 @@ fn call_each<L: Link>(
 }
 
 impl<L: Link> BatchLink for OneByOne<L> {
-    ghost use Rattle.std.specs.Prelude.{◌≡◌, [], ⊤};
-    ghost use Rattle.std.proofs.Common.{inl};
+    ghost use Rattle.std.specs.Prelude.{◌≡◌, ◌≤◌, [], length, ⊤};
+    ghost use Rattle.std.proofs.Common.{inl, refl};
     ghost use Rattle.oram_link_laws.specs.Runs.{LinkRun};
-    ghost use Rattle.oram_rounds.specs.Batches.{IsBatch};
+    ghost use Rattle.oram_rounds.specs.Batches.{IsBatch, answered};
 
     ghost batches = { λ l bodies o exchanges m. LinkRun L.calls l.link exchanges m.link × IsBatch bodies o exchanges };
+
+    ghost streams = { λ l bodies answers m. LinkRun L.calls l.link (answered bodies answers) m.link × (length answers ≤ length bodies) };
 
     ghost notes = { λ l. record { text = []; records = [] } };
 
@@ -63,6 +66,14 @@ impl<L: Link> BatchLink for OneByOne<L> {
         Ok(answers)
     }
 
+    fn begin(&mut self, _alloc: Global, _first: &[Vec<u8>], _last: &[Vec<u8>]) -> bool {
+        true
+    }
+
+    fn next_answer(&mut self, alloc: Global, body: &[u8]) -> Result<Vec<u8>, LinkFault> {
+        self.link.call(alloc, body)
+    }
+
     /// Returns no bytes: this link has nothing to remember.
     fn note(&self, alloc: Global) -> Result<Vec<u8>, AllocError> {
         Ok(Vec::new(alloc))
@@ -75,6 +86,8 @@ impl<L: Link> BatchLink for OneByOne<L> {
     fn learn_kept(&mut self, _check: u64) {}
 
     ghost are_batches = { λ l m bodies o exchanges h. h.1 };
+
+    ghost ends_as_batch = { λ l m bodies answers h count. (answered bodies answers, (h.0, (count, [], tt, refl))) };
 
     ghost learning_sends_nothing = { λ l m check same. inl same };
 

@@ -1,25 +1,29 @@
 //! A link that holds STOREs back.
-ghost use Rattle.std.specs.Prelude.{◌≡◌, ◌≢◌, ◌↔◌, ◌+◌, ◌*◌, ◌^◌, ◌<◌, [], ◌∷◌, ◌++◌, ℕ, List, IfOk, IsTrue, MatchOption, MatchResult, OnOk, OnErr, length};
+ghost use Rattle.std.specs.Prelude.{◌≡◌, ◌≢◌, ◌↔◌, ◌+◌, ◌*◌, ◌^◌, ◌<◌, [], ◌∷◌, ◌++◌, ◌⊎◌, ℕ, List, Ok, drop, false, true, IfOk, IsTrue, MatchOption, MatchResult, OnOk, OnErr, length};
 ghost use Rattle.std.specs.List.{AllByRecursion};
 ghost use Rattle.oram_geometry.specs.Sizes.{depth_of, trees_of};
 ghost use Rattle.oram_wire.specs.HostMessages.{done_answer, fetch_body};
 ghost use Rattle.oram_session.specs.Outcome.{outcome_of};
 ghost use Rattle.oram_link_laws.specs.Repair.{IsAmong};
 ghost use Rattle.oram_link_laws.specs.Runs.{Exchange};
+ghost use Rattle.oram_rounds.specs.Arrivals.{AreArriving, EndsAcks, IsAnsweredHere, ended};
 ghost use Rattle.oram_rounds.specs.Batches.{texts};
 ghost use Rattle.oram_rounds.specs.LinkNotes.{AreRecordsTold};
 ghost use Rattle.oram_rounds.specs.Overlay.{AreOverlaid, IsOverlaid};
 ghost use Rattle.oram_rounds.specs.PathMessages.{ArePathStores, IsPathFetch, IsPathStore};
-ghost use Rattle.oram_rounds.specs.Rounds.{AreDone, Does, IsFirstAhead, WentAhead, refused_with, waiting};
+ghost use Rattle.oram_rounds.specs.Rounds.{AreDone, Does, IsFirstAhead, Round, WentAhead, refused_with, waiting};
 
 use crate::ahead::FetchedAhead;
+use crate::answers::{are_done, first_refusal, lay_over_each, receive_acks, refused_with};
+use crate::arrivals::Arrivals;
 use crate::batch::BatchLink;
 use crate::keeper::LinkRecords;
 use crate::lists::push;
-use crate::overlay::{lay_over, path_len};
+use crate::overlay::lay_over;
+use crate::path_messages::{are_path_fetches, are_path_stores, fetched_path, is_path_store};
 use oram_geometry::Device;
 use oram_session::{Link, LinkFault};
-use oram_wire::{GOOD, HostView, REFUSED, is_done};
+use oram_wire::GOOD;
 use std::alloc::{AllocError, Global};
 use std::marker::Model;
 
@@ -42,6 +46,9 @@ pub struct RoundLink<B> {
     kept: usize,
     ahead: FetchedAhead,
     faults: u64,
+    /// Whether the host has carried out all STOREs of the batch that was begun last. If it hasn't, the next batch is sent by
+    /// [`RoundLink::go_ahead`], which tries until it has.
+    is_settled: bool,
 }
 
 impl<B> Model for RoundLink<B> {
@@ -55,132 +62,6 @@ impl<B> Model for RoundLink<B> {
     ghost view = { λ l. record { inner = l.inner; device = l.device; record_len = l.record_len; kept = texts (take l.kept l.stores.items); held = texts (drop l.kept l.stores.items); ahead = l.ahead; faults = l.faults } };
 
     ghost invariant = { λ l. (l.record_len < 2 ^ 32) × (l.kept ≤ length l.stores.items) × ArePathStores l.device l.record_len (texts (take l.kept l.stores.items)) × ArePathStores l.device l.record_len (texts (drop l.kept l.stores.items)) };
-}
-
-/// Returns whether a tree of the device has this leaf.
-fn has_leaf(device: &Device, tree: u8, leaf: u32) -> bool
-    ensures { IsTrue result ↔ ((tree < trees_of device.now) × (leaf < 2 ^ depth_of device.now tree)) }
-{
-    tree < device.trees() && leaf < 1 << device.depth(tree)
-}
-
-/// Returns whether a message is a STORE of a whole path of the device.
-fn is_path_store(device: &Device, record_len: usize, body: &[u8]) -> bool
-    requires { record_len < 2 ^ 32 }
-    ensures { IsTrue result ↔ IsPathStore device.now record_len body.now }
-{
-    match HostView::read(body) {
-        Ok(
-            HostView::Store {
-                tree,
-                leaf,
-                records,
-            },
-        ) => { has_leaf(device, tree, leaf) && records.len() == path_len(device, record_len, tree) }
-        _ => false,
-    }
-}
-
-/// Returns whether all messages are STOREs of whole paths of the device.
-fn are_path_stores(device: &Device, record_len: usize, bodies: &[Vec<u8>]) -> bool
-    requires { record_len < 2 ^ 32 }
-    ensures { IsTrue result ↔ ArePathStores device.now record_len (texts bodies.now) }
-{
-    for body in bodies {
-        if !is_path_store(device, record_len, body) {
-            return false;
-        }
-    }
-    true
-}
-
-/// Returns the tree and the leaf of a FETCH of a path of the device, or `None` if a message is no such FETCH.
-fn fetched_path(device: &Device, body: &[u8]) -> Option<(u8, u32)>
-    ensures { MatchOption result (¬ IsPathFetch device.now body.now)
-        (λ path. (path.0 < trees_of device.now) × (path.1 < 2 ^ depth_of device.now path.0) × (body.now ≡ fetch_body path.0 path.1)) }
-{
-    let Ok(HostView::Fetch { tree, leaf }) = HostView::read(body) else {
-        return None;
-    };
-    if !has_leaf(device, tree, leaf) {
-        return None;
-    }
-    Some((tree, leaf))
-}
-
-/// Returns whether a message is a FETCH of a path of the device.
-fn is_path_fetch(device: &Device, body: &[u8]) -> bool
-    ensures { IsTrue result ↔ IsPathFetch device.now body.now }
-{
-    fetched_path(device, body).is_some()
-}
-
-/// Returns whether all messages are FETCHes of paths of the device.
-fn are_path_fetches(device: &Device, bodies: &[Vec<u8>]) -> bool
-    ensures { IsTrue result ↔ AllByRecursion (IsPathFetch device.now) (texts bodies.now) }
-{
-    for body in bodies {
-        if !is_path_fetch(device, body) {
-            return false;
-        }
-    }
-    true
-}
-
-/// Lays the records of STOREs over the answer to each of these FETCHes.
-fn lay_over_each(
-    device: &Device,
-    record_len: usize,
-    stores: &[Vec<u8>],
-    fetches: &[Vec<u8>],
-    answers: &mut [Vec<u8>],
-)
-    requires few { record_len < 2 ^ 32 }
-    requires stores { ArePathStores device.now record_len (texts stores.now) }
-    requires paths { AllByRecursion (IsPathFetch device.now) (texts fetches.now) }
-    requires count { length answers.old ≡ length fetches.now }
-    ensures { AreOverlaid device.now record_len (texts stores.now) (texts fetches.now) (texts answers.old) (texts answers.new) }
-{
-    for i in 0..fetches.len() {
-        let Some((tree, leaf)) = fetched_path(device, &fetches[i]) else {
-            unreachable!()
-        };
-        lay_over(device, record_len, tree, leaf, stores, &mut answers[i]);
-    }
-}
-
-/// Returns whether each answer says that the host has done what it was asked.
-fn are_done(answers: &[Vec<u8>]) -> bool
-    ensures { IsTrue result ↔ AreDone (texts answers.now) }
-{
-    for answer in answers {
-        if !is_done(answer) {
-            return false;
-        }
-    }
-    true
-}
-
-/// Returns the first answer that doesn't say that the host has done what it was asked.
-fn first_refusal(mut answers: Vec<Vec<u8>>) -> Option<Vec<u8>>
-    ensures { MatchOption result (AreDone (texts answers.items)) (λ refusal. IsAmong refusal.items (texts answers.items) × (refusal.items ≢ done_answer)) }
-{
-    for i in 0..answers.len() {
-        if !is_done(&answers[i]) {
-            return Some(answers.swap_remove(i));
-        }
-    }
-    None
-}
-
-/// Returns what the core receives if this is the answer to a STORE: a refusal as it is, and no bytes for anything else.
-fn refused_with(mut answer: Vec<u8>) -> Vec<u8>
-    ensures { result.items ≡ refused_with answer.items }
-{
-    if answer.len() != 2 || answer[0] != REFUSED {
-        answer.clear();
-    }
-    answer
 }
 
 impl<B> RoundLink<B> {
@@ -197,6 +78,7 @@ impl<B> RoundLink<B> {
             kept: 0,
             ahead: FetchedAhead::none(alloc),
             faults: 0,
+            is_settled: true,
         }
     }
 
@@ -227,6 +109,7 @@ impl<B> RoundLink<B> {
             kept,
             ahead: FetchedAhead::none(alloc),
             faults: 0,
+            is_settled: true,
         })
     }
 
@@ -287,6 +170,24 @@ impl<B> RoundLink<B> {
         answer
     }
 
+    /// Returns the answer to a FETCH, with the records of the STOREs that are kept laid over it.
+    fn kept_over(&self, tree: u8, leaf: u32, mut answer: Vec<u8>) -> Vec<u8>
+        requires tree { tree < trees_of self.now.device }
+        requires leaf { leaf < 2 ^ depth_of self.now.device tree }
+        ensures { IsOverlaid self.now.device self.now.record_len tree leaf self.now.kept answer.items result.items }
+    {
+        let stores = self.kept();
+        lay_over(
+            &self.device,
+            self.record_len,
+            tree,
+            leaf,
+            stores,
+            &mut answer,
+        );
+        answer
+    }
+
     /// Lays the records of the STOREs that are kept over the answer to each of these FETCHes.
     fn lay_kept(&self, fetches: &[Vec<u8>], answers: &mut [Vec<u8>])
         requires paths { AllByRecursion (IsPathFetch self.now.device) (texts fetches.now) }
@@ -341,6 +242,112 @@ impl<B: BatchLink> RoundLink<B> {
         self.inner.learn_kept(check);
     }
 
+    /// Begins a batch of FETCHes, before the core asks for them, and of the STOREs that are kept behind them, and returns whether it did. Then
+    /// [`RoundLink::answers`] takes in the answers as they come, and [`RoundLink::settle`] has to be called behind it. If it returns `false`,
+    /// no answer is to come.
+    pub(crate) fn begin_ahead(&mut self, alloc: Global, fetches: &[Vec<u8>]) -> bool
+        requires { self.old.ahead ≡ [] }
+        ensures same { self.new ≡ record self.old { inner = self.new.inner } }
+        ensures begun { IsTrue result → (texts fetches.now ≢ []) × AllByRecursion (IsPathFetch self.old.device) (texts fetches.now)
+            × B.streams self.old.inner (texts fetches.now ++ self.old.kept) [] self.new.inner }
+        ensures broken { ¬ IsTrue result → (self.new ≡ self.old) ⊎ ((exchanges : List Exchange) × WentAhead B.batches self.old (texts fetches.now) exchanges self.new) }
+    {
+        if !self.is_settled || fetches.is_empty() || !are_path_fetches(&self.device, fetches) {
+            return false;
+        }
+        let kept = self.kept;
+        self.inner.begin(alloc, fetches, &self.stores[..kept])
+    }
+
+    /// Puts a FETCH ahead with its answer, unless memory runs out, or did so for an earlier one.
+    fn put_ahead(&mut self, arrivals: &mut Arrivals, fetch: Vec<u8>, answer: Vec<u8>)
+        ensures { ((arrivals.old.full ≡ false) × (arrivals.new ≡ arrivals.old) × (self.new ≡ record self.old { ahead = self.old.ahead ++ (fetch.items, Ok answer.items) ∷ [] }))
+            ⊎ ((arrivals.new ≡ record arrivals.old { full = true }) × (self.new ≡ self.old)) }
+    {
+        if arrivals.is_full {
+            return;
+        }
+        if self.ahead.push(fetch, answer).is_err() {
+            arrivals.is_full = true;
+        }
+    }
+
+    /// Receives the answer to the next FETCH that is due, and puts it ahead with the records of the STOREs that are kept laid over it.
+    fn receive(&mut self, alloc: Global, arrivals: &mut Arrivals)
+        requires { AllByRecursion (IsPathFetch self.old.device) arrivals.old.due }
+        ensures same { self.new ≡ record self.old { inner = self.new.inner; ahead = self.new.ahead } }
+        ensures due { arrivals.new.due ≡ drop 1 arrivals.old.due }
+        ensures arriving { (l : Round B) (fetches : List (List ℕ)) (put : List Exchange) → arrivals.old.broken ≡ false → AreArriving B.batches B.streams l fetches put arrivals.old self.old
+            → (more : List Exchange) × AreArriving B.batches B.streams l fetches (put ++ more) arrivals.new self.new
+            × (self.new ≡ record self.old { inner = self.new.inner; ahead = self.old.ahead ++ more }) }
+    {
+        let Some(fetch) = arrivals.due.pop_front() else {
+            return;
+        };
+        let Some((tree, leaf)) = fetched_path(&self.device, &fetch) else {
+            unreachable!()
+        };
+        match self.inner.next_answer(alloc, &fetch) {
+            Ok(answer) => {
+                let laid = self.kept_over(tree, leaf, answer);
+                self.put_ahead(arrivals, fetch, laid);
+            }
+            Err(_) => arrivals.is_broken = true,
+        }
+    }
+
+    /// Receives all answers to FETCHes that are still to come, unless the batch breaks off.
+    fn receive_all(&mut self, alloc: Global, arrivals: &mut Arrivals)
+        requires { AllByRecursion (IsPathFetch self.old.device) arrivals.old.due }
+        ensures same { self.new ≡ record self.old { inner = self.new.inner; ahead = self.new.ahead } }
+        ensures arriving { (l : Round B) (fetches : List (List ℕ)) (put : List Exchange) → AreArriving B.batches B.streams l fetches put arrivals.old self.old
+            → (more : List Exchange) × AreArriving B.batches B.streams l fetches (put ++ more) arrivals.new self.new
+            × (self.new ≡ record self.old { inner = self.new.inner; ahead = self.old.ahead ++ more }) }
+        ensures all { arrivals.new.broken ≡ false → arrivals.new.due ≡ [] }
+    {
+        while !arrivals.is_broken && !arrivals.due.is_empty() {
+            self.receive(alloc, arrivals);
+        }
+    }
+
+    /// Ends a batch that was begun: receives the answers that are still to come. The FETCHes whose answers weren't taken yet are ahead
+    /// afterwards. If the host has carried out all STOREs that were kept, these are forgotten.
+    pub(crate) fn settle(&mut self, alloc: Global, mut arrivals: Arrivals)
+        requires { AllByRecursion (IsPathFetch self.old.device) arrivals.due }
+        ensures { (l : Round B) (fetches : List (List ℕ)) (put : List Exchange) → fetches ≢ [] → AllByRecursion (IsPathFetch l.device) fetches → l.held ≡ []
+            → AreArriving B.batches B.streams l fetches put arrivals self.old
+            → (exchanges more : List Exchange) × WentAhead B.batches l fetches exchanges (record l { inner = self.new.inner; kept = self.new.kept; ahead = put ++ more })
+            × (self.new ≡ ended self.old self.new.inner self.new.kept more) }
+    {
+        self.receive_all(alloc, &mut arrivals);
+        self.is_settled = false;
+        if arrivals.is_broken {
+            return;
+        }
+        let kept = self.kept;
+        if receive_acks(alloc, &mut self.inner, &self.stores[..kept]) {
+            self.forget_kept();
+            self.is_settled = true;
+        }
+    }
+
+    /// Returns whether a message is answered without the host: it is a STORE, or the first FETCH ahead. If it is the FETCH whose answer is
+    /// to come next, that answer is received first.
+    pub(crate) fn answers(&mut self, alloc: Global, arrivals: &mut Arrivals, message: &[u8]) -> bool
+        requires { AllByRecursion (IsPathFetch self.old.device) arrivals.old.due }
+        ensures same { self.new ≡ record self.old { inner = self.new.inner; ahead = self.new.ahead } }
+        ensures due { AllByRecursion (IsPathFetch self.old.device) arrivals.new.due }
+        ensures here { IsTrue result → IsAnsweredHere self.new message.now }
+        ensures arriving { (l : Round B) (fetches : List (List ℕ)) (put : List Exchange) → AreArriving B.batches B.streams l fetches put arrivals.old self.old
+            → (more : List Exchange) × AreArriving B.batches B.streams l fetches (put ++ more) arrivals.new self.new
+            × (self.new ≡ record self.old { inner = self.new.inner; ahead = self.old.ahead ++ more }) }
+    {
+        if arrivals.is_next(message) {
+            self.receive(alloc, arrivals);
+        }
+        self.ahead.is_first(message) || is_path_store(&self.device, self.record_len, message)
+    }
+
     /// Sends FETCHes before the core asks for them, and the STOREs that are kept behind them, all at once. So the host's answers to
     /// the FETCHes come while the STOREs are still being written. The records of these STOREs are laid over the answers: that is what
     /// the host would answer now, once it has carried them out. Later calls with these FETCHes, in this order, are answered from
@@ -367,6 +374,7 @@ impl<B: BatchLink> RoundLink<B> {
             answers.truncate(count);
             self.lay_kept(&fetches, &mut answers);
             self.forget_kept();
+            self.is_settled = true;
             self.ahead = FetchedAhead::of(fetches, answers);
         }
     }

@@ -17,7 +17,7 @@ ghost use Rattle.oram_rounds.specs.Process.Act.{Keeps};
 ghost use Rattle.oram_rounds.specs.Rounds.{waiting};
 
 use crate::batch::BatchLink;
-use crate::exchanges::carry_out_all;
+use crate::exchanges::carry_out_ahead;
 use crate::keeper::{KeepError, Keeper, LinkRecords};
 use crate::kept_file::{ProcessText, encode_kept};
 use crate::round_fault::RoundFault;
@@ -89,8 +89,8 @@ pub fn keep<S: Sealer, B: BatchLink, K: Keeper>(
 /// Keeps the commands that are at work, carries them out, and returns their replies in order. These may be given at once:
 /// what is kept has the commands, so a process that begins with it carries them out again, with the same effect.
 ///
-/// The first FETCH of each command goes ahead as soon as all of them are kept. So with one tree a round waits for the host
-/// once. With more trees it waits once, and then once more for each command and each tree but the last.
+/// The first FETCH of each command goes ahead as soon as all of them are kept, and the core works while their answers arrive. So with one tree a
+/// round waits for the host once. With more trees it waits once, and then once more for each command and each tree but the last.
 pub fn perform<S: Sealer, B: BatchLink, K: Keeper>(
     alloc: Global,
     core: &mut Core<S>,
@@ -127,8 +127,7 @@ pub fn perform<S: Sealer, B: BatchLink, K: Keeper>(
 {
     keep(alloc, core, link, keeper)?;
     let fetches = core.next_fetches(alloc)?;
-    link.go_ahead(alloc, fetches);
-    match carry_out_all(alloc, core, link, reaction) {
+    match carry_out_ahead(alloc, core, link, fetches, reaction) {
         Ok(replies) => Ok(replies),
         Err(ServeFault::Stalled) => Err(RoundFault::Stalled),
         Err(_) => Err(RoundFault::OutOfMemory),

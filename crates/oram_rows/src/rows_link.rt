@@ -58,6 +58,8 @@ impl<B: BatchLink, E: EmptyRecords> BatchLink for RowsLink<B, E> {
 
     ghost batches = { λ l bodies o exchanges m. RowsBatch B.batches (made_with E.record_at) l bodies o exchanges m };
 
+    ghost streams = { λ l bodies answers m. ⊥ };
+
     ghost notes = { λ l. B.notes l.inner };
 
     ghost tells = { λ l old. B.tells l.inner old };
@@ -74,6 +76,16 @@ impl<B: BatchLink, E: EmptyRecords> BatchLink for RowsLink<B, E> {
         self.known.complete_outcome(alloc, first, last, outcome)
     }
 
+    /// Sends nothing: a whole reading goes ahead by [`ask`](PipelinedLink::ask).
+    fn begin(&mut self, _alloc: Global, _first: &[Vec<u8>], _last: &[Vec<u8>]) -> bool {
+        false
+    }
+
+    /// Fails: no batch is ever begun here.
+    fn next_answer(&mut self, _alloc: Global, _body: &[u8]) -> Result<Vec<u8>, LinkFault> {
+        Err(LinkFault::Closed)
+    }
+
     fn note(&self, alloc: Global) -> Result<Vec<u8>, AllocError> {
         self.inner.note(alloc)
     }
@@ -87,6 +99,8 @@ impl<B: BatchLink, E: EmptyRecords> BatchLink for RowsLink<B, E> {
     }
 
     ghost are_batches = { λ l m bodies o exchanges h. rows_are_batches B.batches (made_with E.record_at) B.are_batches l m bodies o exchanges h };
+
+    ghost ends_as_batch = { λ l m bodies answers h count. absurd h };
 
     ghost learning_sends_nothing = { λ l m check learnt.
         learnt_nothing_sent B.batches (made_with E.record_at) l m (B.learning_sends_nothing l.inner m.inner check learnt.0) learnt.1 };

@@ -164,7 +164,7 @@ module _ {B K : Type 0} (batches : B → List (List ℕ) → BatchOutcome → Li
             covers = λ b among. subst (IsAmong b) (ap (λ (l : Round B). l.kept) does.2) among;
             holds = inl h.will_hold;
           };
-          ahead = record { each = subst (AllByRecursion (IsFetchNow may_lie v w.host)) (sym none) tt; alone = inl none };
+          ahead = inl none;
         }
 
     -- and it goes on so, whatever it does then

@@ -4,16 +4,16 @@ use Rattle.oram_core.specs.Core.{CoreValue, IsNotedSince, scheme_of}
 use Rattle.oram_core.specs.PlainSteps.{done}
 use Rattle.oram_core.proofs.NotedTables.{none_changed}
 use Rattle.oram_session.specs.CoreWork.{IsUnderWay}
-use Rattle.oram_rounds.specs.Process.{HasTalked, next_bodies, process}
+use Rattle.oram_rounds.specs.Arrivals.{GoesAheadAndTalks}
+use Rattle.oram_rounds.specs.Process.{next_bodies, process}
 use Rattle.oram_rounds.specs.Process.Act.{GoesAhead, Keeps}
-use Rattle.oram_rounds.specs.Rounds.{WentAhead}
 use Rattle.oram_rounds.proofs.Noted.{keeps_not, keeps_noted, talks_beside}
 use Rattle.oram_rounds.proofs.Talk.{talks_keep_nothing}
 use Rattle.oram_rounds.proofs.Told.{round_told}
 use Rattle.oram_rounds.proofs.rounds.perform.Goals as goal
 
-pub carry_out_all-requires : goal.carry_out_all-requires
-carry_out_all-requires g c =
+pub carry_out_ahead-requires-clause-under_way : goal.carry_out_ahead-requires-clause-under_way
+carry_out_ahead-requires-clause-under_way g c =
     subst (λ (u : CoreValue g.row.S.Denot). IsUnderWay (done c.args.reaction u.state)) (sym c.in_ok-keep.ensures.forgotten.0) c.requires.under_way
 
 pub returns-in_err-keep-clause-err : goal.returns-in_err-keep-clause-err
@@ -76,45 +76,44 @@ returns-in_err-fetches-clause-noted g c =
 pub returns-in-Ok-clause-noted : goal.returns-in-Ok-clause-noted
 returns-in-Ok-clause-noted g c =
     let forgotten = c.in_ok-keep.ensures.forgotten in
-    c.carry_out_all.ensures.noted _ (none_changed c.args.core.now c.keep.new.core (g.K.Keeper.kept_table c.keep.new.keeper) forgotten.0 forgotten.1)
+    c.carry_out_ahead.ensures.noted _ (none_changed c.args.core.now c.keep.new.core (g.K.Keeper.kept_table c.keep.new.keeper) forgotten.0 forgotten.1)
 
 pub returns-in-Err-Stalled-clause-noted : goal.returns-in-Err-Stalled-clause-noted
 returns-in-Err-Stalled-clause-noted g c =
     let forgotten = c.in_ok-keep.ensures.forgotten in
-    c.carry_out_all.ensures.noted _ (none_changed c.args.core.now c.keep.new.core (g.K.Keeper.kept_table c.keep.new.keeper) forgotten.0 forgotten.1)
+    c.carry_out_ahead.ensures.noted _ (none_changed c.args.core.now c.keep.new.core (g.K.Keeper.kept_table c.keep.new.keeper) forgotten.0 forgotten.1)
 
 pub returns-in-Ok-clause-told : goal.returns-in-Ok-clause-told
 returns-in-Ok-clause-told g c =
     round_told g.B.BatchLink.batches g.B.BatchLink.notes g.B.BatchLink.tells g.met.B.BatchLink.batches_are_told (g.K.Keeper.kept_records c.keep.new.keeper) _
-    c.keep.new.link c.go_ahead.new.self c.carry_out_all.new.link _ c.go_ahead.ensures.0 _ _ _ c.go_ahead.ensures.1 c.in-Ok.ensures.ok c.in_ok-keep.ensures.told
+    c.keep.new.link c.in-Ok.ensures.ok.link c.carry_out_ahead.new.link _ c.in-Ok.ensures.ok.exchanges _ _ _ c.in-Ok.ensures.ok.went c.in-Ok.ensures.ok.talked c.in_ok-keep.ensures.told
 
 pub returns-in-Err-Stalled-clause-told : goal.returns-in-Err-Stalled-clause-told
 returns-in-Err-Stalled-clause-told g c =
     round_told g.B.BatchLink.batches g.B.BatchLink.notes g.B.BatchLink.tells g.met.B.BatchLink.batches_are_told (g.K.Keeper.kept_records c.keep.new.keeper) _
-    c.keep.new.link c.go_ahead.new.self c.carry_out_all.new.link _ c.go_ahead.ensures.0 _ _ _ c.go_ahead.ensures.1 c.in-Err-Stalled.ensures.err.1 c.in_ok-keep.ensures.told
+    c.keep.new.link c.in-Err-Stalled.ensures.err.1.link c.carry_out_ahead.new.link _ c.in-Err-Stalled.ensures.err.1.exchanges _ _ _ c.in-Err-Stalled.ensures.err.1.went c.in-Err-Stalled.ensures.err.1.talked c.in_ok-keep.ensures.told
 
 pub returns-in-Ok-clause-ok : goal.returns-in-Ok-clause-ok
 returns-in-Ok-clause-ok g c =
     let v = scheme_of g.S.Sealer.cipher c.args.core.now in
     let kept = c.in_ok-keep.ensures.ok in
     let same = c.in_ok-keep.ensures.forgotten.0 in
-    let sent = c.go_ahead.ensures in
-    let went = subst (λ (u : CoreValue g.row.S.Denot). WentAhead g.B.BatchLink.batches c.keep.new.link (next_bodies u.device u.state) sent.0 c.go_ahead.new.self) same
-    (subst (λ (bodies : List (List ℕ)). WentAhead g.B.BatchLink.batches c.keep.new.link bodies sent.0 c.go_ahead.new.self) c.in_ok-fetches.ensures sent.1) in
-    let talked = subst (λ (u : CoreValue g.row.S.Denot). HasTalked (scheme_of g.S.Sealer.cipher u) g.B.BatchLink.batches (u.state, c.go_ahead.new.self) c.in-Ok.replies.items (c.carry_out_all.new.core.state, c.carry_out_all.new.link)) same c.in-Ok.ensures.ok in
+    let goes = subst (λ (u : CoreValue g.row.S.Denot). GoesAheadAndTalks (scheme_of g.S.Sealer.cipher u) g.B.BatchLink.batches (u.state, c.keep.new.link) (next_bodies u.device u.state) c.in-Ok.replies.items (c.carry_out_ahead.new.core.state, c.carry_out_ahead.new.link)) same
+    (subst (λ (bodies : List (List ℕ)). GoesAheadAndTalks (scheme_of g.S.Sealer.cipher c.keep.new.core) g.B.BatchLink.batches (c.keep.new.core.state, c.keep.new.link) bodies c.in-Ok.replies.items (c.carry_out_ahead.new.core.state, c.carry_out_ahead.new.link)) c.in_ok-fetches.ensures c.in-Ok.ensures.ok) in
+    let talked = goes.talked in
     let now = process c.args.core.now.state c.keep.new.link c.keep.new.keeper in (
-      GoesAhead sent.0 ∷ talked.acts,
+      GoesAhead goes.exchanges ∷ talked.acts,
       talked.replied,
       (
         now,
         keeps_noted g.B.BatchLink.batches g.B.BatchLink.notes g.B.BatchLink.learns g.K.Keeper.reads_back g.met.B.BatchLink.learning_sends_nothing v _ now kept.0 refl kept.1,
         (
-          process c.args.core.now.state c.go_ahead.new.self c.keep.new.keeper,
-          (((went, refl), refl), tt),
+          process c.args.core.now.state goes.link c.keep.new.keeper,
+          (((goes.went, refl), refl), tt),
           talks_beside g.B.BatchLink.batches g.B.BatchLink.notes g.B.BatchLink.learns g.K.Keeper.reads_back v c.keep.new.keeper talked.acts _ _ talked.talks,
         ),
       ),
-      (sent.0, talked.acts, refl, talks_keep_nothing g.B.BatchLink.batches v talked.acts _ _ talked.talks),
+      (goes.exchanges, talked.acts, refl, talks_keep_nothing g.B.BatchLink.batches v talked.acts _ _ talked.talks),
     )
 
 pub returns-in-Err-Stalled-clause-err : goal.returns-in-Err-Stalled-clause-err
@@ -122,20 +121,19 @@ returns-in-Err-Stalled-clause-err g c =
     let v = scheme_of g.S.Sealer.cipher c.args.core.now in
     let kept = c.in_ok-keep.ensures.ok in
     let same = c.in_ok-keep.ensures.forgotten.0 in
-    let sent = c.go_ahead.ensures in
-    let went = subst (λ (u : CoreValue g.row.S.Denot). WentAhead g.B.BatchLink.batches c.keep.new.link (next_bodies u.device u.state) sent.0 c.go_ahead.new.self) same
-    (subst (λ (bodies : List (List ℕ)). WentAhead g.B.BatchLink.batches c.keep.new.link bodies sent.0 c.go_ahead.new.self) c.in_ok-fetches.ensures sent.1) in
     let last = c.in-Err-Stalled.ensures.err in
-    let talked = subst (λ (u : CoreValue g.row.S.Denot). HasTalked (scheme_of g.S.Sealer.cipher u) g.B.BatchLink.batches (u.state, c.go_ahead.new.self) last.0 (c.carry_out_all.new.core.state, c.carry_out_all.new.link)) same last.1 in
+    let goes = subst (λ (u : CoreValue g.row.S.Denot). GoesAheadAndTalks (scheme_of g.S.Sealer.cipher u) g.B.BatchLink.batches (u.state, c.keep.new.link) (next_bodies u.device u.state) last.0 (c.carry_out_ahead.new.core.state, c.carry_out_ahead.new.link)) same
+    (subst (λ (bodies : List (List ℕ)). GoesAheadAndTalks (scheme_of g.S.Sealer.cipher c.keep.new.core) g.B.BatchLink.batches (c.keep.new.core.state, c.keep.new.link) bodies last.0 (c.carry_out_ahead.new.core.state, c.carry_out_ahead.new.link)) c.in_ok-fetches.ensures last.1) in
+    let talked = goes.talked in
     let now = process c.args.core.now.state c.keep.new.link c.keep.new.keeper in (
-      Keeps true ∷ GoesAhead sent.0 ∷ talked.acts,
-      inr (inr (GoesAhead sent.0 ∷ talked.acts, refl, (sent.0, talked.acts, refl, talks_keep_nothing g.B.BatchLink.batches v talked.acts _ _ talked.talks))),
+      Keeps true ∷ GoesAhead goes.exchanges ∷ talked.acts,
+      inr (inr (GoesAhead goes.exchanges ∷ talked.acts, refl, (goes.exchanges, talked.acts, refl, talks_keep_nothing g.B.BatchLink.batches v talked.acts _ _ talked.talks))),
       (
         now,
         keeps_noted g.B.BatchLink.batches g.B.BatchLink.notes g.B.BatchLink.learns g.K.Keeper.reads_back g.met.B.BatchLink.learning_sends_nothing v _ now kept.0 refl kept.1,
         (
-          process c.args.core.now.state c.go_ahead.new.self c.keep.new.keeper,
-          (((went, refl), refl), tt),
+          process c.args.core.now.state goes.link c.keep.new.keeper,
+          (((goes.went, refl), refl), tt),
           talks_beside g.B.BatchLink.batches g.B.BatchLink.notes g.B.BatchLink.learns g.K.Keeper.reads_back v c.keep.new.keeper talked.acts _ _ talked.talks,
         ),
       ),
@@ -147,16 +145,15 @@ returns-in-Err g c =
     let kept = c.in_ok-keep.ensures.ok in
     let forgotten = c.in_ok-keep.ensures.forgotten in
     let same = forgotten.0 in
-    let sent = c.go_ahead.ensures in
-    let went = subst (λ (u : CoreValue g.row.S.Denot). WentAhead g.B.BatchLink.batches c.keep.new.link (next_bodies u.device u.state) sent.0 c.go_ahead.new.self) same
-    (subst (λ (bodies : List (List ℕ)). WentAhead g.B.BatchLink.batches c.keep.new.link bodies sent.0 c.go_ahead.new.self) c.in_ok-fetches.ensures sent.1) in
     let last = c.in-Err.ensures.err in
-    let talked = subst (λ (u : CoreValue g.row.S.Denot). HasTalked (scheme_of g.S.Sealer.cipher u) g.B.BatchLink.batches (u.state, c.go_ahead.new.self) last.0 (c.carry_out_all.new.core.state, c.carry_out_all.new.link)) same last.1 in
+    let goes = subst (λ (u : CoreValue g.row.S.Denot). GoesAheadAndTalks (scheme_of g.S.Sealer.cipher u) g.B.BatchLink.batches (u.state, c.keep.new.link) (next_bodies u.device u.state) last.0 (c.carry_out_ahead.new.core.state, c.carry_out_ahead.new.link)) same
+    (subst (λ (bodies : List (List ℕ)). GoesAheadAndTalks (scheme_of g.S.Sealer.cipher c.keep.new.core) g.B.BatchLink.batches (c.keep.new.core.state, c.keep.new.link) bodies last.0 (c.carry_out_ahead.new.core.state, c.carry_out_ahead.new.link)) c.in_ok-fetches.ensures last.1) in
+    let talked = goes.talked in
     let now = process c.args.core.now.state c.keep.new.link c.keep.new.keeper in
     record {
-      noted = c.carry_out_all.ensures.noted _ (none_changed c.args.core.now c.keep.new.core (g.K.Keeper.kept_table c.keep.new.keeper) forgotten.0 forgotten.1);
+      noted = c.carry_out_ahead.ensures.noted _ (none_changed c.args.core.now c.keep.new.core (g.K.Keeper.kept_table c.keep.new.keeper) forgotten.0 forgotten.1);
       told = round_told g.B.BatchLink.batches g.B.BatchLink.notes g.B.BatchLink.tells g.met.B.BatchLink.batches_are_told (g.K.Keeper.kept_records c.keep.new.keeper) _
-          c.keep.new.link c.go_ahead.new.self c.carry_out_all.new.link _ c.go_ahead.ensures.0 _ _ _ c.go_ahead.ensures.1 last.1 c.in_ok-keep.ensures.told;
+          c.keep.new.link last.1.link c.carry_out_ahead.new.link _ last.1.exchanges _ _ _ last.1.went last.1.talked c.in_ok-keep.ensures.told;
       kept = (
         c.in-Err.ensures.kept.0 ∙ ap (λ (u : CoreValue g.row.S.Denot). u.device) same,
         c.in-Err.ensures.kept.1 ∙ ap (λ (u : CoreValue g.row.S.Denot). u.sealer) same,
@@ -167,14 +164,14 @@ returns-in-Err g c =
       block = tt;
       failed = tt;
       err = (
-        Keeps true ∷ GoesAhead sent.0 ∷ talked.acts,
-        inr (inr (GoesAhead sent.0 ∷ talked.acts, refl, (sent.0, talked.acts, refl, talks_keep_nothing g.B.BatchLink.batches v talked.acts _ _ talked.talks))),
+        Keeps true ∷ GoesAhead goes.exchanges ∷ talked.acts,
+        inr (inr (GoesAhead goes.exchanges ∷ talked.acts, refl, (goes.exchanges, talked.acts, refl, talks_keep_nothing g.B.BatchLink.batches v talked.acts _ _ talked.talks))),
         (
           now,
           keeps_noted g.B.BatchLink.batches g.B.BatchLink.notes g.B.BatchLink.learns g.K.Keeper.reads_back g.met.B.BatchLink.learning_sends_nothing v _ now kept.0 refl kept.1,
           (
-            process c.args.core.now.state c.go_ahead.new.self c.keep.new.keeper,
-            (((went, refl), refl), tt),
+            process c.args.core.now.state goes.link c.keep.new.keeper,
+            (((goes.went, refl), refl), tt),
             talks_beside g.B.BatchLink.batches g.B.BatchLink.notes g.B.BatchLink.learns g.K.Keeper.reads_back v c.keep.new.keeper talked.acts _ _ talked.talks,
           ),
         ),

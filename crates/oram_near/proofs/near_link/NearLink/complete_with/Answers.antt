@@ -18,7 +18,7 @@ returns g c =
     let inv = c.self.invariant in
     let at = made_with g.E.EmptyRecords.record_at in
     let fits = subst (λ (x : NearValue _ _). FitsTogether (of_maker g.E.EmptyRecords.device) (of_maker g.E.EmptyRecords.record_len) x) c.self.view_is
-    (fits_by (of_maker g.E.EmptyRecords.device) (of_maker g.E.EmptyRecords.record_len) i.inner (record { maker = i.empty; rest = rest_of i.near }) i.device i.near (texts i.unsure.items) inv.0 inv.1 inv.2 inv.3) in
+    (fits_by (of_maker g.E.EmptyRecords.device) (of_maker g.E.EmptyRecords.record_len) i.inner (record { maker = i.empty; rest = rest_of i.near }) i.device i.near (texts i.unsure.items) i.coming inv.0 inv.1 inv.2 inv.3) in
     let before = c.in_ok-answer.ensures in
     let laid = c.lay_over.ensures in
     let over : LaysOver l.device l.near.record_len c.args.tree c.args.leaf l.unsure before.0 laid.0 =

@@ -58,7 +58,7 @@ returns-in_err-reserve g c =
     let i = c.self.inside in
     let l : NearValue _ _ = c.args.self.now in
     let bodies = texts c.args.first.now ++ texts c.args.last.now in
-    let same = ap (λ (vs : List (Vec ℕ)). let x : NearValue _ _ = record { inner = i.inner; empty = record { maker = i.empty; rest = rest_of i.near }; device = i.device; near = i.near; unsure = map store_in (texts vs) } in x) c.reserve.ensures.items ∙ c.self.view_is in
+    let same = ap (λ (vs : List (Vec ℕ)). let x : NearValue _ _ = record { inner = i.inner; empty = record { maker = i.empty; rest = rest_of i.near }; device = i.device; near = i.near; unsure = map store_in (texts vs); coming = i.coming } in x) c.reserve.ensures.items ∙ c.self.view_is in
     let p = err_from_is_err_and c.from_residual-in_err-reserve.result c.from_residual-in_err-reserve.ensures.1 in
     rw (p.1, p.2) (subst (HasBatch g.B.BatchLink.batches (made_with g.E.EmptyRecords.record_at) l bodies (Err OutOfMemory)) (sym same)
     (declines g.B.BatchLink.batches (made_with g.E.EmptyRecords.record_at) l bodies OutOfMemory (inl refl)))
@@ -119,11 +119,11 @@ returns-in_err-give-in-Ok g c =
     let batch = batch_by g.B.BatchLink.batches i.inner c.call_all-outcome.new.self c.call_all-outcome.ensures.0 (texts c.deref-5.result.now) (texts c.deref-6.result.now) front sent (batch_outcome_of c.call_all-outcome.result) (Ok (texts c.in-Ok.answers.items))
     (ap texts c.deref-5.ensures.value) (ap texts c.deref-6.ensures.value) (ap batch_outcome_of c.in-Ok.is) c.call_all-outcome.ensures.1 in
     let bodies = texts c.args.first.now ++ texts c.args.last.now in
-    let same = c.give.ensures.same ∙ ap (λ (r : List ℕ). let x : NearValue _ _ = record { inner = c.call_all-outcome.new.self; empty = record { maker = i.empty; rest = r }; device = i.device; near = c.store_each.new.near; unsure = c.give.new.self.unsure } in x) c.store_each.ensures.rest in
+    let same = c.give.ensures.same ∙ ap (λ (r : List ℕ). let x : NearValue _ _ = record { inner = c.call_all-outcome.new.self; empty = record { maker = i.empty; rest = r }; device = i.device; near = c.store_each.new.near; unsure = c.give.new.self.unsure; coming = i.coming } in x) c.store_each.ensures.rest in
     let p = err_from_is_err_and c.from_residual-in_err-give-in-Ok.result c.from_residual-in_err-give-in-Ok.ensures.1 in
     rw (p.1, p.2) (subst (λ (l : NearValue _ _). HasBatch g.B.BatchLink.batches (made_with g.E.EmptyRecords.record_at) l bodies (Err OutOfMemory) c.give.new.self) c.self.view_is
-    (front_sent g.B.BatchLink.batches (made_with g.E.EmptyRecords.record_at) i.inner (record { maker = i.empty; rest = rest_of near }) i.device near c.give.new.self bodies old front sent requests (Err OutOfMemory) inv.2 paths inv.3 encoded is_front
-    (starved_by g.B.BatchLink.batches (made_with g.E.EmptyRecords.record_at) i.inner c.call_all-outcome.new.self (record { maker = i.empty; rest = rest_of near }) i.device near c.store_each.new.near front held sent bodies requests c.call_all-outcome.ensures.0 inv.2 c.in_ok-requests.ensures.0 paths in_order stored are encoded holds
+    (front_sent g.B.BatchLink.batches (made_with g.E.EmptyRecords.record_at) i.inner (record { maker = i.empty; rest = rest_of near }) i.device near i.coming c.give.new.self bodies old front sent requests (Err OutOfMemory) inv.2 paths inv.3 encoded is_front
+    (starved_by g.B.BatchLink.batches (made_with g.E.EmptyRecords.record_at) i.inner c.call_all-outcome.new.self (record { maker = i.empty; rest = rest_of near }) i.device near c.store_each.new.near i.coming front held sent bodies requests c.call_all-outcome.ensures.0 inv.2 c.in_ok-requests.ensures.0 paths in_order stored are encoded holds
     c.give.new.self (texts c.in-Ok.answers.items) same c.in_err-give-in-Ok.ensures.gives batch)))
 
 pub returns-in-Ok : goal.returns-in-Ok
@@ -147,21 +147,21 @@ returns-in-Ok g c =
     let batch = batch_by g.B.BatchLink.batches i.inner c.call_all-outcome.new.self c.call_all-outcome.ensures.0 (texts c.deref-5.result.now) (texts c.deref-6.result.now) front sent (batch_outcome_of c.call_all-outcome.result) (Ok (texts c.in-Ok.answers.items))
     (ap texts c.deref-5.ensures.value) (ap texts c.deref-6.ensures.value) (ap batch_outcome_of c.in-Ok.is) c.call_all-outcome.ensures.1 in
     let bodies = texts c.args.first.now ++ texts c.args.last.now in
-    let same = c.give.ensures.same ∙ ap (λ (r : List ℕ). let x : NearValue _ _ = record { inner = c.call_all-outcome.new.self; empty = record { maker = i.empty; rest = r }; device = i.device; near = c.store_each.new.near; unsure = c.give.new.self.unsure } in x) c.store_each.ensures.rest in
+    let same = c.give.ensures.same ∙ ap (λ (r : List ℕ). let x : NearValue _ _ = record { inner = c.call_all-outcome.new.self; empty = record { maker = i.empty; rest = r }; device = i.device; near = c.store_each.new.near; unsure = c.give.new.self.unsure; coming = i.coming } in x) c.store_each.ensures.rest in
     let gives = c.in_ok-give-in-Ok.ensures.gives in
     let n = c.len-before.result in
     let count : n ≡ length front =
     c.len-before.ensures ∙ sym c.deref-5.ensures.len ∙ ap length c.deref-5.ensures.value ∙ sym (length-map c.forget_repeated.new.stores.items (λ (v : Vec ℕ). v.items)) in
     let refused = subst (λ (vs : List (Vec ℕ)). IsRefusal (take n (texts vs) ++ store_answers requests (drop n (texts vs))) gives.0) c.deref-in-Ok-2.ensures.value
     (subst (λ (r : List PathMessage). IsRefusal (take n (texts c.deref-in-Ok-2.result.now) ++ store_answers (map request_of r) (drop n (texts c.deref-in-Ok-2.result.now))) gives.0) c.deref-in-Ok.ensures.value gives.1) in
-    let client = client_of (made_with g.E.EmptyRecords.record_at) (record { inner = c.call_all-outcome.new.self; empty = record { maker = i.empty; rest = rest_of c.store_each.new.near }; device = i.device; near = c.store_each.new.near; unsure = map store_in held }) in
+    let client = client_of (made_with g.E.EmptyRecords.record_at) (record { inner = c.call_all-outcome.new.self; empty = record { maker = i.empty; rest = rest_of c.store_each.new.near }; device = i.device; near = c.store_each.new.near; unsure = map store_in held; coming = i.coming }) in
     let answers_now = subst (λ (vs : List (Vec ℕ)). AreAnswered client gives.0 requests (drop n (texts vs)) (texts c.in_ok-give-in-Ok.field-0.items)) c.deref-in-Ok-2.ensures.value
     (subst (λ (r : List PathMessage). AreAnswered client gives.0 (map request_of r) (drop n (texts c.deref-in-Ok-2.result.now)) (texts c.in_ok-give-in-Ok.field-0.items)) c.deref-in-Ok.ensures.value gives.2) in
-    let answers = subst (λ (r : List ℕ). AreAnswered (client_of (made_with g.E.EmptyRecords.record_at) (record { inner = c.call_all-outcome.new.self; empty = record { maker = i.empty; rest = r }; device = i.device; near = c.store_each.new.near; unsure = map store_in held })) gives.0 requests (drop n (texts c.in-Ok.answers.items)) (texts c.in_ok-give-in-Ok.field-0.items))
+    let answers = subst (λ (r : List ℕ). AreAnswered (client_of (made_with g.E.EmptyRecords.record_at) (record { inner = c.call_all-outcome.new.self; empty = record { maker = i.empty; rest = r }; device = i.device; near = c.store_each.new.near; unsure = map store_in held; coming = i.coming })) gives.0 requests (drop n (texts c.in-Ok.answers.items)) (texts c.in_ok-give-in-Ok.field-0.items))
     c.store_each.ensures.rest answers_now in
     subst (λ (l : NearValue _ _). HasBatch g.B.BatchLink.batches (made_with g.E.EmptyRecords.record_at) l bodies (Ok (texts c.in_ok-give-in-Ok.field-0.items)) c.give.new.self) c.self.view_is
-    (front_sent g.B.BatchLink.batches (made_with g.E.EmptyRecords.record_at) i.inner (record { maker = i.empty; rest = rest_of near }) i.device near c.give.new.self bodies old front sent requests (Ok (texts c.in_ok-give-in-Ok.field-0.items)) inv.2 paths inv.3 encoded is_front
-    (given_by g.B.BatchLink.batches (made_with g.E.EmptyRecords.record_at) i.inner c.call_all-outcome.new.self (record { maker = i.empty; rest = rest_of near }) i.device near c.store_each.new.near front held sent bodies requests c.call_all-outcome.ensures.0 inv.2 c.in_ok-requests.ensures.0 paths in_order stored are encoded holds
+    (front_sent g.B.BatchLink.batches (made_with g.E.EmptyRecords.record_at) i.inner (record { maker = i.empty; rest = rest_of near }) i.device near i.coming c.give.new.self bodies old front sent requests (Ok (texts c.in_ok-give-in-Ok.field-0.items)) inv.2 paths inv.3 encoded is_front
+    (given_by g.B.BatchLink.batches (made_with g.E.EmptyRecords.record_at) i.inner c.call_all-outcome.new.self (record { maker = i.empty; rest = rest_of near }) i.device near c.store_each.new.near i.coming front held sent bodies requests c.call_all-outcome.ensures.0 inv.2 c.in_ok-requests.ensures.0 paths in_order stored are encoded holds
     c.give.new.self (texts c.in-Ok.answers.items) (texts c.in_ok-give-in-Ok.field-0.items) n gives.0 same count refused answers gives.3 batch))
 
 pub invariant_of-self-in-Err : goal.invariant_of-self-in-Err
@@ -211,10 +211,10 @@ returns g c =
     let batch = batch_by g.B.BatchLink.batches i.inner c.call_all-outcome.new.self c.call_all-outcome.ensures.0 (texts c.deref-5.result.now) (texts c.deref-6.result.now) front sent (batch_outcome_of c.call_all-outcome.result) (Err c.in-Err.fault)
     (ap texts c.deref-5.ensures.value) (ap texts c.deref-6.ensures.value) (ap batch_outcome_of c.in-Err.is) c.call_all-outcome.ensures.1 in
     let bodies = texts c.args.first.now ++ texts c.args.last.now in
-    let now : NearValue _ _ = record { inner = c.call_all-outcome.new.self; empty = record { maker = i.empty; rest = rest_of c.store_each.new.near }; device = i.device; near = c.store_each.new.near; unsure = map store_in held } in
-    let there : NearValue _ _ = record { inner = c.call_all-outcome.new.self; empty = record { maker = i.empty; rest = rest_of near }; device = i.device; near = c.store_each.new.near; unsure = map store_in held } in
+    let now : NearValue _ _ = record { inner = c.call_all-outcome.new.self; empty = record { maker = i.empty; rest = rest_of c.store_each.new.near }; device = i.device; near = c.store_each.new.near; unsure = map store_in held; coming = i.coming } in
+    let there : NearValue _ _ = record { inner = c.call_all-outcome.new.self; empty = record { maker = i.empty; rest = rest_of near }; device = i.device; near = c.store_each.new.near; unsure = map store_in held; coming = i.coming } in
     subst (λ (l : NearValue _ _). HasBatch g.B.BatchLink.batches (made_with g.E.EmptyRecords.record_at) l bodies (Err c.in-Err.fault) now) c.self.view_is
-    (subst (λ (r : List ℕ). HasBatch g.B.BatchLink.batches (made_with g.E.EmptyRecords.record_at) (record { inner = i.inner; empty = record { maker = i.empty; rest = rest_of near }; device = i.device; near = near; unsure = map store_in old }) bodies (Err c.in-Err.fault) (record { inner = c.call_all-outcome.new.self; empty = record { maker = i.empty; rest = r }; device = i.device; near = c.store_each.new.near; unsure = map store_in held })) (sym c.store_each.ensures.rest)
-    (front_sent g.B.BatchLink.batches (made_with g.E.EmptyRecords.record_at) i.inner (record { maker = i.empty; rest = rest_of near }) i.device near there bodies old front sent requests (Err c.in-Err.fault) inv.2 paths inv.3 encoded is_front
-    (lost_by g.B.BatchLink.batches (made_with g.E.EmptyRecords.record_at) i.inner c.call_all-outcome.new.self (record { maker = i.empty; rest = rest_of near }) i.device near c.store_each.new.near front held sent bodies requests c.call_all-outcome.ensures.0 inv.2 c.in_ok-requests.ensures.0 paths in_order stored are encoded holds
+    (subst (λ (r : List ℕ). HasBatch g.B.BatchLink.batches (made_with g.E.EmptyRecords.record_at) (record { inner = i.inner; empty = record { maker = i.empty; rest = rest_of near }; device = i.device; near = near; unsure = map store_in old; coming = i.coming }) bodies (Err c.in-Err.fault) (record { inner = c.call_all-outcome.new.self; empty = record { maker = i.empty; rest = r }; device = i.device; near = c.store_each.new.near; unsure = map store_in held; coming = i.coming })) (sym c.store_each.ensures.rest)
+    (front_sent g.B.BatchLink.batches (made_with g.E.EmptyRecords.record_at) i.inner (record { maker = i.empty; rest = rest_of near }) i.device near i.coming there bodies old front sent requests (Err c.in-Err.fault) inv.2 paths inv.3 encoded is_front
+    (lost_by g.B.BatchLink.batches (made_with g.E.EmptyRecords.record_at) i.inner c.call_all-outcome.new.self (record { maker = i.empty; rest = rest_of near }) i.device near c.store_each.new.near i.coming front held sent bodies requests c.call_all-outcome.ensures.0 inv.2 c.in_ok-requests.ensures.0 paths in_order stored are encoded holds
     c.in-Err.fault batch)))

@@ -49,12 +49,12 @@ returns-clause-ok g c =
     let stored = subst (λ (r : List PathMessage). FoldsTo {P = Near} (TakesNear i.device) near (map request_of r) c.store_each.new.near) c.deref-2.ensures.value c.store_each.ensures.stored in
     let bodies = texts c.args.stores.now in
     let now = held_in i.device near.levels near.record_len old held sent requests inv.2 paths inv.3 encoded holds in
-    let after : NearValue _ _ = record { inner = i.inner; empty = record { maker = i.empty; rest = rest_of c.store_each.new.near }; device = i.device; near = c.store_each.new.near; unsure = map store_in held } in
+    let after : NearValue _ _ = record { inner = i.inner; empty = record { maker = i.empty; rest = rest_of c.store_each.new.near }; device = i.device; near = c.store_each.new.near; unsure = map store_in held; coming = i.coming } in
     subst (λ (l : NearValue _ _). TakesUnsure l bodies after) c.self.view_is (record {
       requests = requests;
       named = sym (append-nil bodies) ∙ c.in_ok-requests.ensures.0;
       paths = paths;
       stored = stored;
       same = ap (λ (u : List LevelsMessage). let x : NearValue _ _ = record after { unsure = u } in x) now
-          ∙ ap (λ (r : List ℕ). let x : NearValue _ _ = record { inner = i.inner; empty = record { maker = i.empty; rest = r }; device = i.device; near = c.store_each.new.near; unsure = map store_in old ++ stores_among (map (far_of i.device near.levels near.record_len) requests) } in x) c.store_each.ensures.rest;
+          ∙ ap (λ (r : List ℕ). let x : NearValue _ _ = record { inner = i.inner; empty = record { maker = i.empty; rest = r }; device = i.device; near = c.store_each.new.near; unsure = map store_in old ++ stores_among (map (far_of i.device near.levels near.record_len) requests); coming = i.coming } in x) c.store_each.ensures.rest;
     })

@@ -24,7 +24,7 @@ returns g c =
     let inv = c.self.invariant in
     let at = made_with g.E.EmptyRecords.record_at in
     let fits = subst (λ (x : NearValue _ _). FitsTogether (of_maker g.E.EmptyRecords.device) (of_maker g.E.EmptyRecords.record_len) x) c.self.view_is
-    (fits_by (of_maker g.E.EmptyRecords.device) (of_maker g.E.EmptyRecords.record_len) i.inner (record { maker = i.empty; rest = rest_of i.near }) i.device i.near (texts i.unsure.items) inv.0 inv.1 inv.2 inv.3) in
+    (fits_by (of_maker g.E.EmptyRecords.device) (of_maker g.E.EmptyRecords.record_len) i.inner (record { maker = i.empty; rest = rest_of i.near }) i.device i.near (texts i.unsure.items) i.coming inv.0 inv.1 inv.2 inv.3) in
     let empties = empties_by (of_maker g.E.EmptyRecords.device) (of_maker g.E.EmptyRecords.record_len) at l fits (g.met.E.EmptyRecords.are_empty_records l.empty.maker l.empty.rest
     (subst (λ (x : NearValue _ _). length x.empty.rest ≡ g.E.EmptyRecords.rest_len x.empty.maker) c.self.view_is inv.4)) in
     let first : c.first_far.result ≡ first_far l.near.levels c.args.tree =

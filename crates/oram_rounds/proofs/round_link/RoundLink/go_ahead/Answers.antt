@@ -111,4 +111,4 @@ returns-in_default g c =
     let batch = subst (λ (o : BatchOutcome). batches i.inner (texts fetches ++ texts (take k i.stores.items)) o sent.0 c.call_all.new.self) (ap batch_outcome_of c.in_default.is)
     (subst (λ (all : List (Vec ℕ)). batches i.inner (texts all ++ texts (take k i.stores.items)) (batch_outcome_of c.call_all.result) sent.0 c.call_all.new.self) c.deref-2.ensures.value
     (subst (λ (all : List (Vec ℕ)). batches i.inner (texts c.deref-2.result.now ++ texts (take k all)) (batch_outcome_of c.call_all.result) sent.0 c.call_all.new.self) c.deref-3.ensures.value sent.1)) in
-    (sent.0, goes_lost batches _ _ c.self.view_is (texts fetches) c.call_all.new.self sent.0 c.in_default.field-0 some paths batch c.none.result c.none.ensures)
+    (sent.0, goes_lost batches g.met.B.BatchLink.are_batches _ _ c.self.view_is (texts fetches) c.call_all.new.self sent.0 c.in_default.field-0 some paths batch c.none.result c.none.ensures)
