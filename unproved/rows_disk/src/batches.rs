@@ -1,9 +1,10 @@
 //! Batches over connections to a host in memory.
 
 use crate::far_end::{Answers, FarEnd, HostBehaviour, Messages};
-use crate::links::write_answers;
+use crate::links::{write_answer, write_answers};
 use oram_client::{
-    AnswerLengths, Dial, HostWatch, Limits, ReconnectLink, Sending, StreamBatches, Trouble,
+    AnswerLengths, Dial, HostWatch, Limits, Progress, ReconnectLink, Sending, StreamBatches,
+    Trouble,
 };
 use oram_geometry::Device;
 use oram_pipeline::PipelinedLink;
@@ -14,7 +15,7 @@ use std::alloc::{AllocError, Global};
 use std::cell::RefCell;
 
 /// Returns how long the answers of the host of a disk of one block are. A path has one record of 88 bytes.
-fn lengths() -> Option<AnswerLengths> {
+pub fn lengths() -> Option<AnswerLengths> {
     let device = Device::new(1, 16, 1, 1, 1).ok()?;
     Some(AnswerLengths::new(device, 0))
 }
@@ -44,11 +45,17 @@ impl<'a> Dial for Connections<'a> {
 
     ghost asks = { λ _ _ _ _. ⊤ };
 
+    ghost streams = { λ _ _ _ _ _ _ _. ⊤ };
+
     ghost notes = { λ _. [] };
 
     ghost learns = { λ d _ e. e ≡ d };
 
     ghost are_batches = { plainly_are_batches };
+
+    ghost counts_answers = { counts_answers };
+
+    ghost ends_carried = { ends_carried };
 
     fn dial(
         &mut self,
@@ -106,6 +113,38 @@ impl<'a> Dial for Connections<'a> {
         }
     }
 
+    fn begin(
+        &mut self,
+        alloc: Global,
+        line: &mut StreamBatches<Answers<'a>, Messages<'a>>,
+        first: &[Vec<u8>],
+        last: &[Vec<u8>],
+    ) -> Result<Progress, Trouble> {
+        match line.begin_between(alloc, &[], first, &[], last) {
+            Ok(()) => Ok(Progress {
+                left: first.len().saturating_add(last.len()),
+                no_room: false,
+                begun: None,
+                done: None,
+            }),
+            Err(fault) => Err(Trouble::OutOfReach(fault)),
+        }
+    }
+
+    fn next_answer(
+        &mut self,
+        alloc: Global,
+        line: &mut StreamBatches<Answers<'a>, Messages<'a>>,
+        progress: &mut Progress,
+        body: &[u8],
+    ) -> Result<Vec<u8>, Trouble> {
+        progress.left = progress.left.saturating_sub(1);
+        match line.next_answer(alloc, body) {
+            Ok(answer) => Ok(answer),
+            Err(fault) => Err(Trouble::OutOfReach(fault)),
+        }
+    }
+
     fn note(&self, alloc: Global) -> Result<Vec<u8>, AllocError> {
         Ok(Vec::new(alloc))
     }
@@ -121,7 +160,7 @@ impl<'a> Dial for Connections<'a> {
 
 /// Notes no trouble.
 #[derive(Drop)]
-struct NoWatch;
+pub struct NoWatch;
 
 impl HostWatch for NoWatch {
     fn lost(&mut self) {}
@@ -193,6 +232,83 @@ pub fn asks(alloc: Global, words: &mut RowWords, page: &mut Page) -> Result<(), 
     let digits = words.text().as_bytes();
     let far = RefCell::new(FarEnd::new(alloc, 0, HostBehaviour::Honest));
     send_ahead(alloc, &far, digits, words, page)
+}
+
+/// Begins a batch with these messages over an open connection that takes all of them, and writes their answers one by one. If the batch breaks
+/// off, the messages that have no answer are sent again. Writes `again` before their answers.
+pub fn take_one_by_one<D: Dial, W: HostWatch>(
+    alloc: Global,
+    link: &mut ReconnectLink<D, W>,
+    mut messages: Vec<Vec<u8>>,
+    page: &mut Page,
+) -> Result<(), RowFault> {
+    let Some(last) = messages.pop() else {
+        return Err(RowFault::NoRow);
+    };
+    // Nothing else keeps the link from it.
+    if !link.begin(alloc, &messages, &[last.to_vec(alloc)?]) {
+        return Err(RowFault::OutOfMemory);
+    }
+    if messages.push(last).is_err() {
+        return Err(RowFault::OutOfMemory);
+    }
+    let mut given: usize = 0;
+    let mut goes_on = true;
+    while goes_on && given < messages.len() {
+        let outcome = link.next_answer(alloc, &messages[given]);
+        goes_on = outcome.is_ok();
+        if goes_on {
+            given = given.saturating_add(1);
+        }
+        write_answer(alloc, outcome, page)?;
+    }
+    if given < messages.len() {
+        page.word("again");
+        write_answers(link.call_all(alloc, &[], &messages[given..]), page)?;
+    }
+    Ok(())
+}
+
+/// Sends a first message as a batch, and begins a batch with the others.
+fn send_begun(
+    alloc: Global,
+    far: &RefCell<FarEnd>,
+    digits: &[u8],
+    words: &mut RowWords,
+    page: &mut Page,
+) -> Result<(), RowFault> {
+    let mut messages = words.bodies(alloc);
+    if messages.is_empty() {
+        return Err(RowFault::NoRow);
+    }
+    let first = messages.remove(0);
+    let dialer = Connections {
+        far,
+        digits,
+        opened: 0,
+    };
+    let mut link = ReconnectLink::new(alloc, dialer, NoWatch, 1);
+    let outcome = link.call_all(alloc, &[], &[first]);
+    write_answers(outcome, page)?;
+    let taken = take_one_by_one(alloc, &mut link, messages, page);
+    let Ok(far) = far.try_borrow() else {
+        return Err(RowFault::NoRow);
+    };
+    if far.lacks_memory() {
+        return Err(RowFault::OutOfMemory);
+    }
+    taken?;
+    page.word("answered");
+    page.number(far.answered());
+    Ok(())
+}
+
+/// `link begins DIGITS MESSAGES`: as `talks`, but the first message is a batch of its own, and the answers to the others are taken one by one. If that
+/// batch breaks off, the rest of it is sent again.
+pub fn begins(alloc: Global, words: &mut RowWords, page: &mut Page) -> Result<(), RowFault> {
+    let digits = words.text().as_bytes();
+    let far = RefCell::new(FarEnd::new(alloc, 0, HostBehaviour::Honest));
+    send_begun(alloc, &far, digits, words, page)
 }
 
 /// Sends all messages but the last one in a list, and the last one in another. Writes the answers, and how many messages the

@@ -1,7 +1,7 @@
 //! A link that tries until its host answers.
 
-use crate::batches;
-use oram_client::{Dial, HostWatch, Limits, ReconnectLink, Sending, Trouble};
+use crate::{batches, stamped_links};
+use oram_client::{Dial, HostWatch, Limits, Progress, ReconnectLink, Sending, Trouble};
 use oram_host::HostRefusal;
 use oram_pipeline::PipelinedLink;
 use oram_rounds::{BatchLink, OneByOne};
@@ -127,7 +127,8 @@ impl<'a> Link for Way<'a> {
 }
 
 /// Opens connections by the letters, and sends messages ahead by them. For `p` it sends them, for `u` they have to go otherwise, for `m`
-/// memory runs out, and for any other letter sending fails. For `o` it opens one. For `d` the host keeps another disk, for `n` it keeps none, and for
+/// memory runs out, and for any other letter sending fails. For `g` it begins a batch, for `m` memory runs out there, and for any other letter
+/// it fails. For `o` it opens one. For `d` the host keeps another disk, for `n` it keeps none, and for
 /// `r` it has no room. For `s` the host gives no answer within the limit, for `m` memory runs out, for `w` the try fails after
 /// some time, and for any other letter at once.
 #[derive(Drop)]
@@ -150,11 +151,17 @@ impl<'a> Dial for Script<'a> {
 
     ghost asks = { λ _ _ _ _. ⊤ };
 
+    ghost streams = { λ _ _ _ _ _ _ _. ⊤ };
+
     ghost notes = { λ _. [] };
 
     ghost learns = { λ d _ e. e ≡ d };
 
     ghost are_batches = { plainly_are_batches };
+
+    ghost counts_answers = { counts_answers };
+
+    ghost ends_carried = { ends_carried };
 
     fn dial(&mut self, _alloc: Global, limits: Limits) -> Result<OneByOne<Way<'a>>, Trouble> {
         add(&self.0.tries, 1);
@@ -217,6 +224,39 @@ impl<'a> Dial for Script<'a> {
     ) -> Result<Vec<Vec<u8>>, Trouble> {
         match line.call_all(alloc, &[], bodies) {
             Ok(answers) => Ok(answers),
+            Err(fault) => Err(Trouble::OutOfReach(fault)),
+        }
+    }
+
+    fn begin(
+        &mut self,
+        _alloc: Global,
+        _line: &mut OneByOne<Way<'a>>,
+        first: &[Vec<u8>],
+        last: &[Vec<u8>],
+    ) -> Result<Progress, Trouble> {
+        match self.0.next() {
+            b'g' => Ok(Progress {
+                left: first.len().saturating_add(last.len()),
+                no_room: false,
+                begun: None,
+                done: None,
+            }),
+            b'm' => Err(Trouble::OutOfReach(LinkFault::OutOfMemory)),
+            _ => Err(Trouble::OutOfReach(LinkFault::Io)),
+        }
+    }
+
+    fn next_answer(
+        &mut self,
+        alloc: Global,
+        line: &mut OneByOne<Way<'a>>,
+        progress: &mut Progress,
+        body: &[u8],
+    ) -> Result<Vec<u8>, Trouble> {
+        progress.left = progress.left.saturating_sub(1);
+        match line.next_answer(alloc, body) {
+            Ok(answer) => Ok(answer),
             Err(fault) => Err(Trouble::OutOfReach(fault)),
         }
     }
@@ -301,9 +341,23 @@ fn write_batch(
     }
 }
 
+/// Writes the answer to one message of a batch, or why it is missing.
+pub fn write_answer(
+    alloc: Global,
+    outcome: Result<Vec<u8>, LinkFault>,
+    page: &mut Page,
+) -> Result<(), RowFault> {
+    let answers = match outcome {
+        Ok(answer) => Ok(vec![in alloc; answer]?),
+        Err(fault) => Err(fault),
+    };
+    write_answers(answers, page)
+}
+
 /// Does with the link what a word says: it makes a `call` with an empty message, sends a `batch FIRST LAST` of two lists
 /// with FIRST and LAST messages that are their own numbers, tries to `reach` the host, or stays `idle` for a thousand seconds. Or it does an
-/// `ask COUNT`: it sends so many messages ahead; and then `answers COUNT` receives their answers.
+/// `ask COUNT`: it sends so many messages ahead; and then `answers COUNT` receives their answers. Or it does a `begin FIRST LAST`: it begins such a
+/// batch, if it can; and then `next MESSAGE` gives the answer to one of its messages.
 fn ask<'a>(
     alloc: Global,
     link: &mut ReconnectLink<Script<'a>, News<'a>>,
@@ -323,6 +377,22 @@ fn ask<'a>(
             let asked = numbered(alloc, 0x30, words.number())?;
             write_batch(play, link.answers(alloc, &asked), page)?;
         }
+        "begin" => {
+            let first = numbered(alloc, 0x10, words.number())?;
+            let last = numbered(alloc, 0x20, words.number())?;
+            page.word(if link.begin(alloc, &first, &last) {
+                "begun"
+            } else {
+                "not"
+            });
+        }
+        "next" => match link.next_answer(alloc, &words.bytes(alloc)) {
+            Ok(answer) => page.bytes(&answer),
+            Err(LinkFault::OutOfMemory) if play.short.get() == 0 => {
+                return Err(RowFault::OutOfMemory);
+            }
+            Err(fault) => page.show(&fault),
+        },
         "reach" => match link.reach(alloc) {
             Ok(()) => page.word("reached"),
             Err(trouble) if trouble.lacks_memory() && play.short.get() == 0 => {
@@ -399,6 +469,8 @@ pub fn answer(
         "plays" => plays(alloc, words, page),
         "talks" => batches::talks(alloc, words, page),
         "asks" => batches::asks(alloc, words, page),
+        "begins" => batches::begins(alloc, words, page),
+        "stamped" => stamped_links::stamped(alloc, words, page),
         "refused" => batches::refused(alloc, words, page),
         "long" => batches::long(alloc, words, page),
         _ => Err(RowFault::NoRow),

@@ -11,6 +11,7 @@ mod heads;
 mod introductions;
 mod keepers;
 mod links;
+mod stamped_links;
 mod stamps;
 mod stopping_disk;
 mod volumes;

@@ -225,6 +225,8 @@ impl BatchLink for EmptyHost {
 
     ghost batches = { λ l bodies o exchanges m. IsBatch bodies o exchanges };
 
+    ghost streams = { λ l bodies answers m. ⊥ };
+
     ghost notes = { λ l. record { text = []; records = [] } };
 
     ghost tells = { λ l old. ⊤ };
@@ -232,6 +234,8 @@ impl BatchLink for EmptyHost {
     ghost learns = { λ l check m. m ≡ l };
 
     ghost are_batches = { λ l m bodies o exchanges h. h };
+
+    ghost ends_as_batch = { λ l m bodies answers h count. absurd h };
 
     ghost learning_sends_nothing = { λ l m check same. inl same };
 
@@ -260,6 +264,14 @@ impl BatchLink for EmptyHost {
         }
         push(&mut self.batches, asked)?;
         Ok(answers)
+    }
+
+    fn begin(&mut self, _alloc: Global, _first: &[Vec<u8>], _last: &[Vec<u8>]) -> bool {
+        false
+    }
+
+    fn next_answer(&mut self, _alloc: Global, _body: &[u8]) -> Result<Vec<u8>, LinkFault> {
+        Err(LinkFault::Closed)
     }
 
     fn note(&self, alloc: Global) -> Result<Vec<u8>, AllocError> {

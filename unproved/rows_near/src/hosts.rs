@@ -17,10 +17,14 @@ pub(crate) enum Way {
     Loses { heard: u64 },
     /// Message `at` is answered with these bytes, and isn't carried out.
     Answers { at: u64, bytes: Vec<u8> },
+    /// The first `heard` ones are carried out, and the first `given` ones of these are answered.
+    Breaks { given: u64, heard: u64 },
+    /// A batch can't be begun: nothing is sent.
+    Declines,
 }
 
 impl Way {
-    /// Makes a way from the next words: `honest`, `loses HEARD` or `answers AT BYTES`.
+    /// Makes a way from the next words: `honest`, `loses HEARD`, `answers AT BYTES`, `breaks GIVEN HEARD` or `declines`.
     pub(crate) fn read(alloc: Global, words: &mut RowWords) -> Result<Way, RowFault> {
         match words.text() {
             "honest" => Ok(Way::Honest),
@@ -31,6 +35,11 @@ impl Way {
                 at: words.number(),
                 bytes: words.bytes(alloc),
             }),
+            "breaks" => Ok(Way::Breaks {
+                given: words.number(),
+                heard: words.number(),
+            }),
+            "declines" => Ok(Way::Declines),
             _ => Err(RowFault::NoRow),
         }
     }
@@ -53,6 +62,10 @@ pub(crate) struct Host {
     way: Way,
     /// The messages of the last batch.
     pub(crate) sent: Vec<Vec<u8>>,
+    /// Whether a batch was to be begun since the way was set.
+    pub(crate) asked: bool,
+    /// The answers that weren't taken yet, of a batch whose answers are taken one by one. Those that are lost are `None`.
+    to_come: Vec<Option<Vec<u8>>>,
 }
 
 impl Host {
@@ -63,6 +76,8 @@ impl Host {
             stored: Vec::new(alloc),
             way: Way::Honest,
             sent: Vec::new(alloc),
+            asked: false,
+            to_come: Vec::new(alloc),
         }
     }
 
@@ -145,13 +160,14 @@ impl Host {
         body: &[u8],
     ) -> Result<Option<Vec<u8>>, LinkFault> {
         match &self.way {
-            Way::Loses { heard } if number >= *heard => return Ok(None),
+            Way::Loses { heard } | Way::Breaks { heard, .. } if number >= *heard => return Ok(None),
             Way::Answers { at, bytes } if number == *at => return Ok(Some(bytes.to_vec(alloc)?)),
             _ => {}
         }
         let answer = self.carry_out(alloc, body)?;
         Ok(match self.way {
             Way::Loses { .. } => None,
+            Way::Breaks { given, .. } if number >= given => None,
             _ => Some(answer),
         })
     }
@@ -179,6 +195,43 @@ impl Host {
             Err(LinkFault::Io)
         } else {
             Ok(answers)
+        }
+    }
+
+    /// Receives the messages of a batch whose answers are taken one by one. Returns whether it has.
+    fn begin(
+        &mut self,
+        alloc: Global,
+        first: &[Vec<u8>],
+        last: &[Vec<u8>],
+    ) -> Result<bool, LinkFault> {
+        self.asked = true;
+        self.sent.clear();
+        self.to_come.clear();
+        if matches!(self.way, Way::Declines) {
+            return Ok(false);
+        }
+        for bodies in [first, last] {
+            for body in bodies {
+                let number = self.sent.len() as u64;
+                push(&mut self.sent, body.to_vec(alloc)?)?;
+                let answer = self.answer(alloc, number, body)?;
+                if self.to_come.push(answer).is_err() {
+                    return Err(LinkFault::OutOfMemory);
+                }
+            }
+        }
+        Ok(true)
+    }
+
+    /// Returns the next answer of the batch that was begun.
+    fn next_answer(&mut self) -> Result<Vec<u8>, LinkFault> {
+        if self.to_come.is_empty() {
+            return Err(LinkFault::Closed);
+        }
+        match self.to_come.remove(0) {
+            Some(answer) => Ok(answer),
+            None => Err(LinkFault::Io),
         }
     }
 }
@@ -220,6 +273,7 @@ impl HostPlace {
     pub(crate) fn set(&self, way: Way) -> Result<(), RowFault> {
         let mut host = self.take()?;
         host.way = way;
+        host.asked = false;
         host.sent.clear();
         self.put(host);
         Ok(())
@@ -234,10 +288,12 @@ pub(crate) struct HostLink<'a> {
 
 impl BatchLink for HostLink<'_> {
     ghost use Rattle.std.specs.Prelude.{◌≡◌, [], ⊤};
-    ghost use Rattle.std.proofs.Common.{inl};
-    ghost use Rattle.oram_rounds.specs.Batches.{IsBatch};
+    ghost use Rattle.std.proofs.Common.{inl, refl};
+    ghost use Rattle.oram_rounds.specs.Batches.{IsBatch, answered};
 
     ghost batches = { λ l bodies o exchanges m. IsBatch bodies o exchanges };
+
+    ghost streams = { λ l bodies answers m. ⊤ };
 
     ghost notes = { λ l. record { text = []; records = [] } };
 
@@ -246,6 +302,8 @@ impl BatchLink for HostLink<'_> {
     ghost learns = { λ l check m. m ≡ l };
 
     ghost are_batches = { λ l m bodies o exchanges h. h };
+
+    ghost ends_as_batch = { λ l m bodies answers h count. (answered bodies answers, (count, [], tt, refl)) };
 
     ghost learning_sends_nothing = { λ l m check same. inl same };
 
@@ -265,6 +323,24 @@ impl BatchLink for HostLink<'_> {
         let outcome = host.answer_all(alloc, first, last);
         self.place.put(host);
         outcome
+    }
+
+    fn begin(&mut self, alloc: Global, first: &[Vec<u8>], last: &[Vec<u8>]) -> bool {
+        let Some(mut host) = self.place.host.take() else {
+            return false;
+        };
+        let begun = host.begin(alloc, first, last);
+        self.place.put(host);
+        matches!(begun, Ok(true))
+    }
+
+    fn next_answer(&mut self, _alloc: Global, _body: &[u8]) -> Result<Vec<u8>, LinkFault> {
+        let Some(mut host) = self.place.host.take() else {
+            return Err(LinkFault::Closed);
+        };
+        let answer = host.next_answer();
+        self.place.put(host);
+        answer
     }
 
     fn note(&self, alloc: Global) -> Result<Vec<u8>, AllocError> {

@@ -79,6 +79,8 @@ impl<'a> Links<'a> {
             "begin" => self.begin(alloc, words, page),
             "resume" => self.resume(alloc, words, page),
             "call" => self.call(alloc, words, page),
+            "stream" => self.stream(alloc, words, page),
+            "unbegun" => self.unbegun(alloc, words, page),
             "near" => self.near(page),
             "changes" => self.changes(page),
             "forget" => self.forget(page),
@@ -158,6 +160,72 @@ impl<'a> Links<'a> {
             Err(LinkFault::OutOfMemory) => return Err(RowFault::OutOfMemory),
             Err(fault) => page.fault(fault),
         }
+        page.part();
+        self.sent(page)
+    }
+
+    /// `stream WAY FIRST BODY ..`: begins a batch, and takes its answers one by one until one doesn't come. Writes the answers, the fault, and which
+    /// messages the host was sent. If no batch is begun, memory has run out.
+    fn stream(
+        &mut self,
+        alloc: Global,
+        words: &mut RowWords,
+        page: &mut Page,
+    ) -> Result<(), RowFault> {
+        self.place.set(Way::read(alloc, words)?)?;
+        let first = words.size();
+        let bodies = words.bodies(alloc);
+        if first > bodies.len() {
+            return Err(RowFault::NoRow);
+        }
+        let link = self.link()?;
+        if !link.begin(alloc, &bodies[..first], &bodies[first..]) {
+            return Err(RowFault::OutOfMemory);
+        }
+        for body in &bodies {
+            match link.next_answer(alloc, body) {
+                Ok(answer) => page.bytes(&answer),
+                Err(LinkFault::OutOfMemory) => return Err(RowFault::OutOfMemory),
+                Err(fault) => {
+                    page.fault(fault);
+                    break;
+                }
+            }
+        }
+        page.part();
+        self.sent(page)
+    }
+
+    /// `unbegun WAY FIRST BODY ..`: tries to begin a batch, where none is begun. Writes whether the link below was asked to begin one, and which
+    /// messages the host was sent. A way by which it declines needs that it was asked; if not, memory has run out.
+    fn unbegun(
+        &mut self,
+        alloc: Global,
+        words: &mut RowWords,
+        page: &mut Page,
+    ) -> Result<(), RowFault> {
+        let way = Way::read(alloc, words)?;
+        let declines = matches!(way, Way::Declines);
+        self.place.set(way)?;
+        let first = words.size();
+        let bodies = words.bodies(alloc);
+        if first > bodies.len() {
+            return Err(RowFault::NoRow);
+        }
+        let begun = self
+            .link()?
+            .begin(alloc, &bodies[..first], &bodies[first..]);
+        let host = self.place.take()?;
+        let asked = host.asked;
+        self.place.put(host);
+        if declines && !asked {
+            return Err(RowFault::OutOfMemory);
+        }
+        page.word(match (begun, asked) {
+            (true, _) => "begun",
+            (false, true) => "declined",
+            (false, false) => "unasked",
+        });
         page.part();
         self.sent(page)
     }
