@@ -5,7 +5,10 @@ import threading
 import time
 from queue import Queue
 
-CHUNK = 1 << 16
+# How many bytes the line takes in at once. They are passed on together, so a greater number would delay the first of them.
+CHUNK = 1 << 14
+# How many bytes the line holds, each way, beside those that are under way: as many as the buffers of a network's devices do.
+HELD = 1 << 18
 
 
 class Frames:
@@ -56,9 +59,13 @@ class Line(threading.Thread):
             for stream in (near, far):
                 stream.setsockopt(socket.IPPROTO_TCP, socket.TCP_NODELAY, 1)
             for ends in ((near, far), (far, near)):
-                queue, frames = Queue(), self.frames if ends[0] is near else Frames()
+                queue, frames = Queue(self.most_chunks()), self.frames if ends[0] is near else Frames()
                 threading.Thread(target=self.hear, args=(ends[0], queue, frames), daemon=True).start()
                 threading.Thread(target=self.pass_on, args=(queue, ends[1]), daemon=True).start()
+
+    def most_chunks(self):
+        """How many chunks are under way and held at most, each way; 0 if there is no limit."""
+        return int((self.rate * self.delay / 8 + HELD) // CHUNK) if self.rate < float("inf") else 0
 
     def hear(self, stream, queue, frames):
         while True:

@@ -1,11 +1,12 @@
 -- A batch whose messages were sent, by what was received.
-use Rattle.std.proofs.Common.{◌≡◌, ◌||◌, ℕ, Bool, false, List, Option, Result, Ok, Err, inr, refl, ap, ◌∙◌, subst}
+use Rattle.std.proofs.Common.{◌≡◌, ◌||◌, ℕ, Bool, false, List, [], Option, Result, Ok, Err, inr, refl, ap, ◌∙◌, subst}
 use Rattle.std.specs.Prelude.{IfOk, IfErr, MatchBool, is_err}
 use Rattle.std.specs.Global.{Vec}
 use Rattle.oram_session.specs.declared.link.LinkFault.{LinkFault}
 use Rattle.oram_link_laws.specs.Runs.{Exchange}
 use Rattle.oram_rounds.specs.Batches.{answered, batch_outcome_of, texts}
 use Rattle.oram_client.specs.AnswerLengths.{longest_answer}
+use Rattle.oram_client.specs.BatchExchanges.{sends_all}
 use Rattle.oram_client.specs.StreamBatches.{AreReceived, AreSent, Carries, Connection, IsClosed, StopsAfter, StreamBatch, cut_short}
 
 -- a result fails if its outcome does
@@ -22,7 +23,7 @@ module _ {R W : Type 0} (remaining : R → Option (List ℕ)) (contents : W → 
   carried (Ok answers) bodies longest reader reader' writer writer' sent received stops =
       (answered bodies (texts answers.items), (record { sent = sent; received = received }, refl))
   carried (Err fault) bodies longest reader reader' writer writer' sent received stops =
-      (cut_short bodies stops.0 fault, (stops.0, refl, inr (record { sent = sent; stops = stops.1 })))
+      (cut_short bodies stops.0 fault, (stops.0, refl, inr (record { unsent = []; sends = sends_all contents writer writer' bodies sent; stops = stops.1 })))
 
   -- a batch over an open connection, which a fault closes
   pub a_batch : (l m : Connection R W) (bodies : List (List ℕ)) (result : Result (Vec (Vec ℕ)) LinkFault) (exchanges : List Exchange) → false ≡ l.closed → m.closed ≡ is_err result → m.disk ≡ l.disk

@@ -7,6 +7,7 @@ pub mod Introduced
 pub mod Greeted
 pub mod Tries
 pub mod TakenIn
+pub mod Writing
 pub mod SentAhead
 pub mod TakenAnswers
 pub mod AskedAhead

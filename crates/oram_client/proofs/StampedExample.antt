@@ -1,5 +1,5 @@
 -- A batch between its stamps, over a connection that leads to a host.
-use Rattle.std.proofs.Common.{◌≡◌, ◌≢◌, ℕ, ◌<◌, ◌≤◌, ◌^◌, cond, true, false, List, [], ◌∷◌, ◌++◌, length, drop, take, Ok, Err, Option, Some, refl, sym, ap, ◌∙◌, subst, inl, inr, arith, lit≤, suc, length-append}
+use Rattle.std.proofs.Common.{append-nil, flat_map, ◌≡◌, ◌≢◌, ℕ, ◌<◌, ◌≤◌, ◌^◌, cond, true, false, List, [], ◌∷◌, ◌++◌, length, drop, take, Ok, Err, Option, Some, refl, sym, ap, ◌∙◌, subst, inl, inr, arith, lit≤, suc, length-append}
 use Rattle.std.specs.BTreeMap.{is_at}
 use Rattle.std.specs.Int.{w32, from_be_bytes, to_be_bytes}
 use Rattle.std.specs.List.{All}
@@ -37,7 +37,7 @@ use Rattle.oram_client.specs.AnswerLengths.{longest_answer}
 use Rattle.oram_client.specs.OneHost.{LeadsToHost, this_disk}
 use Rattle.oram_client.specs.StampMessages.{stamp_put}
 use Rattle.oram_client.specs.Stamped.{IsBetween, IsStopped}
-use Rattle.oram_client.specs.StampedHost.{StampedBatchExample, answered_dialer, asking_dialer, fetched_in_vain, full_line, second_stamp, stamped_answers, stamped_dialer, stamped_host, stamped_line, stamped_messages, stamped_way, zero_key}
+use Rattle.oram_client.specs.StampedHost.{StampedBatchExample, answered_dialer, asking_dialer, fetched_in_vain, full_line, second_stamp, stamped_answers, stamped_dialer, stamped_host, stamped_line, stamped_messages, stamped_way, stopped_way, zero_key}
 use Rattle.oram_client.specs.StreamBatches.{StreamBatch}
 use Rattle.oram_client.specs.TreesApart.{AgreeBeside, fetched_alone, no_stamps, one_path, one_record}
 use Rattle.oram_client.specs.declared.dialer.Trouble.TheVariants.{NoRoom}
@@ -234,16 +234,17 @@ between_stamps = record {
   is_batch = (refl, [], tt, refl);
 }
 
-stopped : IsStopped known known stamped_dialer full_line (fetch_body 0 0 ∷ []) (Err NoRoom) fetched_in_vain asking_dialer stamped_way
+stopped : IsStopped known known stamped_dialer full_line (fetch_body 0 0 ∷ []) (Err NoRoom) fetched_in_vain asking_dialer stopped_way
 stopped = record {
   known = asking_dialer.known;
   sent = inl ((omega arith, (refl, omega arith)), refl);
   answer = no_room_answer;
   read = record {
     was_open = refl;
-    is_open = refl;
     disk = refl;
-    sent = record { fit = all_fit; wrote = refl };
+    sends = record { fit = all_fit; wrote = (flat_map frame stamped_messages, refl, append-nil (flat_map frame stamped_messages)) };
+    count = refl;
+    awaits = lit≤ tt;
     received = record { count = refl; read = (All-cons IsBody no_room_answer [] (lit≤ tt) (All-nil IsBody), refl); within = (lit≤ tt, tt) };
   };
   trouble = NoRoom;

@@ -235,7 +235,7 @@ abbrev second_line : Bytes
 second_line = connection (done_frame ++ path_frame) [] this_disk
 
 abbrev first_done : Bytes
-first_done = record { reader = []; writer = sent; disk = this_disk; closed = true }
+first_done = record { reader = []; writer = sent; disk = this_disk; closed = true; due = record { unsent = []; left = 0 } }
 
 abbrev first_exchanges : List Exchange
 first_exchanges = (store_body 0 0 ones, Ok done_answer) ∷ (fetch_body 0 0, Err Closed) ∷ []
@@ -258,7 +258,8 @@ first_batch = record {
     done_answer ∷ [],
     refl,
     inr (record {
-      sent = record { fit = two_fit (store_body 0 0 ones) (fetch_body 0 0) (lit≤ tt) (lit≤ tt); wrote = refl };
+      unsent = [];
+      sends = record { fit = two_fit (store_body 0 0 ones) (fetch_body 0 0) (lit≤ tt) (lit≤ tt); wrote = (sent, refl, refl) };
       stops = record {
         first = store_body 0 0 ones ∷ [];
         next = fetch_body 0 0;

@@ -1,8 +1,10 @@
 -- The exchanges of a batch over a connection, and those of a batch over a link that tries until its host answers, are such as
 -- `IsBatch` allows.
-use Rattle.std.proofs.Common.{◌≡◌, ◌≤◌, ◌||◌, ℕ, Bool, true, false, List, [], ◌∷◌, ◌++◌, length, take, take_all, Option, None, Some, Ok, Err, MatchOption, inl, inr, refl, sym, ap, ◌∙◌, subst, append_assoc}
+use Rattle.std.proofs.Common.{◌≡◌, ◌≤◌, ◌||◌, ℕ, Bool, true, false, List, [], ◌∷◌, ◌++◌, length, take, take_all, ◌<◌, Option, None, Some, Ok, Err, MatchOption, inl, inr, refl, sym, ap, ◌∙◌, subst, append_assoc, append-nil, arith}
 use Rattle.std.specs.List.{FoldsTo, flat_map}
 use Rattle.std.specs.Prelude.{MatchBool}
+use Rattle.std.specs.Io.KnownBytes.{Appends}
+use Rattle.oram_wire.specs.FrameStream.{frame}
 use Rattle.std.proofs.Math.Nat.{le_refl}
 use Rattle.oram_rounds.specs.Streams.{EndsAsBatch}
 use Rattle.oram_session.specs.declared.link.LinkFault.{LinkFault}
@@ -16,7 +18,7 @@ use Rattle.oram_client.specs.declared.dialer.Limits.{Limits}
 use Rattle.oram_client.specs.declared.dialer.Trouble.{Trouble}
 use Rattle.oram_client.specs.Reconnect.{DialerKind, IsDelayed, IsGivenUp, IsTried, LinkBatch, LinkLearns, MakesTries, NextTry, ReconnectBatch, ReconnectState, SentBatch, VainTry}
 use Rattle.oram_client.specs.AnswerLengths.{longest_answer}
-use Rattle.oram_client.specs.StreamBatches.{AreReceived, Carries, Connection, IsClosed, StreamBatch, Streams, cut_short}
+use Rattle.oram_client.specs.StreamBatches.{AreReceived, AreSent, Carries, Connection, Due, IsClosed, SendsUntil, StreamBatch, Streams, cut_short}
 
 -- if the messages of two lists of exchanges are among these bodies, so are those of both lists together
 pub among_both : (bodies : List (List ℕ)) (first second : List Exchange) → AreAmong (bodies_of first) bodies → AreAmong (bodies_of second) bodies
@@ -42,6 +44,21 @@ batch_among bodies (Ok answers) exchanges h =
     (among_both bodies h.1 (answered bodies answers) h.2 (answered_among bodies bodies answers (λ x k. k)))
 batch_among bodies (Err fault) exchanges h = h
 
+-- All was written, and nothing is left of it.
+
+pub sends_all : {W : Type 0} (contents : W → Option (List ℕ)) (writer writer' : W) (bodies : List (List ℕ)) → AreSent contents writer bodies writer' → SendsUntil contents writer bodies writer' []
+sends_all contents writer writer' bodies sent = record { fit = sent.fit; wrote = (flat_map frame bodies, sent.wrote, append-nil (flat_map frame bodies)) }
+
+sent_all : {W : Type 0} (contents : W → Option (List ℕ)) (writer writer' : W) (bodies : List (List ℕ)) → SendsUntil contents writer bodies writer' [] → AreSent contents writer bodies writer'
+sent_all contents writer writer' bodies sends =
+    let all : sends.wrote.0 ≡ flat_map frame bodies = sym (append-nil sends.wrote.0) ∙ sends.wrote.2 in
+    record { fit = sends.fit; wrote = subst (Appends (contents writer) (contents writer')) all sends.wrote.1 }
+
+-- once no answer is to come, the connection takes another batch
+all_over : (closed : Bool) (due : Due) → due.left ≡ 0 → MatchBool closed (0 < due.left) ((due.left ≡ 0) × (due.unsent ≡ [])) → (closed ≡ false) × (due.unsent ≡ [])
+all_over true due none more = absurd (omega (arith, none, more))
+all_over false due none over = (refl, over.1)
+
 -- a fault, and exchanges with these messages
 faulty : (bodies : List (List ℕ)) (o : BatchOutcome) (fault : LinkFault) (exchanges heard : List Exchange) → o ≡ Err fault → exchanges ≡ heard
     → AreAmong (bodies_of heard) bodies → IsBatch bodies o exchanges
@@ -61,18 +78,19 @@ module _ {R W : Type 0} (remaining : R → Option (List ℕ)) (contents : W → 
       → StreamBatch remaining contents l bodies o exchanges m → IsBatch bodies o exchanges
   streams_are_batches l m bodies o exchanges h = carried l.closed l m bodies o exchanges h.carried
 
-  -- Once all answers were read one by one, the whole was a batch with these answers.
+  -- Once all answers were read one by one, the whole was a batch with these answers: nothing is left to be written.
   pub streams_end : EndsAsBatch (StreamBatch remaining contents) (Streams remaining contents)
   streams_end l m bodies answers h count =
       let all : take (length answers) bodies ≡ bodies = take_all (length answers) bodies (subst (λ (n : ℕ). n ≤ length answers) count (le_refl (length answers))) in
-      let received = subst (λ (bs : List (List ℕ)). AreReceived (longest_answer l.disk) (remaining l.reader) (remaining m.reader) bs answers) all h.received in (
+      let received = subst (λ (bs : List (List ℕ)). AreReceived (longest_answer l.disk) (remaining l.reader) (remaining m.reader) bs answers) all h.received in
+      let over = all_over m.closed m.due (omega (arith, h.count, count)) h.awaits in (
         answered bodies answers,
         record {
-          closed = h.is_open ∙ sym (ap (λ (b : Bool). b || false) h.was_open);
+          closed = over.0 ∙ sym (ap (λ (b : Bool). b || false) h.was_open);
           disk = h.disk;
           carried = subst (λ (b : Bool). MatchBool b (IsClosed l (Ok answers) (answered bodies answers) m)
               (Carries remaining contents (longest_answer l.disk) l.reader l.writer bodies (Ok answers) (answered bodies answers) m.reader m.writer))
-              (sym h.was_open) (record { sent = h.sent; received = received }, refl);
+              (sym h.was_open) (record { sent = sent_all contents l.writer m.writer bodies (subst (λ (u : List ℕ). SendsUntil contents l.writer bodies m.writer u) over.1 h.sends); received = received }, refl);
         },
       )
 

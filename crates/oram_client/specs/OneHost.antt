@@ -184,7 +184,7 @@ fresh = record { dialer = 0; line = None; reconnect_timeout = 1000; trouble = No
 
 -- the second connection, after it has carried the batch
 abbrev pub emptied : Bytes
-emptied = record { reader = []; writer = frame (store_body 0 0 ones) ++ frame (fetch_body 0 0); disk = this_disk; closed = false }
+emptied = record { reader = []; writer = frame (store_body 0 0 ones) ++ frame (fetch_body 0 0); disk = this_disk; closed = false; due = record { unsent = []; left = 0 } }
 
 abbrev pub done_link : ReconnectState ℕ Bytes
 done_link = record { dialer = 2; line = Some emptied; reconnect_timeout = 1000; trouble = None; awaited = None }

@@ -1,5 +1,5 @@
 -- The host of a dialer that puts stamps between the messages of its batches.
-use Rattle.std.specs.Prelude.{◌≡◌, ◌⊎◌, ℕ, false, List, [], ◌∷◌, ◌++◌, Ok, Err, Option, Some, replicate}
+use Rattle.std.specs.Prelude.{true, ◌≡◌, ◌⊎◌, ℕ, false, List, [], ◌∷◌, ◌++◌, Ok, Err, Option, Some, replicate}
 use Rattle.std.specs.List.{AllByRecursion, flat_map}
 use Rattle.oram_geometry.specs.declared.Sizes.{Sizes}
 use Rattle.oram_geometry.specs.Sizes.{IsDevice}
@@ -67,7 +67,11 @@ abbrev pub stamped_line : Connection (List ℕ) (List ℕ)
 stamped_line = connection stamped_answers [] this_disk
 
 abbrev pub stamped_way : Connection (List ℕ) (List ℕ)
-stamped_way = record { reader = []; writer = flat_map frame stamped_messages; disk = this_disk; closed = false }
+stamped_way = record { reader = []; writer = flat_map frame stamped_messages; disk = this_disk; closed = false; due = record { unsent = []; left = 0 } }
+
+-- the connection whose first answer alone was read, while two more are to come
+abbrev pub stopped_way : Connection (List ℕ) (List ℕ)
+stopped_way = record stamped_way { closed = true; due = record { unsent = []; left = 2 } }
 
 -- the dialer knows then that the host has put the second stamp at both places
 abbrev pub answered_dialer : Destination
@@ -89,5 +93,5 @@ abbrev pub StampedBatchExample : Type 0
 StampedBatchExample = AllByRecursion (IsAboutAnother STAMP_TREE) (fetch_body 0 0 ∷ []) × AgreeBeside STAMP_TREE (stamped_host first_stamp first_stamp) no_stamps
     × IsBetween known known stamped_dialer stamped_line (fetch_body 0 0 ∷ []) (Ok (payload_answer one_path ∷ [])) fetched_alone answered_dialer stamped_way
     × LeadsToHost (stamped_host first_stamp first_stamp) stamped_messages stamped_answers (stamped_host second_stamp second_stamp)
-    × IsStopped known known stamped_dialer full_line (fetch_body 0 0 ∷ []) (Err NoRoom) fetched_in_vain asking_dialer stamped_way
+    × IsStopped known known stamped_dialer full_line (fetch_body 0 0 ∷ []) (Err NoRoom) fetched_in_vain asking_dialer stopped_way
     × LeadsToHost (stamped_host first_stamp first_stamp) stamped_messages (frame no_room_answer) (stamped_host first_stamp first_stamp)

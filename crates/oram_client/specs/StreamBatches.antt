@@ -1,5 +1,5 @@
 -- A connection over a reader and a writer that carries several messages at once.
-use Rattle.std.specs.Prelude.{◌≡◌, ◌⊎◌, ℕ, ◌<◌, ◌≤◌, Bool, false, ◌||◌, ⊤, List, [], ◌∷◌, ◌++◌, length, take, Option, Ok, Err, is_err, MatchBool}
+use Rattle.std.specs.Prelude.{◌≡◌, ◌⊎◌, ℕ, ◌+◌, ◌<◌, ◌≤◌, Bool, false, ◌||◌, ⊤, List, [], ◌∷◌, ◌++◌, length, take, Option, Ok, Err, is_err, MatchBool}
 use Rattle.std.specs.Io.KnownBytes.{Appends, Consumes, Keeps}
 use Rattle.std.specs.List.{All, flat_map}
 use Rattle.oram_wire.specs.FrameStream.{IsBody, frame}
@@ -13,16 +13,22 @@ use Rattle.oram_link_laws.specs.Runs.{Exchange}
 use Rattle.oram_client.specs.AnswerLengths.{DiskSizes, longest_answer}
 use Rattle.oram_rounds.specs.Batches.{BatchOutcome, answered}
 
+-- what is still to come of a batch whose answers are taken one by one
+pub record Due : Type 0 where
+  pub unsent : List ℕ  -- the bytes that weren't written yet
+  pub left : ℕ  -- how many answers are still to be read
+
 -- the connection
 pub record Connection (R W : Type 0) : Type 0 where
   pub reader : R
   pub writer : W
   pub disk : DiskSizes  -- the disk of the host, which says how long an answer may be
-  pub closed : Bool  -- whether a fault has closed it
+  pub closed : Bool  -- whether it takes no batch: a fault has closed it, or answers are to come one by one
+  pub due : Due
 
 -- a new connection
 abbrev pub connection : {R W : Type 0} → R → W → DiskSizes → Connection R W
-connection reader writer disk = record { reader = reader; writer = writer; disk = disk; closed = false }
+connection reader writer disk = record { reader = reader; writer = writer; disk = disk; closed = false; due = record { unsent = []; left = 0 } }
 
 -- The bytes read when an answer is due that has at most `longest` bytes, and the outcome that they give. Of a longer one only the length
 -- is read.
@@ -94,6 +100,15 @@ pub record AreSent {W : Type 0} (contents : W → Option (List ℕ)) (writer : W
   pub fit : All IsBody bodies
   pub wrote : Appends (contents writer) (contents writer') (flat_map frame bodies)
 
+-- A beginning of these bytes was written, and this is the rest of them.
+abbrev pub WritesOn : Option (List ℕ) → Option (List ℕ) → List ℕ → List ℕ → Type 0
+WritesOn old new bytes rest = (written : List ℕ) × Appends old new written × (written ++ rest ≡ bytes)
+
+-- Of the frames of the bodies, all were written but these last bytes.
+pub record SendsUntil {W : Type 0} (contents : W → Option (List ℕ)) (writer : W) (bodies : List (List ℕ)) (writer' : W) (unsent : List ℕ) : Type 0 where
+  pub fit : All IsBody bodies
+  pub wrote : WritesOn (contents writer) (contents writer') (flat_map frame bodies) unsent
+
 -- The messages of a batch were sent over an open connection, and nothing was read.
 pub record StreamAsk {R W : Type 0} (contents : W → Option (List ℕ)) (l : Connection R W) (bodies : List (List ℕ)) (m : Connection R W) : Type 0 where
   pub was_open : l.closed ≡ false
@@ -121,9 +136,10 @@ module _ {R W : Type 0} (remaining : R → Option (List ℕ)) (contents : W → 
     pub wrote : FailsToSendAll contents writer bodies fault writer'
     pub unread : Keeps (remaining reader) (remaining reader')
 
-  -- The bodies were sent, and not all answers were read.
+  -- The bodies were sent, or the frames of them but some last bytes, and not all answers were read.
   pub record AreCutShort (longest : List ℕ → ℕ) (reader : R) (writer : W) (bodies answers : List (List ℕ)) (fault : LinkFault) (reader' : R) (writer' : W) : Type 0 where
-    pub sent : AreSent contents writer bodies writer'
+    pub unsent : List ℕ
+    pub sends : SendsUntil contents writer bodies writer' unsent
     pub stops : StopsAfter longest (remaining reader) (remaining reader') bodies answers fault
 
   -- the messages, the outcome and the exchanges of a batch over an open connection
@@ -139,10 +155,12 @@ module _ {R W : Type 0} (remaining : R → Option (List ℕ)) (contents : W → 
     pub disk : m.disk ≡ l.disk
     pub carried : MatchBool l.closed (IsClosed l o exchanges m) (Carries (longest_answer l.disk) l.reader l.writer bodies o exchanges m.reader m.writer)
 
-  -- A batch was sent over an open connection, and these answers to the first of its messages were read.
+  -- A batch was begun over an open connection, and these answers to the first of its messages were read. While others are to come, the
+  -- connection takes no other batch. Once all are read, all is written.
   pub record Streams (l : Connection R W) (bodies answers : List (List ℕ)) (m : Connection R W) : Type 0 where
     pub was_open : l.closed ≡ false
-    pub is_open : m.closed ≡ false
     pub disk : m.disk ≡ l.disk
-    pub sent : AreSent contents l.writer bodies m.writer
+    pub sends : SendsUntil contents l.writer bodies m.writer m.due.unsent
+    pub count : m.due.left + length answers ≡ length bodies
+    pub awaits : MatchBool m.closed (0 < m.due.left) ((m.due.left ≡ 0) × (m.due.unsent ≡ []))
     pub received : AreReceived (longest_answer l.disk) (remaining l.reader) (remaining m.reader) (take (length answers) bodies) answers

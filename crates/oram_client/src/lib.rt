@@ -13,6 +13,7 @@ mod awaited;
 mod dialer;
 mod disk_head;
 mod disk_keys;
+mod due_batch;
 mod faults;
 mod identity;
 mod introduction;

@@ -9,9 +9,10 @@ ghost use Rattle.oram_link_laws.specs.Runs.{Exchange};
 ghost use Rattle.oram_rounds.specs.Batches.{batch_outcome_of, texts};
 ghost use Rattle.oram_client.specs.AnswerLengths.{longest_answer};
 ghost use Rattle.oram_pipeline.specs.Pipelines.{EndsBatch};
-ghost use Rattle.oram_client.specs.StreamBatches.{AreAdded, AreReceived, AreSent, AreUnframed, Carries, FailsToSendAll, ReceivesWithin, StopsAfter, StreamAsk, StreamBatch, Streams, connection};
+ghost use Rattle.oram_client.specs.StreamBatches.{AreAdded, AreReceived, AreSent, AreUnframed, Carries, FailsToSendAll, ReceivesWithin, SendsUntil, StopsAfter, StreamAsk, StreamBatch, Streams, connection};
 
 use crate::answer_lengths::AnswerLengths;
+use crate::due_batch::{DueBatch, hear_next, stays_closed, write_first};
 use oram_rounds::{BatchLink, LinkRecords};
 use oram_session::LinkFault;
 use oram_sockets::WriteDuplex;
@@ -27,12 +28,17 @@ use std::marker::Model;
 /// While a batch is written, the writer takes in what arrives ([`WriteDuplex`]), though no more than the batch's answers may have. So
 /// a host that writes the answer to one message before it reads the next never waits for a client that waits for it, whichever
 /// messages are long and whichever answers.
+///
+/// Of a batch whose answers are taken one by one, only what the other side takes at once is written when it is begun. Each answer that
+/// has to be waited for goes on with it. While answers are to come, each other batch fails with `Closed`.
 #[derive(Debug, Drop)]
 pub struct StreamBatches<R, W> {
     reader: R,
     writer: W,
     lengths: AnswerLengths,
+    /// Whether a fault has closed the connection, or answers are to come one by one.
     closed: bool,
+    due: DueBatch,
 }
 
 impl<R, W> Model for StreamBatches<R, W> {
@@ -40,13 +46,13 @@ impl<R, W> Model for StreamBatches<R, W> {
 
     ghost Value = { Connection R W };
 
-    ghost view = { λ l. record { reader = l.reader; writer = l.writer; disk = l.lengths; closed = l.closed } };
+    ghost view = { λ l. record { reader = l.reader; writer = l.writer; disk = l.lengths; closed = l.closed; due = l.due } };
 }
 
 impl<R, W> StreamBatches<R, W> {
     /// Makes a connection that sends messages to `writer` and receives answers from `reader`, none of them longer than `lengths`
     /// allows. Allocates nothing.
-    pub fn new(_alloc: Global, reader: R, writer: W, lengths: AnswerLengths) -> StreamBatches<R, W>
+    pub fn new(alloc: Global, reader: R, writer: W, lengths: AnswerLengths) -> StreamBatches<R, W>
         ensures { result ≡ connection reader writer lengths }
     {
         StreamBatches {
@@ -54,10 +60,11 @@ impl<R, W> StreamBatches<R, W> {
             writer,
             lengths,
             closed: false,
+            due: DueBatch::none(alloc),
         }
     }
 
-    /// Returns whether a fault has closed the connection.
+    /// Returns whether a fault has closed the connection, or answers are to come one by one.
     fn is_closed(&self) -> bool
         ensures { result ≡ self.now.closed }
     {
@@ -66,7 +73,7 @@ impl<R, W> StreamBatches<R, W> {
 }
 
 /// The length in bytes of the number before a frame's body.
-const HEAD_LEN: usize = 4;
+pub(crate) const HEAD_LEN: usize = 4;
 
 /// Returns how many bytes the frames of bodies take, or `usize::MAX` if they take more.
 fn frames_len(bodies: &[Vec<u8>]) -> usize {
@@ -153,7 +160,7 @@ fn send_all<W: Write>(alloc: Global, writer: &mut W, bodies: &[Vec<u8>]) -> Resu
 
 /// Writes some of the bytes, and returns how many: none if the other side takes none yet.
 #[tactic(auto, using(crate::proofs::TakenIn::kept_appends, crate::proofs::TakenIn::appends_kept))]
-fn write_some<R: Read, W: WriteDuplex<R>>(
+pub(crate) fn write_some<R: Read, W: WriteDuplex<R>>(
     reader: &mut R,
     writer: &mut W,
     bytes: &[u8],
@@ -206,6 +213,21 @@ fn answers_len(lengths: &AnswerLengths, bodies: &[Vec<u8>]) -> usize {
     len
 }
 
+/// Returns how many bytes the frames of the answers to the messages of all four lists have at most, or `usize::MAX` if they may have
+/// more.
+fn room_for(
+    lengths: &AnswerLengths,
+    before: &[Vec<u8>],
+    first: &[Vec<u8>],
+    between: &[Vec<u8>],
+    last: &[Vec<u8>],
+) -> usize {
+    answers_len(lengths, before)
+        .saturating_add(answers_len(lengths, first))
+        .saturating_add(answers_len(lengths, between))
+        .saturating_add(answers_len(lengths, last))
+}
+
 /// Sends the bodies of all four lists as frames, and takes in what arrives of their answers meanwhile.
 /// The frames are one piece, so they leave in as few packets as they fit into, and each is copied once.
 fn send_duplex<R: Read, W: WriteDuplex<R>>(
@@ -223,10 +245,7 @@ fn send_duplex<R: Read, W: WriteDuplex<R>>(
     ensures unread { Keeps (R.remaining reader.old) (R.remaining reader.new) }
 {
     let frames = framed(alloc, before, first, between, last)?;
-    let room = answers_len(lengths, before)
-        .saturating_add(answers_len(lengths, first))
-        .saturating_add(answers_len(lengths, between))
-        .saturating_add(answers_len(lengths, last));
+    let room = room_for(lengths, before, first, between, last);
     if let Err(WriteFault) = write_duplex(reader, writer, &frames, room) {
         return Err(LinkFault::Io);
     }
@@ -238,7 +257,11 @@ fn send_duplex<R: Read, W: WriteDuplex<R>>(
 
 /// Receives the next frame and returns its body. Of an answer longer than `longest` it reads only the length, and then it fails
 /// with `TooLong`.
-fn receive<R: Read>(alloc: Global, reader: &mut R, longest: usize) -> Result<Vec<u8>, LinkFault>
+pub(crate) fn receive<R: Read>(
+    alloc: Global,
+    reader: &mut R,
+    longest: usize,
+) -> Result<Vec<u8>, LinkFault>
     requires { longest ≤ LONGEST_BODY }
     ensures { ReceivesWithin longest (R.remaining reader.old) (R.remaining reader.new) (outcome_of result) }
 {
@@ -335,6 +358,48 @@ fn carry<R: Read, W: WriteDuplex<R>>(
     receive_all(alloc, reader, lengths, before, first, between, last)
 }
 
+/// Makes the frames of the bodies of all four lists, of which nothing is written yet.
+fn frames_due(
+    alloc: Global,
+    lengths: &AnswerLengths,
+    before: &[Vec<u8>],
+    first: &[Vec<u8>],
+    between: &[Vec<u8>],
+    last: &[Vec<u8>],
+) -> Result<DueBatch, LinkFault>
+    ensures fit { OnOk result (All IsBody ((texts before.now ++ texts first.now) ++ (texts between.now ++ texts last.now))) }
+    ensures ok { IfOk result (λ due. due ≡ record { unsent = flat_map frame ((texts before.now ++ texts first.now) ++ (texts between.now ++ texts last.now)); left = length ((texts before.now ++ texts first.now) ++ (texts between.now ++ texts last.now)) }) }
+    ensures err { IfErr result (λ fault. AreUnframed ((texts before.now ++ texts first.now) ++ (texts between.now ++ texts last.now)) fault) }
+{
+    let frames = framed(alloc, before, first, between, last)?;
+    let room = room_for(lengths, before, first, between, last);
+    let count = before.len() + first.len() + between.len() + last.len();
+    Ok(DueBatch::new(frames, count, room))
+}
+
+/// Begins to send the bodies of all four lists as frames: writes what the other side takes at once.
+fn send_first<R: Read, W: WriteDuplex<R>>(
+    alloc: Global,
+    reader: &mut R,
+    writer: &mut W,
+    lengths: &AnswerLengths,
+    before: &[Vec<u8>],
+    first: &[Vec<u8>],
+    between: &[Vec<u8>],
+    last: &[Vec<u8>],
+) -> Result<DueBatch, LinkFault>
+    ensures ok { IfOk result (λ due. SendsUntil W.contents writer.old ((texts before.now ++ texts first.now) ++ (texts between.now ++ texts last.now)) writer.new due.unsent) }
+    ensures count { IfOk result (λ due. due.left ≡ length ((texts before.now ++ texts first.now) ++ (texts between.now ++ texts last.now))) }
+    ensures err { IfErr result (λ fault. FailsToSendAll W.contents writer.old ((texts before.now ++ texts first.now) ++ (texts between.now ++ texts last.now)) fault writer.new) }
+    ensures unread { Keeps (R.remaining reader.old) (R.remaining reader.new) }
+{
+    let mut due = frames_due(alloc, lengths, before, first, between, last)?;
+    if write_first(reader, writer, &mut due).is_err() {
+        return Err(LinkFault::Io);
+    }
+    Ok(due)
+}
+
 impl<R: Read, W: WriteDuplex<R>> StreamBatches<R, W> {
     /// Sends a batch as [`BatchLink::call_all`] does: the bodies of all four lists, in this order.
     pub fn call_between(
@@ -365,8 +430,9 @@ impl<R: Read, W: WriteDuplex<R>> StreamBatches<R, W> {
         outcome
     }
 
-    /// Sends a batch as [`call_between`](StreamBatches::call_between) does, and gives no answers:
-    /// [`next_answer`](BatchLink::next_answer) reads them, one at a time. If it fails, that is the outcome of the batch.
+    /// Begins to send a batch that [`call_between`](StreamBatches::call_between) would send: it writes what the other side takes at once.
+    /// [`next_answer`](BatchLink::next_answer) goes on with that, and reads the answers, one at a time. If it fails, that is the outcome of the
+    /// batch.
     pub fn begin_between(
         &mut self,
         alloc: Global,
@@ -383,7 +449,7 @@ impl<R: Read, W: WriteDuplex<R>> StreamBatches<R, W> {
         if self.is_closed() {
             return Err(LinkFault::Closed);
         }
-        let begun = send_duplex(
+        let begun = send_first(
             alloc,
             &mut self.reader,
             &mut self.writer,
@@ -393,8 +459,17 @@ impl<R: Read, W: WriteDuplex<R>> StreamBatches<R, W> {
             between,
             last,
         );
-        self.closed = begun.is_err();
-        begun
+        match begun {
+            Ok(due) => {
+                self.closed = due.is_due();
+                self.due = due;
+                Ok(())
+            }
+            Err(fault) => {
+                self.closed = true;
+                Err(fault)
+            }
+        }
     }
 }
 
@@ -464,13 +539,21 @@ impl<R: Read, W: WriteDuplex<R>> BatchLink for StreamBatches<R, W> {
         self.begin_between(alloc, &[], first, &[], last).is_ok()
     }
 
-    /// Reads the next frame. A fault closes the connection.
+    /// Reads the next frame, and goes on writing the batch as long as it isn't there. A fault closes the connection. Once the last answer
+    /// is read, all is written, and the connection takes another batch.
     fn next_answer(&mut self, alloc: Global, body: &[u8]) -> Result<Vec<u8>, LinkFault> {
-        if self.is_closed() {
+        if !self.due.is_due() {
             return Err(LinkFault::Closed);
         }
-        let answer = receive(alloc, &mut self.reader, self.lengths.longest(body));
-        self.closed = answer.is_err();
+        let longest = self.lengths.longest(body);
+        let answer = hear_next(
+            alloc,
+            &mut self.reader,
+            &mut self.writer,
+            &mut self.due,
+            longest,
+        );
+        self.closed = stays_closed(&answer, &self.due);
         answer
     }
 

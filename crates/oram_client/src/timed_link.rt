@@ -76,6 +76,10 @@ impl<S: Write, C: Clock> Write for Timed<S, C> {
 }
 
 impl<S: Read + WriteDuplex<S>, C: Clock> WriteDuplex<Timed<S, C>> for Timed<S, C> {
+    fn arrived<'r>(&self, reader: &'r Timed<S, C>) -> &'r [u8] {
+        self.stream.arrived(&reader.stream)
+    }
+
     fn write_duplex(
         &mut self,
         reader: &mut Timed<S, C>,

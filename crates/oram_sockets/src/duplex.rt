@@ -24,6 +24,10 @@ const MOST_AT_ONCE: usize = 1 << 16;
 
 /// A writer for which the other side never has to wait to write: while it waits to write, it takes in what arrives at a reader.
 pub trait WriteDuplex<R: Read>: Write {
+    /// Returns bytes that were taken in for `reader` and weren't read yet, in their order. More may have arrived than these. They only
+    /// decide whether it is worth while to go on writing before the next read.
+    fn arrived<'r>(&self, reader: &'r R) -> &'r [u8];
+
     /// Writes some of the bytes, and returns how many. If none can be written now, takes in what has arrived for `reader`, or waits
     /// until one of these can be done, and returns `None`: then call it again. It takes in no more once `room` bytes are there that
     /// weren't read yet.
@@ -209,6 +213,10 @@ impl<R: Net + Clock, S: Read + Write + OpenStream + AsRawFd> Duplex<R, S> {
 
 impl<R: Net + Clock, S: Read + Write + OpenStream + AsRawFd> WriteDuplex<Duplex<R, S>>
     for Duplex<R, S> {
+    fn arrived<'r>(&self, reader: &'r Duplex<R, S>) -> &'r [u8] {
+        &reader.arrived[reader.taken..]
+    }
+
     fn write_duplex(
         &mut self,
         reader: &mut Duplex<R, S>,

@@ -73,7 +73,17 @@ impl FarEnd {
         self.answered
     }
 
-    /// Returns whether the host failed because memory ran out.
+    /// Returns how many bytes were sent to the host.
+    pub fn sent(&self) -> usize {
+        self.sent.len()
+    }
+
+    /// Notes that memory ran out at this end.
+    pub fn run_out(&mut self) {
+        self.lacks_memory = true;
+    }
+
+    /// Returns whether memory ran out at either end.
     pub fn lacks_memory(&self) -> bool {
         self.lacks_memory
     }
@@ -186,6 +196,10 @@ impl<'a> Write for Messages<'a> {
 
 /// It never has to wait.
 impl<'a, R: Read> WriteDuplex<R> for Messages<'a> {
+    fn arrived<'r>(&self, _reader: &'r R) -> &'r [u8] {
+        &[]
+    }
+
     fn write_duplex(
         &mut self,
         _reader: &mut R,

@@ -1,6 +1,6 @@
 //! A link that tries until its host answers.
 
-use crate::{batches, stamped_links};
+use crate::{batches, slow_line, stamped_links};
 use oram_client::{Dial, HostWatch, Limits, Progress, ReconnectLink, Sending, Trouble};
 use oram_host::HostRefusal;
 use oram_pipeline::PipelinedLink;
@@ -470,6 +470,7 @@ pub fn answer(
         "talks" => batches::talks(alloc, words, page),
         "asks" => batches::asks(alloc, words, page),
         "begins" => batches::begins(alloc, words, page),
+        "slowly" => slow_line::slowly(alloc, words, page),
         "stamped" => stamped_links::stamped(alloc, words, page),
         "refused" => batches::refused(alloc, words, page),
         "long" => batches::long(alloc, words, page),

@@ -11,6 +11,7 @@ mod heads;
 mod introductions;
 mod keepers;
 mod links;
+mod slow_line;
 mod stamped_links;
 mod stamps;
 mod stopping_disk;

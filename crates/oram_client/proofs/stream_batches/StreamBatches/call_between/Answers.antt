@@ -7,8 +7,8 @@ use Rattle.oram_client.proofs.stream_batches.StreamBatches.call_between.Goals as
 
 pub returns : goal.returns
 returns g c =
-    let l : Connection g.row.R.Denot g.row.W.Denot = record { reader = c.self.inside.reader; writer = c.self.inside.writer; disk = c.self.inside.lengths; closed = c.self.inside.closed } in
-    let m : Connection g.row.R.Denot g.row.W.Denot = record { reader = c.carry-outcome.new.reader; writer = c.carry-outcome.new.writer; disk = c.self.inside.lengths; closed = c.is_err-self-inside.result } in
+    let l : Connection g.row.R.Denot g.row.W.Denot = record { reader = c.self.inside.reader; writer = c.self.inside.writer; disk = c.self.inside.lengths; closed = c.self.inside.closed; due = c.self.inside.due } in
+    let m : Connection g.row.R.Denot g.row.W.Denot = record { reader = c.carry-outcome.new.reader; writer = c.carry-outcome.new.writer; disk = c.self.inside.lengths; closed = c.is_err-self-inside.result; due = c.self.inside.due } in
     let same : l ≡ c.args.self.now = c.self.view_is in
     let bodies = (texts c.args.before.now ++ texts c.args.first.now) ++ (texts c.args.between.now ++ texts c.args.last.now) in
     let o = batch_outcome_of c.carry-outcome.result in

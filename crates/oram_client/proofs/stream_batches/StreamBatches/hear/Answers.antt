@@ -7,8 +7,8 @@ use Rattle.oram_client.proofs.stream_batches.StreamBatches.hear.Goals as goal
 
 pub returns-clause-ends : goal.returns-clause-ends
 returns-clause-ends g c =
-    let k : Connection g.row.R.Denot g.row.W.Denot = record { reader = c.self.inside.reader; writer = c.self.inside.writer; disk = c.self.inside.lengths; closed = c.self.inside.closed } in
-    let m : Connection g.row.R.Denot g.row.W.Denot = record { reader = c.receive_all-heard.new.reader; writer = c.self.inside.writer; disk = c.self.inside.lengths; closed = c.is_err-self-inside.result } in
+    let k : Connection g.row.R.Denot g.row.W.Denot = record { reader = c.self.inside.reader; writer = c.self.inside.writer; disk = c.self.inside.lengths; closed = c.self.inside.closed; due = c.self.inside.due } in
+    let m : Connection g.row.R.Denot g.row.W.Denot = record { reader = c.receive_all-heard.new.reader; writer = c.self.inside.writer; disk = c.self.inside.lengths; closed = c.is_err-self-inside.result; due = c.self.inside.due } in
     let same : k ≡ c.args.self.now = c.self.view_is in
     let bodies = texts c.args.bodies.now in
     subst (λ (x : Connection g.row.R.Denot g.row.W.Denot).
