@@ -48,7 +48,7 @@ impl DueBatch {
         }
     }
 
-    /// Makes a batch of which nothing was written yet. `left` answers are to come, and their frames have at most `room` bytes.
+    /// Makes a batch, and writes nothing yet. `left` answers are to come, and their frames have at most `room` bytes.
     pub(crate) fn new(frames: Vec<u8>, left: usize, room: usize) -> DueBatch
         ensures { result ≡ record { unsent = frames.items; left = left } }
     {

@@ -358,7 +358,7 @@ fn carry<R: Read, W: WriteDuplex<R>>(
     receive_all(alloc, reader, lengths, before, first, between, last)
 }
 
-/// Makes the frames of the bodies of all four lists, of which nothing is written yet.
+/// Encodes the bodies of all four lists as frames, in this order. Writes nothing yet.
 fn frames_due(
     alloc: Global,
     lengths: &AnswerLengths,
